@@ -1,0 +1,33 @@
+-- What holds of the definitions, as the contracts of this crate's functions state it.
+use Rattle.std.specs.Prelude.{◌≡◌, ℕ, ◌^◌, ◌<◌, ◌≤◌, ◌↔◌, List, ◌++◌, length, Some}
+use Rattle.x690.specs.Length.{IsLength, length_octets}
+use Rattle.x690.specs.Tree.{Tree, Primitive, element, HasTags, AreOctets, HasOctets}
+use Rattle.x690.specs.Reading.{octets_of, children_of}
+use Rattle.x690.specs.Spelling.{Spells, SpellsDefinitely, enc}
+use Rattle.x690.specs.declared.Tag.{Tag}
+
+-- No spelling begins another, so octets spell at most one tree.
+abbrev pub OneTree : Type 0
+OneTree =
+    (a b x y : List ℕ) (t u : Tree) → Spells a t → Spells b u → a ++ x ≡ b ++ y → (a ≡ b) × (t ≡ u)
+
+-- The spelling that is sent is one, where its lengths fit four octets.
+abbrev pub EncSpells : Type 0
+EncSpells = (t : Tree) → HasTags t → length (enc t) < 2 ^ 32 → Spells (enc t) t
+
+-- The spelling that is sent is made of octets.
+abbrev pub EncIsOctets : Type 0
+EncIsOctets = (t : Tree) → HasOctets t → AreOctets (enc t)
+
+-- No length octets are fewer than those that are sent.
+abbrev pub FewestLengthOctets : Type 0
+FewestLengthOctets = (size : List ℕ) (n : ℕ) → AreOctets size → IsLength size n → length (length_octets n) ≤ length size
+
+-- No spelling with definite lengths has fewer octets than the one that is sent.
+abbrev pub FewestOctets : Type 0
+FewestOctets = (octets : List ℕ) (t : Tree) → AreOctets octets → SpellsDefinitely octets t → length (enc t) ≤ length octets
+
+-- An element reads under a tag as its contents, exactly where it has that tag.
+pub record OneReading : Type 0 where
+  pub octets : (tag : Tag) (t : Tree) (contents : List ℕ) → (octets_of tag t ≡ Some contents) ↔ (t ≡ Primitive tag contents)
+  pub children : (tag : Tag) (t : Tree) (elements : List Tree) → (children_of tag t ≡ Some elements) ↔ (t ≡ element tag elements)
