@@ -1,13 +1,25 @@
-// A library with one function.
+//! Digits, identities, addresses and transaction ids, each kept in place: none of this takes memory.
+//!
+//! Contracts see each of these as a list of numbers: digits as numbers from 0 to 9, and ids as octets. A `Register` is
+//! seen as the record of its fields.
 #![tactic(auto)]
 
-ghost use Rattle.std.specs.Prelude.{◌≡◌};
-ghost use Rattle.hlr_types.specs.Echo.{echo_of};
+mod address;
+mod digits;
+mod ids;
+mod imsi;
+mod peer;
+mod register;
+mod short_list;
+mod tbcd;
+#[cfg(test)]
+mod tests;
 
-// The `ensures` clause is the contract: what `echo` returns is `echo_of` of its argument, a definition
-// in `specs/Echo.antt`, which a caller's clause can cite too.
-pub fn echo(x: usize) -> usize
-    ensures { result ≡ echo_of x }
-{
-    x
-}
+pub use address::{INTERNATIONAL_E164, IsdnAddress, law_address_forms};
+pub use digits::{Digits, law_text_forms};
+pub use ids::{RemoteId, Tid, law_id_numbers};
+pub use imsi::{Imsi, law_imsi_forms};
+pub use peer::Peer;
+pub use register::{Lmsi, Register};
+pub use short_list::ShortList;
+pub use tbcd::{Tbcd, TbcdFault, law_two_forms, tbcd_read, tbcd_write};

@@ -1,0 +1,6 @@
+pub mod TbcdLemmas
+pub mod TbcdLaws
+pub mod IdentityLaws
+pub mod TextLemmas
+pub mod IdLemmas
+pub mod OrderLemmas

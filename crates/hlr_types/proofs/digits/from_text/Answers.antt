@@ -1,0 +1,16 @@
+use Rattle.std.proofs.Common.{◌≡◌, ◌<◌, ◌≤◌, true, length, arith, rules}
+use Rattle.std.specs.List.{list_all}
+use Rattle.std.proofs.lemmas.Grind.{common_steps}
+use Rattle.std.proofs.lemmas.List.{take_all}
+use Rattle.hlr_types.specs.DigitTexts.{is_digit}
+use Rattle.hlr_types.proofs.TextLemmas.{are_some_digits}
+use Rattle.hlr_types.proofs.digits.from_text.Goals as goal
+
+pub invariant_of-result : goal.invariant_of-result
+invariant_of-result c =
+    let text = c.args.text.now in
+    let whole = take_all c.loop-octet.octet-index text c.loop-octet-test.false in
+    let some : 0 < length text = grind (arith, common_steps) in
+    let most : length text ≤ 16 = omega arith in
+    let each : list_all is_digit text ≡ true = search rules in
+    rw (c.loop-octet.invariant, whole) (are_some_digits text some most each)

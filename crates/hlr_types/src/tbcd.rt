@@ -1,0 +1,127 @@
+//! Telephony binary coded decimal (TS 29.002 17.7.8, TBCD-STRING): two digits to an octet, the first in the low half;
+//! 1111 in the last high half fills up an odd count.
+
+ghost use Rattle.std.specs.Prelude.{◌≡◌, ◌<◌, ◌≤◌, ◌*◌, ℕ, List, [], ◌∷◌, ◌++◌, length, IfOk, Ok, Err};
+ghost use Rattle.std.specs.List.{AllByRecursion};
+ghost use Rattle.hlr_types.specs.Digits.{AreSomeDigits};
+ghost use Rattle.hlr_types.specs.Tbcd.{IsTbcd, tbcd, digits_of, halves, unfilled, are_digits, AreTwoForms, AreInverse};
+
+use crate::digits::Digits;
+use crate::short_list::ShortList;
+use thiserror::Error;
+
+/// Why octets are no digits, or digits no IMSI. Where both faults are there, it is the count.
+#[derive(Clone, Copy, PartialEq, Eq, Debug, Drop, Error)]
+pub enum TbcdFault {
+    /// Too few or too many octets or digits.
+    #[error("too few or too many digits")]
+    BadCount,
+    /// A half octet is neither a digit from 0 to 9 nor the filler at the end.
+    #[error("a half octet is no digit from 0 to 9")]
+    BadDigit,
+}
+
+/// The TBCD form of digits: 1 to 8 octets.
+pub type Tbcd = ShortList<8>;
+
+/// The digits of 1 to 8 octets of TBCD. No octet, or more than 8, is `BadCount`; then a half octet that is no digit,
+/// other than the filler F in the high half of the last octet, is `BadDigit`.
+///
+/// Limitation: the further digit codes (`*`, `#`, a, b, c) are no digits here.
+#[tactic(auto, using(crate::proofs::TbcdLaws::tbcd_laws))]
+pub fn tbcd_read(octets: &[u8]) -> Result<Digits, TbcdFault>
+    // What is read has the form, and what has the form is read.
+    ensures found { IfOk result (λ digits. IsTbcd octets.now digits) }
+    ensures only { (digits : List ℕ) → IsTbcd octets.now digits → result ≡ Ok digits }
+
+    // Which fault it is.
+    ensures exact { result ≡ digits_of octets.now }
+{
+    digits_of(octets)
+}
+
+/// The TBCD form of digits, which is the only one.
+#[tactic(auto, using(crate::proofs::TbcdLaws::tbcd_laws))]
+pub fn tbcd_write(digits: &Digits) -> Tbcd
+    ensures value { result ≡ tbcd digits.now }
+    ensures form { IsTbcd result digits.now }
+    ensures again { digits_of result ≡ Ok digits.now }
+{
+    octets_of(digits.as_slice())
+}
+
+/// Law: digits and octets are one text's two forms, and reading and writing go from each to the other.
+#[tactic(auto, using(crate::proofs::TbcdLaws::two_forms))]
+pub fn law_two_forms()
+    ensures forms { AreTwoForms }
+    ensures inverse { AreInverse }
+{}
+
+#[tactic(auto, using(crate::proofs::TbcdLemmas::tbcd_steps))]
+fn digits_of(octets: &[u8]) -> Result<Digits, TbcdFault>
+    ensures { result ≡ digits_of octets.now }
+{
+    let Some((last, front)) = octets.split_last() else {
+        return Err(TbcdFault::BadCount);
+    };
+    if front.len() >= 8 {
+        return Err(TbcdFault::BadCount);
+    }
+    let digits = unfilled(front, *last);
+    if are_digits(digits.as_slice()) {
+        Ok(Digits { digits })
+    } else {
+        Err(TbcdFault::BadDigit)
+    }
+}
+
+/// The half octets of these octets, without a filler at the end.
+#[tactic(auto, using(crate::proofs::TbcdLemmas::tbcd_steps))]
+fn unfilled(front: &[u8], last: u8) -> ShortList<16>
+    requires { length front.now < 8 }
+    ensures value { result ≡ unfilled (front.now ++ last ∷ []) }
+    ensures some { 0 < length result }
+{
+    let mut found = halves(front);
+    found.push(last % 16);
+    if last / 16 != 15 {
+        found.push(last / 16);
+    }
+    found
+}
+
+fn halves(octets: &[u8]) -> ShortList<16>
+    requires { length octets.now ≤ 8 }
+    ensures value { result ≡ halves octets.now }
+    ensures len { length result ≡ 2 * length octets.now }
+{
+    let mut found = ShortList::new();
+    for octet in octets {
+        found.push(*octet % 16);
+        found.push(*octet / 16);
+    }
+    found
+}
+
+fn are_digits(numbers: &[u8]) -> bool
+    ensures { result ≡ are_digits numbers.now }
+{
+    numbers.iter().all(|number| *number < 10)
+}
+
+fn octets_of(digits: &[u8]) -> Tbcd
+    requires most { length digits.now ≤ 16 }
+    requires each { AllByRecursion (λ d. d < 10) digits.now }
+    ensures { result ≡ tbcd digits.now }
+{
+    let mut octets = ShortList::new();
+    let mut rest = digits;
+    while let [first, second, more @ ..] = rest {
+        octets.push(*first + 16 * *second);
+        rest = more;
+    }
+    if let [last] = rest {
+        octets.push(*last + 16 * 15);
+    }
+    octets
+}
