@@ -1,0 +1,55 @@
+-- An operator's change of one subscriber (profile; TS 29.002, insertSubscriberData and cancelLocation).
+use Rattle.std.specs.Prelude.{ℕ, List, [], Bool, true, false, cond, Option, Some, None}
+use Rattle.machine.specs.Received.{Register}
+use Rattle.machine.specs.Sent.{SubscriptionWithdraw, SubscriberDataMngt, SentBegin}
+use Rattle.machine.specs.Events.{Change, Codes, Withdraw}
+use Rattle.machine.specs.State.{Subscriber, Data, Dialogue, Local}
+use Rattle.machine.specs.Outcome.{Outcome, send, unchanged, inserts_invoked, inserts, cancel, cancel_begin}
+
+-- the dialogue that carries new codes to a register
+abbrev pub data_to : Local → Register → (codes : List ℕ) → Dialogue
+data_to here register codes = record {
+  subscriber = here.imsi;
+  transaction = record { peer = register.vlr; remote = None };
+  invocations = inserts_invoked here.clock codes;
+  kind = Data;
+}
+
+-- New codes: an update in progress is no longer current, and a register that is not purged is told.
+abbrev pub codes_to : Local → Subscriber → (codes : List ℕ) → (new : List ℕ) → Option Register → Outcome
+codes_to here s codes new None = record {
+  after = Some (record s { codes = codes; current = None });
+  stays = None;
+  opens = None;
+  sent = [];
+}
+codes_to here s codes new (Some register) = record {
+  after = Some (record s { codes = codes; current = None });
+  stays = None;
+  opens = cond s.purged None (Some (data_to here register codes));
+  sent = cond s.purged [] (send register.vlr (SentBegin new SubscriberDataMngt (inserts (Some here.imsi) s.msisdn codes)));
+}
+
+-- The end of a subscription: the record has no register any more, and the one that it had, purged or not, gets a cancel.
+abbrev pub withdraw_from : Local → Subscriber → (new : List ℕ) → Option Register → Outcome
+withdraw_from here s new None = record {
+  after = Some (record s { register = None; purged = false; current = None; withdrawn = true });
+  stays = None;
+  opens = None;
+  sent = [];
+}
+withdraw_from here s new (Some register) = record {
+  after = Some (record s { register = None; purged = false; current = None; withdrawn = true });
+  stays = None;
+  opens = Some (cancel here register.vlr 1 SubscriptionWithdraw);
+  sent = cancel_begin here register.vlr SubscriptionWithdraw new;
+}
+
+abbrev pub change_to : Local → Subscriber → Change → (new : List ℕ) → Outcome
+change_to here s (Codes codes) new = codes_to here s codes new s.register
+change_to here s Withdraw new = withdraw_from here s new s.register
+
+-- A change of an unknown or a withdrawn subscriber changes nothing.
+abbrev pub changes : Local → Change → Option Subscriber → (new : List ℕ) → Outcome
+changes here change None new = unchanged here []
+changes here change (Some s) new = cond s.withdrawn (unchanged here []) (change_to here s change new)

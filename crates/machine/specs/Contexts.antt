@@ -1,0 +1,69 @@
+-- The names of MAP's application contexts (TS 29.002). Each is the octets 04 00 00 01 00, one for the context and one for
+-- its version, which here is 3.
+use Rattle.std.specs.Prelude.{ℕ, List, [], ◌∷◌, ◌++◌, Bool, cond, ◌&&◌, ◌==◌, length, take, Option, Some, None, is_some, find}
+use Rattle.machine.specs.Keys.{same}
+use Rattle.machine.specs.Numbers.{update_location, send_routing_info_for_sm, purge_ms}
+use Rattle.machine.specs.Sent.{Context, NetworkLocUp, LocationCancellation, SubscriberDataMngt, ShortMsgGateway, MsPurging}
+
+abbrev pub octet_of : Context → ℕ
+octet_of NetworkLocUp = 0x01
+octet_of LocationCancellation = 0x02
+octet_of SubscriberDataMngt = 0x10
+octet_of ShortMsgGateway = 0x14
+octet_of MsPurging = 0x1B
+
+-- the name without its version
+abbrev pub family : Context → List ℕ
+family context = 4 ∷ 0 ∷ 0 ∷ 1 ∷ 0 ∷ octet_of context ∷ []
+
+abbrev pub name_of : Context → List ℕ
+name_of context = family context ++ 3 ∷ []
+
+-- The operation that a peer may invoke in a context. Where there is none, a peer may not begin in the context.
+abbrev pub operation_of : Context → Option ℕ
+operation_of NetworkLocUp = Some update_location
+operation_of LocationCancellation = None
+operation_of SubscriberDataMngt = None
+operation_of ShortMsgGateway = Some send_routing_info_for_sm
+operation_of MsPurging = Some purge_ms
+
+-- What a name is the name of: a context, another version of one in which a peer may begin, or neither.
+pub data Named : Type 0 where
+  Known : Context → Named
+  OtherVersion : Context → Named
+  Unknown : Named
+
+abbrev pub contexts : List Context
+contexts = NetworkLocUp ∷ LocationCancellation ∷ SubscriberDataMngt ∷ ShortMsgGateway ∷ MsPurging ∷ []
+
+abbrev pub is_version_of : List ℕ → Context → Bool
+is_version_of name context = (length name == 7) && same (take 6 name) (family context)
+
+abbrev pub other_version : Option Context → Named
+other_version None = Unknown
+other_version (Some context) = OtherVersion context
+
+abbrev pub known_or : Option Context → Named → Named
+known_or None named = named
+known_or (Some context) named = Known context
+
+unfoldable pub context_of : List ℕ → Named
+context_of name =
+    known_or (find (λ context. same name (name_of context)) contexts)
+    (other_version (find (λ context. is_some (operation_of context) && is_version_of name context) contexts))
+
+-- the context in which a peer may begin under this name
+abbrev pub accepted_as : Named → Option Context
+accepted_as (Known context) = cond (is_some (operation_of context)) (Some context) None
+accepted_as _ = None
+
+unfoldable pub accepted : List ℕ → Option Context
+accepted name = accepted_as (context_of name)
+
+-- The name in the AARE that refuses: of another version the one that is accepted here, otherwise the name that came.
+abbrev pub refused_as : List ℕ → Named → List ℕ
+refused_as name (OtherVersion context) = name_of context
+refused_as name _ = name
+
+unfoldable pub refused_name : List ℕ → List ℕ
+refused_name name = refused_as name (context_of name)

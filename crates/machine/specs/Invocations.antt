@@ -1,0 +1,68 @@
+-- The table of one own invocation (Q.774, operations of class 1), `None` being Idle.
+use Rattle.std.specs.Prelude.{ℕ, ◌+◌, Bool, true, false, cond, Option, Some, None}
+use Rattle.machine.specs.Numbers.{invocation_timer, reject_timer}
+use Rattle.machine.specs.Received.{Side, General, OfInvoke, OfResult, OfError}
+use Rattle.machine.specs.State.{Was, OperationSent, WaitForReject}
+
+pub data Happening : Type 0 where
+  Invoked : Happening
+  GetsResultLast : Happening
+  GetsResultNotLast : Happening
+  GetsError : Happening
+  GetsReject : Side → Happening
+  TimesOut : Happening
+  DialogueEnds : Happening
+
+-- What it answers: nothing, that the operation succeeded or failed, or a Reject of what came, with the problem
+-- unrecognizedInvokeID.
+pub data Reply : Type 0 where
+  NoReply : Reply
+  Succeeded : Reply
+  Failed : Reply
+  Rejected : Side → Reply
+
+-- the state of an invocation with its deadline
+abbrev pub Standing : Type 0
+Standing = Option (Was × ℕ)
+
+abbrev pub sent_at : ℕ → Standing
+sent_at now = Some (OperationSent, now + invocation_timer)
+
+abbrev pub waiting_at : ℕ → Standing
+waiting_at now = Some (WaitForReject, now + reject_timer)
+
+-- whether a Reject of this side is of the Invoke: its problem is general or of the Invoke
+abbrev pub ends_it : Side → Bool
+ends_it General = true
+ends_it OfInvoke = true
+ends_it OfResult = false
+ends_it OfError = false
+
+abbrev pub rejected_at : Side → ℕ → Standing × Reply
+rejected_at side deadline = cond (ends_it side) (None, Failed) (Some (OperationSent, deadline), NoReply)
+
+-- The table: the state before, what happens and the clock give the state after and the reply; `None` never happens.
+-- That a late result or error is rejected in Wait for Reject too is this project's profile, as is the end of a dialogue
+-- where nothing waits.
+abbrev pub invocation : Standing → Happening → ℕ → Option (Standing × Reply)
+invocation None Invoked now = Some (sent_at now, NoReply)
+invocation None GetsResultLast now = Some (None, Rejected OfResult)
+invocation None GetsResultNotLast now = Some (None, Rejected OfResult)
+invocation None GetsError now = Some (None, Rejected OfError)
+invocation None (GetsReject side) now = Some (None, NoReply)
+invocation None TimesOut now = None
+invocation None DialogueEnds now = Some (None, NoReply)
+invocation (Some (OperationSent, t)) Invoked now = None
+invocation (Some (OperationSent, t)) GetsResultLast now = Some (waiting_at now, Succeeded)
+invocation (Some (OperationSent, t)) GetsResultNotLast now = Some (Some (OperationSent, t), NoReply)
+invocation (Some (OperationSent, t)) GetsError now = Some (waiting_at now, Failed)
+invocation (Some (OperationSent, t)) (GetsReject side) now = Some (rejected_at side t)
+invocation (Some (OperationSent, t)) TimesOut now = Some (None, Failed)
+invocation (Some (OperationSent, t)) DialogueEnds now = Some (None, NoReply)
+invocation (Some (WaitForReject, t)) Invoked now = None
+invocation (Some (WaitForReject, t)) GetsResultLast now = Some (Some (WaitForReject, t), Rejected OfResult)
+invocation (Some (WaitForReject, t)) GetsResultNotLast now = Some (Some (WaitForReject, t), Rejected OfResult)
+invocation (Some (WaitForReject, t)) GetsError now = Some (Some (WaitForReject, t), Rejected OfError)
+invocation (Some (WaitForReject, t)) (GetsReject side) now = Some (Some (WaitForReject, t), NoReply)
+invocation (Some (WaitForReject, t)) TimesOut now = Some (None, NoReply)
+invocation (Some (WaitForReject, t)) DialogueEnds now = Some (None, NoReply)

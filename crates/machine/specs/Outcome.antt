@@ -1,0 +1,81 @@
+-- What a procedure on one subscriber leaves, and what its parts have in common.
+use Rattle.std.specs.Prelude.{ℕ, zero, suc, ℤ, pos, ◌+◌, ◌-◌, ◌*◌, ◌/◌, List, [], ◌∷◌, ◌++◌, map, take, drop, length, Bool, true, false, cond, Option, Some, None}
+use Rattle.machine.specs.Keys.{same}
+use Rattle.machine.specs.Numbers.{invocation_timer, codes_in_insert}
+use Rattle.machine.specs.Sent.{CancellationType, LocationCancellation, Rejection, SentComponent, Insert, Cancel, SentMessage, SentBegin, SentContinue, SentEnd, Out}
+use Rattle.machine.specs.State.{Subscriber, Transaction, OperationSent, Invocation, Cancels, Dialogue, Local}
+
+-- The record after, the dialogue that the event names as it stays (`None`: it is gone, or none is named), a dialogue that
+-- opens under the new id, and what is sent, in order. The new id is a procedure's only free choice.
+pub record Outcome : Type 0 where
+  pub after : Option Subscriber
+  pub stays : Option Dialogue
+  pub opens : Option Dialogue
+  pub sent : List Out
+
+abbrev pub send : List ℕ → SentMessage → List Out
+send to message = record { to = to; message = message } ∷ []
+
+-- nothing changes, and this is sent
+abbrev pub unchanged : Local → List Out → Outcome
+unchanged here sent = record { after = here.record_of; stays = None; opens = None; sent = sent }
+
+-- own invocations
+
+abbrev pub invoked : ℕ → ℤ → Invocation
+invoked now id = record { id = id; was = OperationSent; deadline = now + invocation_timer }
+
+-- 0 up to n - 1
+abbrev pub below : ℕ → List ℕ
+below zero = []
+below (suc k) = below k ++ k ∷ []
+
+-- how many inserts follow the first, which is always sent
+abbrev pub further : List ℕ → ℕ
+further codes = (length codes - 1) / codes_in_insert
+
+abbrev pub inserts_invoked : ℕ → List ℕ → List Invocation
+inserts_invoked now codes = invoked now (pos 1) ∷ map (λ k. invoked now (pos (k + 2))) (below (further codes))
+
+-- The subscriber data (TS 29.002, insertSubscriberData): the codes in their order, eight to an insert, and the MSISDN in
+-- the first. The IMSI goes along where no update names the subscriber.
+abbrev pub inserts : (imsi : Option (List ℕ)) → (msisdn codes : List ℕ) → List SentComponent
+inserts imsi msisdn codes =
+    Insert (pos 1) imsi (Some msisdn) (take codes_in_insert codes)
+    ∷ map (λ k. Insert (pos (k + 2)) imsi None (take codes_in_insert (drop (codes_in_insert * (k + 1)) codes))) (below (further codes))
+
+-- A cancel (TS 29.002, cancelLocation) to these VLR digits, and its Begin.
+abbrev pub cancel : Local → List ℕ → (attempt : ℕ) → CancellationType → Dialogue
+cancel here vlr attempt cause = record {
+  subscriber = here.imsi;
+  transaction = record { peer = vlr; remote = None };
+  invocations = invoked here.clock (pos 1) ∷ [];
+  kind = Cancels vlr attempt cause;
+}
+
+abbrev pub cancel_begin : Local → List ℕ → CancellationType → (new : List ℕ) → List Out
+cancel_begin here vlr cause new = send vlr (SentBegin new LocationCancellation (Cancel (pos 1) here.imsi cause ∷ []))
+
+-- what is sent in a dialogue
+
+-- an End, where the dialogue is Active
+abbrev pub ended : Transaction → (remote : Option (List ℕ)) → List Rejection → List SentComponent → List Out
+ended t None rejects components = []
+ended t (Some remote) rejects components = send t.peer (SentEnd remote None rejects components)
+
+-- a Continue, where there is a Reject to send
+abbrev pub continued : List ℕ → Transaction → (remote : Option (List ℕ)) → List Rejection → List Out
+continued id t remote [] = []
+continued id t None (r ∷ rs) = []
+continued id t (Some remote) (r ∷ rs) = send t.peer (SentContinue id remote None (r ∷ rs) [])
+
+-- the mark of the current update
+
+abbrev pub is_marked : (current : Option (List ℕ)) → List ℕ → Bool
+is_marked None id = false
+is_marked (Some current) id = same current id
+
+-- the record without the mark, where it is this dialogue's
+abbrev pub unmarked : List ℕ → Option Subscriber → Option Subscriber
+unmarked id None = None
+unmarked id (Some s) = Some (cond (is_marked s.current id) (record s { current = None }) s)

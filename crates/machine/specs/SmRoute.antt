@@ -1,0 +1,25 @@
+-- Where short messages for a subscriber go (TS 29.002, sendRoutingInfoForSM).
+use Rattle.std.specs.Prelude.{ℕ, List, Bool, cond, ◌||◌, ◌==◌, Option, Some, None}
+use Rattle.std.specs.List.{list_any}
+use Rattle.machine.specs.Numbers.{unknown_subscriber, absent_subscriber_sm, teleservice_not_provisioned, short_message_services, short_message_to_mobile}
+use Rattle.machine.specs.Received.{Register}
+use Rattle.machine.specs.State.{Subscriber}
+
+-- An error's code, or the route: the IMSI, the MSC number and the LMSI.
+pub data RouteAnswer : Type 0 where
+  NoRoute : (error : ℕ) → RouteAnswer
+  RouteTo : (imsi msc : List ℕ) → (lmsi : Option (List ℕ)) → RouteAnswer
+
+abbrev pub has_short_messages : List ℕ → Bool
+has_short_messages codes = list_any (λ code. (code == short_message_services) || (code == short_message_to_mobile)) codes
+
+abbrev pub route_by : List ℕ → (purged : Bool) → Option Register → RouteAnswer
+route_by imsi purged None = NoRoute absent_subscriber_sm
+route_by imsi purged (Some register) = cond purged (NoRoute absent_subscriber_sm) (RouteTo imsi register.msc register.lmsi)
+
+-- The SM route of one record or none. The errors come in this order.
+abbrev pub sm_route : List ℕ → Option Subscriber → RouteAnswer
+sm_route imsi None = NoRoute unknown_subscriber
+sm_route imsi (Some s) =
+    cond s.withdrawn (NoRoute unknown_subscriber)
+    (cond (has_short_messages s.codes) (route_by imsi s.purged s.register) (NoRoute teleservice_not_provisioned))

@@ -1,0 +1,261 @@
+//! The laws of the machine: what a reader may rely on, and what a proof of the code may cite. Each law is the contract of
+//! a public function that does nothing, and speaks of the definitions of the crate `machine` alone.
+#![tactic(auto)]
+
+pub mod examples;
+
+ghost use Rattle.std.specs.Prelude.{◌≡◌, ℕ, ℤ, Option, None, ◌<◌, ◌≤◌, List, [], ◌∷◌, ◌++◌, ◌&&◌, ◌||◌, true, false, length};
+ghost use Rattle.machine.specs.Received.{Abort, Component, ComponentOf, Continue, End, Read, Register, Response};
+ghost use Rattle.machine.specs.Isolation.{AgreeOf, MetFullShard, NoneTurnedAway, SameAfter, SameOf, is_of, is_turned_away, only_of, own};
+ghost use Rattle.machine.specs.Step.{Answer, HasNoRoom, IsNewId, Step, TurnedAway, outcome_in, taken};
+ghost use Rattle.machine.specs.Opening.{AreLoaded, opening};
+ghost use Rattle.machine.specs.Effect.{AreRising, Offer, any_failed, in_sent, invocations_after, open_at, reject_of, rejects_after, starts};
+ghost use Rattle.machine.specs.Chains.{Chain, Epoch, first_base, joined};
+ghost use Rattle.machine.specs.Tables.{CloseMoves, ContinueMoves, ExpiryMoves, OpeningMoves};
+ghost use Rattle.machine.specs.State.{Dialogue, Invocation, IsFull, State, Subscriber, Updates};
+ghost use Rattle.machine.specs.Legal.{Entry, Legal, answers_of, events_of};
+ghost use Rattle.machine.specs.Events.{Event, Expire, Frame};
+ghost use Rattle.machine.specs.Invocations.{Happening};
+ghost use Rattle.machine.specs.Turns.{IsDue, IsLeast, Turn, TurnsTo};
+ghost use Rattle.machine.specs.Keys.{IsIn, put_at, shard_of_id};
+ghost use Rattle.machine.specs.Holders.{IsNamed, began_from, began_in, holders, is_subject, serving};
+ghost use Rattle.machine.specs.Parts.{Leaves, part, union};
+ghost use Rattle.machine.specs.Merges.{Merges};
+ghost use Rattle.machine.specs.Rows.{MovesByRow, happening, standing_of};
+ghost use Rattle.machine.specs.Run.{Run};
+ghost use Rattle.machine.specs.Sound.{Sound};
+ghost use Rattle.machine.specs.Dialogues.{continues, ends};
+ghost use Rattle.machine.specs.Expiries.{expires};
+ghost use Rattle.machine.specs.Numbers.{most_dialogues, shards};
+ghost use Rattle.machine.specs.Routing.{route};
+
+// Sound states
+
+/// A step takes a sound state to a sound state.
+pub fn steps_keep_sound()
+    ensures { (S : State) (e : Event) (T : State) (a : Answer) → Sound S → Step S e T a → Sound T }
+{}
+
+/// The state with the loaded records, no dialogue and clocks at 0 is sound, and each shard begins with its part of it and an
+/// empty journal.
+pub fn openings_are_sound()
+    ensures whole { (records : List ℕ → Option Subscriber) (directory : List ℕ → Option (List ℕ)) (hlr : List ℕ)
+        → AreLoaded records → Sound (opening records directory hlr) }
+    ensures of_shard { (records : List ℕ → Option Subscriber) (directory : List ℕ → Option (List ℕ)) (hlr : List ℕ) (n : ℕ)
+        → AreLoaded records → n < shards
+        → Legal n (part (opening records directory hlr) n) [] (part (opening records directory hlr) n) }
+{}
+
+/// A state with no dialogue is sound where each record is one that may be loaded.
+pub fn fresh_states_are_sound()
+    ensures { (S : State) → ((i : List ℕ) → S.dialogues i ≡ None) → AreLoaded S.records → Sound S }
+{}
+
+/// A shard of whose open ids a table has each, and fewer than 4,096, is not full.
+pub fn tables_tell_full_shards()
+    ensures { (S : State) (n : ℕ) (table : List (List ℕ))
+        → ((i : List ℕ) → shard_of_id i ≡ n → (S.dialogues i ≡ None → ⊥) → IsIn i table)
+        → length table < most_dialogues → IsFull S n → ⊥ }
+{}
+
+// One step
+
+/// No event changes an open dialogue that it does not name.
+pub fn unnamed_dialogues_stay()
+    ensures { (S : State) (e : Event) (T : State) (a : Answer) (i : List ℕ) (d : Dialogue)
+        → Step S e T a → S.dialogues i ≡ Some d → (IsNamed S e i → ⊥) → T.dialogues i ≡ Some d }
+{}
+
+/// A dialogue that a step opens has the id that the step took, and that id named no open dialogue and is one of the
+/// event's shard.
+pub fn opened_dialogues_are_new()
+    ensures opened { (S : State) (e : Event) (T : State) (a : Answer) (i : List ℕ) (d : Dialogue)
+        → Step S e T a → S.dialogues i ≡ None → T.dialogues i ≡ Some d → a.id ≡ Some i }
+    ensures taken { (S : State) (e : Event) (T : State) (a : Answer) (i : List ℕ)
+        → Step S e T a → a.id ≡ Some i → IsNewId S (route S.directory e) i }
+{}
+
+/// The id that is taken is a step's only free choice.
+pub fn ids_are_the_only_choice()
+    ensures { (S : State) (e : Event) (T U : State) (a b : Answer)
+        → Step S e T a → Step S e U b → a.id ≡ b.id → (T ≡ U) × (a ≡ b) }
+{}
+
+/// An operator's change that would overflow its shard has no step.
+pub fn changes_without_room_have_no_step()
+    ensures { (S : State) (e : Event) (T : State) (a : Answer) → HasNoRoom S e → Step S e T a → ⊥ }
+{}
+
+/// An answer with a subject says that an update was turned away exactly where an update of this subject met a full shard;
+/// then nothing changed.
+pub fn turned_away_is_exact()
+    ensures told { (S : State) (e : Event) (T : State) (a : Answer) (x : List ℕ)
+        → Step S e T a → is_subject x a.subject && is_turned_away a.sent ≡ true → MetFullShard S e T a x }
+    ensures tells { (S : State) (e : Event) (turn : Turn) (new : List ℕ) (T : State) (a : Answer)
+        → TurnsTo S e turn → TurnedAway S (route S.directory e) turn (outcome_in S (route S.directory e) turn new) T a
+        → (x : List ℕ) × MetFullShard S e T a x × (is_turned_away a.sent ≡ true) }
+{}
+
+// The tables
+
+/// Every transaction and every invocation that a step changes moves by a row of its table, and what is sent for it is what
+/// the row says. The dialogues that an event does not name stay, by `unnamed_dialogues_stay`.
+pub fn steps_follow_the_tables()
+    // a Continue, whether it is for a dialogue or for none
+    ensures continues { (S : State) (from origin i : List ℕ) (portion : Option Response) (components : List Component) (T : State) (a : Answer)
+        → Step S (Frame from (Read (Continue origin i portion components))) T a → ContinueMoves S from origin i components T a }
+    // an End and an Abort
+    ensures ends { (S : State) (from i : List ℕ) (portion : Option Response) (components : List Component) (T : State) (a : Answer)
+        → Step S (Frame from (Read (End i portion components))) T a → CloseMoves S i T a }
+    ensures aborts { (S : State) (from i : List ℕ) (T : State) (a : Answer)
+        → Step S (Frame from (Read (Abort i))) T a → CloseMoves S i T a }
+    // the expiry of the least timer that is due
+    ensures expires { (S : State) (n : ℕ) (i : List ℕ) (d : Dialogue) (j : ℤ) (v : Invocation) (T : State) (a : Answer)
+        → Sound S → IsDue S n i d j v → IsLeast S n v.deadline i j → Step S (Expire n) T a → ExpiryMoves S n i d j T a }
+    // a dialogue that opens
+    ensures opens { (S : State) (e : Event) (T : State) (a : Answer) (i : List ℕ)
+        → Step S e T a → a.id ≡ Some i → OpeningMoves S (route S.directory e) i T a }
+{}
+
+/// A component moves the invocation with its id by a row of the invocation table, and is rejected as the row says; it moves
+/// no other.
+pub fn components_follow_the_table<P>()
+    ensures concerned { (now : ℕ) (offer : Offer) (vs : List Invocation) (c : ComponentOf P) (j : ℤ) (x : Happening)
+        → AreRising vs → happening j c ≡ Some x → MovesByRow now offer vs c j x }
+    ensures others { (now : ℕ) (vs : List Invocation) (c : ComponentOf P) (j : ℤ)
+        → happening j c ≡ None → standing_of j (invocations_after now (c ∷ []) vs) ≡ standing_of j vs }
+{}
+
+/// The effect of a list of components is that of its components one by one, each on the invocations as the ones before it
+/// leave them.
+pub fn components_come_one_by_one<P>()
+    ensures rejects { (offer : Offer) (vs : List Invocation) (cs : List (ComponentOf P)) (c : ComponentOf P)
+        → rejects_after offer vs [] (cs ++ c ∷ []) ≡ rejects_after offer vs [] cs ++ reject_of offer vs cs c }
+    ensures invocations { (now : ℕ) (cs : List (ComponentOf P)) (c : ComponentOf P) (vs : List Invocation)
+        → invocations_after now (cs ++ c ∷ []) vs ≡ invocations_after now (c ∷ []) (invocations_after now cs vs) }
+    ensures failed { (now : ℕ) (cs : List (ComponentOf P)) (c : ComponentOf P) (vs : List Invocation)
+        → any_failed (cs ++ c ∷ []) vs ≡ any_failed cs vs || any_failed (c ∷ []) (invocations_after now cs vs) }
+    ensures starts { (offer : Offer) (vs : List Invocation) (c : ComponentOf P) (cs : List (ComponentOf P))
+        → starts offer vs (c ∷ cs) ≡ starts offer vs (c ∷ []) }
+    ensures open { (now : ℕ) (vs : List Invocation) (cs : List (ComponentOf P)) (j : ℤ)
+        → AreRising vs → open_at vs cs j ≡ in_sent j (invocations_after now cs vs) }
+    ensures rising { (now : ℕ) (cs : List (ComponentOf P)) (vs : List Invocation)
+        → AreRising vs → AreRising (invocations_after now cs vs) }
+{}
+
+// Who holds a subscriber
+
+/// Along every run from a sound state, the register of an open update dialogue has the VLR digits with which its id began.
+pub fn updates_have_their_digits()
+    ensures { (base S : State) (entries : List Entry) (i : List ℕ) (d : Dialogue) (register : Register) (invoke : ℤ)
+        → Sound base → Run base (events_of entries) S (answers_of entries)
+        → S.dialogues i ≡ Some d → d.kind ≡ Updates register invoke
+        → began_from (began_in base) entries i ≡ Some register.vlr }
+{}
+
+/// Along every run from a sound state, exactly the serving register holds each subscriber.
+pub fn holders_are_registers()
+    ensures { (base S : State) (entries : List Entry) (x : List ℕ)
+        → Sound base → Run base (events_of entries) S (answers_of entries)
+        → holders base entries x ≡ serving (S.records x) }
+{}
+
+// Shards
+
+/// A step of a shard reads and changes the part of that shard alone.
+pub fn steps_stay_in_their_part()
+    ensures within { (S : State) (e : Event) (T : State) (a : Answer) → Sound S → Step S e T a
+        → Step (part S (route S.directory e)) e (part T (route S.directory e)) a × Leaves S T (route S.directory e) }
+    ensures of_whole { (S P : State) (e : Event) (a : Answer) (n : ℕ)
+        → Sound S → route S.directory e ≡ n → Step (part S n) e P a
+        → (T : State) × Step S e T a × (part T n ≡ P) × Leaves S T n }
+{}
+
+/// The union of parts is one whole state: of the parts of a sound state it is that state, and of sixteen sound states of
+/// shards, under one directory and one number of the register, each is its part.
+pub fn unions_have_parts()
+    ensures whole { (S : State) → Sound S → ((n : ℕ) → shards ≤ n → S.clocks n ≡ 0) → union (part S) ≡ S }
+    ensures parts { (states : ℕ → State) (n : ℕ)
+        → ((m : ℕ) → m < shards → Sound (states m))
+        → ((m : ℕ) → m < shards → (states m).directory ≡ (states 0).directory)
+        → ((m : ℕ) → m < shards → (states m).hlr ≡ (states 0).hlr)
+        → n < shards → states n ≡ part (states n) n → part (union states) n ≡ states n }
+    ensures sound { (states : ℕ → State)
+        → ((m : ℕ) → m < shards → Sound (states m))
+        → ((m : ℕ) → m < shards → (states m).directory ≡ (states 0).directory)
+        → ((m : ℕ) → m < shards → (states m).hlr ≡ (states 0).hlr)
+        → Sound (union states) }
+{}
+
+/// A step of one shard is a step of the union of the sixteen.
+pub fn steps_are_steps_of_the_union()
+    ensures { (states : ℕ → State) (n : ℕ) (T : State) (e : Event) (a : Answer)
+        → ((m : ℕ) → m < shards → Sound (states m))
+        → ((m : ℕ) → m < shards → (states m).directory ≡ (states 0).directory)
+        → ((m : ℕ) → m < shards → (states m).hlr ≡ (states 0).hlr)
+        → n < shards → route (states n).directory e ≡ n → Step (states n) e T a
+        → Step (union states) e (union (put_at states n T)) a }
+{}
+
+/// Every merge of sixteen legal journals is a run from the union of the bases to the union of the states.
+pub fn merges_are_runs()
+    ensures { (bases states : ℕ → State) (journals : ℕ → List Entry) (merge : List Entry)
+        → ((n : ℕ) → n < shards → Legal n (bases n) (journals n) (states n))
+        → ((n : ℕ) → n < shards → (bases n).directory ≡ (bases 0).directory)
+        → ((n : ℕ) → n < shards → (bases n).hlr ≡ (bases 0).hlr)
+        → Merges journals merge
+        → Run (union bases) (events_of merge) (union states) (answers_of merge) }
+{}
+
+// Journals
+
+/// A journal begins empty, and a step of its shard puts its entry last.
+pub fn journals_grow_by_steps()
+    ensures empty { (n : ℕ) (S : State) → n < shards → Sound S → S ≡ part S n → Legal n S [] S }
+    ensures push { (n : ℕ) (base S T : State) (journal : List Entry) (e : Event) (a : Answer)
+        → Legal n base journal S → route S.directory e ≡ n → Step S e T a
+        → Legal n base (journal ++ record { event = e; answer = a } ∷ []) T }
+{}
+
+/// A cut puts its epoch last in the chain. The joined journal of a chain and its shard is legal from the first base, and has
+/// the holders and the isolation of one journal. A step leaves the shard's base, and with it the chain.
+pub fn chains_are_journals()
+    ensures cut { (n : ℕ) (epochs : List Epoch) (base state : State) (entries : List Entry)
+        → Chain n epochs base → Legal n base entries state
+        → Chain n (epochs ++ record { base = base; entries = entries } ∷ []) state }
+    ensures whole { (n : ℕ) (epochs : List Epoch) (base state : State) (entries : List Entry)
+        → Chain n epochs base → Legal n base entries state
+        → Legal n (first_base epochs base) (joined epochs ++ entries) state }
+    ensures holders_of { (n : ℕ) (epochs : List Epoch) (base state : State) (entries : List Entry) (x : List ℕ)
+        → Chain n epochs base → Legal n base entries state
+        → holders (first_base epochs base) (joined epochs ++ entries) x ≡ serving (state.records x) }
+    ensures isolation { (n : ℕ) (epochs : List Epoch) (base state : State) (entries : List Entry) (x : List ℕ)
+        → Chain n epochs base → Legal n base entries state → NoneTurnedAway (joined epochs ++ entries) x
+        → (T : State) × Legal n (own (first_base epochs base) x) (only_of (joined epochs ++ entries) x) T × SameOf x state T }
+{}
+
+// One subscriber alone
+
+/// An entry that is neither of x nor of the clock leaves the record of x, the dialogues of x and the clocks.
+pub fn others_leave_a_subscriber()
+    ensures { (x : List ℕ) (S : State) (e : Event) (T : State) (a : Answer)
+        → Sound S → Step S e T a → is_of x (record { event = e; answer = a }) ≡ false → SameAfter x S T }
+{}
+
+/// An entry of x or of the clock, unless it is an update that was turned away, is a step with the same answer in any sound
+/// state that has the same of x and no dialogue of another.
+pub fn a_subscriber_sees_its_own()
+    ensures { (x : List ℕ) (S T : State) (e : Event) (U : State) (a : Answer)
+        → Sound S → Sound T → AgreeOf x S T → Step S e U a
+        → is_of x (record { event = e; answer = a }) ≡ true
+        → is_subject x a.subject && is_turned_away a.sent ≡ false
+        → (V : State) × Step T e V a × Sound V × AgreeOf x U V }
+{}
+
+/// Isolation: the entries of x are a legal journal from the state as x has it alone, to a state with the same record and the
+/// same dialogues of x.
+pub fn own_entries_are_legal()
+    ensures { (n : ℕ) (base S : State) (journal : List Entry) (x : List ℕ)
+        → Legal n base journal S → NoneTurnedAway journal x
+        → (T : State) × Legal n (own base x) (only_of journal x) T × SameOf x S T }
+{}
