@@ -3,7 +3,7 @@ use Rattle.std.specs.Prelude.{ℕ, ℤ, List, [], ◌∷◌, Bool, true, false, 
 use Rattle.std.specs.List.{list_any}
 use Rattle.machine.specs.Keys.{same, is_prefix}
 use Rattle.machine.specs.Numbers.{unknown_subscriber, roaming_not_allowed, data_missing, unexpected_data_value}
-use Rattle.machine.specs.Received.{Register, Argument, BadValue, Update, Purge, Route, Parameter, Mistyped, Typed, Component, Invoke}
+use Rattle.machine.specs.Received.{Register, Argument, BadValue, Update, Purge, Route, Typed, Component, Invoke}
 use Rattle.machine.specs.Sent.{Context, Rejection, SentComponent, PurgeResult, RouteResult, SentError, NoCause, Refusing, SentContinue, SentEnd, SentAbort, Out}
 use Rattle.machine.specs.Contexts.{accepted, refused_name, operation_of}
 use Rattle.machine.specs.State.{Subscriber, Updates, Local}
@@ -27,7 +27,7 @@ pub record Asker : Type 0 where
   pub context : Context
   pub rejects : List Rejection
 
--- the End that answers a Begin, which changes nothing
+-- the End that answers a Begin
 abbrev pub answered : Asker → List SentComponent → List Out
 answered asker components = send asker.from (SentEnd asker.origin (Some asker.context) asker.rejects components)
 
@@ -40,42 +40,49 @@ is_allowed (Some prefixes) vlr = list_any (λ prefix. is_prefix prefix vlr) pref
 -- The update begins: a dialogue opens, it becomes the current update in place of any other, and one Continue carries the
 -- subscriber data.
 abbrev pub update_opened : Local → Asker → (invoke : ℤ) → Register → Subscriber → (new : List ℕ) → Outcome
-update_opened here asker invoke register s new = record {
-  after = Some (record s { current = Some new });
+update_opened here asker invoke register subscriber new = record {
+  after = Some (record subscriber { current = Some new });
   stays = None;
   opens = Some (record {
     subscriber = here.imsi;
     transaction = record { peer = asker.from; remote = Some asker.origin };
-    invocations = inserts_invoked here.clock s.codes;
+    invocations = inserts_invoked here.clock subscriber.codes;
     kind = Updates register invoke;
   });
-  sent = send asker.from (SentContinue new asker.origin (Some asker.context) asker.rejects (inserts None s.msisdn s.codes));
+  sent =
+      send asker.from (SentContinue new asker.origin (Some asker.context) asker.rejects (inserts None subscriber.msisdn subscriber.codes));
 }
 
 -- It does not begin for an unknown subscriber, nor at a VLR that the record does not allow.
 abbrev pub update_begins : Local → Asker → (invoke : ℤ) → Register → Option Subscriber → (new : List ℕ) → Outcome
-update_begins here asker invoke register None new = unchanged here (answered asker (SentError invoke unknown_subscriber ∷ []))
-update_begins here asker invoke register (Some s) new =
-    cond s.withdrawn (unchanged here (answered asker (SentError invoke unknown_subscriber ∷ [])))
-    (cond (is_allowed s.roam register.vlr) (update_opened here asker invoke register s new)
+update_begins here asker invoke register None new =
+    unchanged here (answered asker (SentError invoke unknown_subscriber ∷ []))
+update_begins here asker invoke register (Some subscriber) new =
+    cond subscriber.withdrawn (unchanged here (answered asker (SentError invoke unknown_subscriber ∷ [])))
+    (cond (is_allowed subscriber.roam register.vlr) (update_opened here asker invoke register subscriber new)
     (unchanged here (answered asker (SentError invoke roaming_not_allowed ∷ []))))
 
 -- purgeMS
 
 -- The record is purged where the stored register has the same digits; otherwise the result says so, and nothing changes.
 abbrev pub purge_at : Local → Asker → (invoke : ℤ) → Subscriber → (vlr : List ℕ) → Option Register → Outcome
-purge_at here asker invoke s vlr None = unchanged here (answered asker (PurgeResult invoke false ∷ []))
-purge_at here asker invoke s vlr (Some register) =
+purge_at here asker invoke subscriber vlr None = unchanged here (answered asker (PurgeResult invoke false ∷ []))
+purge_at here asker invoke subscriber vlr (Some register) =
     cond (same register.vlr vlr)
-    (record { after = Some (record s { purged = true }); stays = None; opens = None; sent = answered asker (PurgeResult invoke true ∷ []) })
+    (record {
+      after = Some (record subscriber { purged = true });
+      stays = None;
+      opens = None;
+      sent = answered asker (PurgeResult invoke true ∷ []);
+    })
     (unchanged here (answered asker (PurgeResult invoke false ∷ [])))
 
 abbrev pub purge : Local → Asker → (invoke : ℤ) → (vlr : Option (List ℕ)) → Option Subscriber → Outcome
-purge here asker invoke None s = unchanged here (answered asker (SentError invoke data_missing ∷ []))
+purge here asker invoke None subscriber = unchanged here (answered asker (SentError invoke data_missing ∷ []))
 purge here asker invoke (Some vlr) None = unchanged here (answered asker (SentError invoke unknown_subscriber ∷ []))
-purge here asker invoke (Some vlr) (Some s) =
-    cond s.withdrawn (unchanged here (answered asker (SentError invoke unknown_subscriber ∷ [])))
-    (purge_at here asker invoke s vlr s.register)
+purge here asker invoke (Some vlr) (Some subscriber) =
+    cond subscriber.withdrawn (unchanged here (answered asker (SentError invoke unknown_subscriber ∷ [])))
+    (purge_at here asker invoke subscriber vlr subscriber.register)
 
 -- sendRoutingInfoForSM
 abbrev pub route_component : (invoke : ℤ) → RouteAnswer → SentComponent
@@ -87,7 +94,8 @@ abbrev pub procedure : Local → Asker → (invoke : ℤ) → Argument → (new 
 procedure here asker invoke BadValue new = unchanged here (answered asker (SentError invoke unexpected_data_value ∷ []))
 procedure here asker invoke (Update imsi register) new = update_begins here asker invoke register here.record_of new
 procedure here asker invoke (Purge imsi vlr) new = purge here asker invoke vlr here.record_of
-procedure here asker invoke (Route msisdn) new = unchanged here (answered asker (route_component invoke (sm_route here.imsi here.record_of) ∷ []))
+procedure here asker invoke (Route msisdn) new =
+    unchanged here (answered asker (route_component invoke (sm_route here.imsi here.record_of) ∷ []))
 
 -- Where nothing started, the End has the Rejects alone. What started has an argument.
 abbrev pub begun : Local → Asker → (started : Option ℤ) → Option Argument → (new : List ℕ) → Outcome
@@ -106,11 +114,13 @@ offer_in context components = record {
 abbrev pub begins_in : Local → (from origin : List ℕ) → Context → List Component → (new : List ℕ) → Outcome
 begins_in here from origin context [] new = unchanged here (send from (SentAbort origin NoCause))
 begins_in here from origin context (c ∷ cs) new =
-    let e = effect here.clock (offer_in context (c ∷ cs)) [] (c ∷ cs) in
-    begun here (record { from = from; origin = origin; context = context; rejects = e.rejects }) e.started (first_argument (c ∷ cs)) new
+    let did = effect here.clock (offer_in context (c ∷ cs)) [] (c ∷ cs) in
+    begun here (record { from = from; origin = origin; context = context; rejects = did.rejects }) did.started
+    (first_argument (c ∷ cs)) new
 
 abbrev pub begins_named : Local → (from origin name : List ℕ) → Option Context → List Component → (new : List ℕ) → Outcome
-begins_named here from origin name None components new = unchanged here (send from (SentAbort origin (Refusing (refused_name name))))
+begins_named here from origin name None components new =
+    unchanged here (send from (SentAbort origin (Refusing (refused_name name))))
 begins_named here from origin name (Some context) components new = begins_in here from origin context components new
 
 -- A Begin. It is aborted without a dialogue portion, in a context that is not accepted, and without a component, in this

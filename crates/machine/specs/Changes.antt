@@ -1,5 +1,5 @@
 -- An operator's change of one subscriber (profile; TS 29.002, insertSubscriberData and cancelLocation).
-use Rattle.std.specs.Prelude.{ℕ, List, [], Bool, true, false, cond, Option, Some, None}
+use Rattle.std.specs.Prelude.{ℕ, List, [], true, false, cond, Option, Some, None}
 use Rattle.machine.specs.Received.{Register}
 use Rattle.machine.specs.Sent.{SubscriptionWithdraw, SubscriberDataMngt, SentBegin}
 use Rattle.machine.specs.Events.{Change, Codes, Withdraw}
@@ -17,39 +17,41 @@ data_to here register codes = record {
 
 -- New codes: an update in progress is no longer current, and a register that is not purged is told.
 abbrev pub codes_to : Local → Subscriber → (codes : List ℕ) → (new : List ℕ) → Option Register → Outcome
-codes_to here s codes new None = record {
-  after = Some (record s { codes = codes; current = None });
+codes_to here subscriber codes new None = record {
+  after = Some (record subscriber { codes = codes; current = None });
   stays = None;
   opens = None;
   sent = [];
 }
-codes_to here s codes new (Some register) = record {
-  after = Some (record s { codes = codes; current = None });
+codes_to here subscriber codes new (Some register) = record {
+  after = Some (record subscriber { codes = codes; current = None });
   stays = None;
-  opens = cond s.purged None (Some (data_to here register codes));
-  sent = cond s.purged [] (send register.vlr (SentBegin new SubscriberDataMngt (inserts (Some here.imsi) s.msisdn codes)));
+  opens = cond subscriber.purged None (Some (data_to here register codes));
+  sent =
+      cond subscriber.purged [] (send register.vlr (SentBegin new SubscriberDataMngt (inserts (Some here.imsi) subscriber.msisdn codes)));
 }
 
 -- The end of a subscription: the record has no register any more, and the one that it had, purged or not, gets a cancel.
 abbrev pub withdraw_from : Local → Subscriber → (new : List ℕ) → Option Register → Outcome
-withdraw_from here s new None = record {
-  after = Some (record s { register = None; purged = false; current = None; withdrawn = true });
+withdraw_from here subscriber new None = record {
+  after = Some (record subscriber { register = None; purged = false; current = None; withdrawn = true });
   stays = None;
   opens = None;
   sent = [];
 }
-withdraw_from here s new (Some register) = record {
-  after = Some (record s { register = None; purged = false; current = None; withdrawn = true });
+withdraw_from here subscriber new (Some register) = record {
+  after = Some (record subscriber { register = None; purged = false; current = None; withdrawn = true });
   stays = None;
   opens = Some (cancel here register.vlr 1 SubscriptionWithdraw);
   sent = cancel_begin here register.vlr SubscriptionWithdraw new;
 }
 
 abbrev pub change_to : Local → Subscriber → Change → (new : List ℕ) → Outcome
-change_to here s (Codes codes) new = codes_to here s codes new s.register
-change_to here s Withdraw new = withdraw_from here s new s.register
+change_to here subscriber (Codes codes) new = codes_to here subscriber codes new subscriber.register
+change_to here subscriber Withdraw new = withdraw_from here subscriber new subscriber.register
 
 -- A change of an unknown or a withdrawn subscriber changes nothing.
 abbrev pub changes : Local → Change → Option Subscriber → (new : List ℕ) → Outcome
 changes here change None new = unchanged here []
-changes here change (Some s) new = cond s.withdrawn (unchanged here []) (change_to here s change new)
+changes here change (Some subscriber) new =
+    cond subscriber.withdrawn (unchanged here []) (change_to here subscriber change new)

@@ -1,9 +1,9 @@
 -- A received Continue, End or Abort of an open dialogue (TS 29.002, TS 23.012).
-use Rattle.std.specs.Prelude.{ℕ, ℤ, List, [], ◌∷◌, ◌++◌, Bool, true, false, cond, Option, Some, None}
+use Rattle.std.specs.Prelude.{ℕ, ℤ, List, [], ◌∷◌, ◌++◌, false, cond, Option, Some, None}
 use Rattle.machine.specs.Keys.{same}
 use Rattle.machine.specs.Numbers.{update_location, system_failure}
 use Rattle.machine.specs.Received.{Register, Component}
-use Rattle.machine.specs.Sent.{UpdateProcedure, Rejection, SentComponent, UpdateResult, SentError, Out}
+use Rattle.machine.specs.Sent.{UpdateProcedure, Rejection, UpdateResult, SentError, Out}
 use Rattle.machine.specs.State.{Subscriber, Invocation, Kind, Updates, Cancels, Data, Dialogue, Local}
 use Rattle.machine.specs.Effect.{Offer, Effect, effect, Conclusion, HasFailed, HasSucceeded, GoesOn}
 use Rattle.machine.specs.Outcome.{Outcome, cancel, cancel_begin, ended, continued, is_marked, unmarked}
@@ -14,71 +14,81 @@ ends here id sent = record { after = unmarked id here.record_of; stays = None; o
 
 -- An update that fails, or is not the current one: the register stays.
 abbrev pub update_fails : Local → List ℕ → Dialogue → (invoke : ℤ) → List Rejection → Outcome
-update_fails here id d invoke rejects =
-    ends here id (ended d.transaction d.transaction.remote rejects (SentError invoke system_failure ∷ []))
+update_fails here id dialogue invoke rejects =
+    ends here id (ended dialogue.transaction dialogue.transaction.remote rejects (SentError invoke system_failure ∷ []))
 
 -- The current update completes: its register serves from now on. An old register with other digits, purged or not, gets a
 -- cancel; its Begin follows the End (profile).
-abbrev pub update_done : Local → Register → Subscriber → (result : List Out) → (new : List ℕ) → (old : Option Register) → Outcome
-update_done here register s result new None = record {
-  after = Some (record s { register = Some register; purged = false; current = None });
+abbrev pub update_done : Local → Register → Subscriber → (result : List Out) → (new : List ℕ)
+    → (old : Option Register) → Outcome
+update_done here register subscriber result new None = record {
+  after = Some (record subscriber { register = Some register; purged = false; current = None });
   stays = None;
   opens = None;
   sent = result;
 }
-update_done here register s result new (Some old) = record {
-  after = Some (record s { register = Some register; purged = false; current = None });
+update_done here register subscriber result new (Some old) = record {
+  after = Some (record subscriber { register = Some register; purged = false; current = None });
   stays = None;
   opens = cond (same old.vlr register.vlr) None (Some (cancel here old.vlr 1 UpdateProcedure));
   sent = result ++ cond (same old.vlr register.vlr) [] (cancel_begin here old.vlr UpdateProcedure new);
 }
 
-abbrev pub update_completes : Local → List ℕ → Dialogue → Register → (invoke : ℤ) → List Rejection → (new : List ℕ) → Option Subscriber → Outcome
-update_completes here id d register invoke rejects new None = update_fails here id d invoke rejects
-update_completes here id d register invoke rejects new (Some s) =
-    cond (is_marked s.current id)
-    (update_done here register s (ended d.transaction d.transaction.remote rejects (UpdateResult invoke here.hlr ∷ [])) new s.register)
-    (update_fails here id d invoke rejects)
+abbrev pub update_completes : Local → List ℕ → Dialogue → Register → (invoke : ℤ) → List Rejection → (new : List ℕ)
+    → Option Subscriber → Outcome
+update_completes here id dialogue register invoke rejects new None = update_fails here id dialogue invoke rejects
+update_completes here id dialogue register invoke rejects new (Some subscriber) =
+    cond (is_marked subscriber.current id)
+    (update_done here register subscriber
+    (ended dialogue.transaction dialogue.transaction.remote rejects (UpdateResult invoke here.hlr ∷ [])) new subscriber.register)
+    (update_fails here id dialogue invoke rejects)
 
 -- the dialogue goes on with these invocations
 abbrev pub goes_on : Local → List ℕ → Dialogue → List Rejection → List Invocation → Outcome
-goes_on here id d rejects invocations = record {
+goes_on here id dialogue rejects invocations = record {
   after = here.record_of;
-  stays = Some (record d { invocations = invocations });
+  stays = Some (record dialogue { invocations = invocations });
   opens = None;
-  sent = continued id d.transaction d.transaction.remote rejects;
+  sent = continued id dialogue.transaction dialogue.transaction.remote rejects;
 }
 
-abbrev pub update_continues : Local → List ℕ → Dialogue → Register → (invoke : ℤ) → Effect → Conclusion → (new : List ℕ) → Outcome
-update_continues here id d register invoke e HasFailed new = update_fails here id d invoke e.rejects
-update_continues here id d register invoke e HasSucceeded new = update_completes here id d register invoke e.rejects new here.record_of
-update_continues here id d register invoke e GoesOn new = goes_on here id d e.rejects e.invocations
+abbrev pub update_continues : Local → List ℕ → Dialogue → Register → (invoke : ℤ) → Effect → Conclusion
+    → (new : List ℕ) → Outcome
+update_continues here id dialogue register invoke effect HasFailed new =
+    update_fails here id dialogue invoke effect.rejects
+update_continues here id dialogue register invoke effect HasSucceeded new =
+    update_completes here id dialogue register invoke effect.rejects new here.record_of
+update_continues here id dialogue register invoke effect GoesOn new =
+    goes_on here id dialogue effect.rejects effect.invocations
 
 -- Success and failure both end a cancel and a data dialogue.
 abbrev pub other_continues : Local → List ℕ → Dialogue → Effect → Conclusion → Outcome
-other_continues here id d e GoesOn = goes_on here id d e.rejects e.invocations
-other_continues here id d e _ = record {
+other_continues here id dialogue effect GoesOn = goes_on here id dialogue effect.rejects effect.invocations
+other_continues here id dialogue effect _ = record {
   after = here.record_of;
   stays = None;
   opens = None;
-  sent = ended d.transaction d.transaction.remote e.rejects [];
+  sent = ended dialogue.transaction dialogue.transaction.remote effect.rejects [];
 }
 
 abbrev pub continues_as : Local → List ℕ → Dialogue → Kind → Effect → (new : List ℕ) → Outcome
-continues_as here id d (Updates register invoke) e new = update_continues here id d register invoke e e.conclusion new
-continues_as here id d (Cancels vlr attempt cause) e new = other_continues here id d e e.conclusion
-continues_as here id d Data e new = other_continues here id d e e.conclusion
+continues_as here id dialogue (Updates register invoke) effect new =
+    update_continues here id dialogue register invoke effect effect.conclusion new
+continues_as here id dialogue (Cancels vlr attempt cause) effect new =
+    other_continues here id dialogue effect effect.conclusion
+continues_as here id dialogue Data effect new = other_continues here id dialogue effect effect.conclusion
 
 -- In an update the peer waits for its own Invoke, and may invoke nothing else; in the others it may invoke nothing.
 abbrev pub offer_to : Kind → Offer
-offer_to (Updates register invoke) = record { open_id = Some invoke; operation = Some update_location; may_start = false; typed = false }
+offer_to (Updates register invoke) =
+    record { open_id = Some invoke; operation = Some update_location; may_start = false; typed = false }
 offer_to (Cancels vlr attempt cause) = record { open_id = None; operation = None; may_start = false; typed = false }
 offer_to Data = record { open_id = None; operation = None; may_start = false; typed = false }
 
 -- A Continue that is for the dialogue, whose peer and remote id it has set already.
 abbrev pub continues : Local → List ℕ → Dialogue → List Component → (new : List ℕ) → Outcome
-continues here id d components new =
-    continues_as here id d d.kind (effect here.clock (offer_to d.kind) d.invocations components) new
+continues here id dialogue components new =
+    continues_as here id dialogue dialogue.kind (effect here.clock (offer_to dialogue.kind) dialogue.invocations components) new
 
 -- An End or an Abort: the dialogue is gone, whatever components the End carries, and nothing is sent.
 abbrev pub closes : Local → List ℕ → Outcome

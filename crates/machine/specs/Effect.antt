@@ -4,9 +4,9 @@ use Rattle.std.specs.Prelude.{ℕ, ℤ, ◌<ℤ◌, ◌+◌, List, [], ◌∷◌
 use Rattle.std.specs.Ordering.{int_eq}
 use Rattle.machine.specs.Keys.{Every}
 use Rattle.machine.specs.Numbers.{duplicate_invoke_id, unrecognized_operation, mistyped_parameter, resource_limitation, unrecognized_linked_id, linked_response_unexpected, unrecognized_invoke_id, reject_timer}
-use Rattle.machine.specs.Received.{Code, Number, Other, Side, General, OfInvoke, OfResult, OfError, ComponentOf, Invoke, ResultLast, ResultNotLast, ReturnError, Reject, Bad, Ignored}
+use Rattle.machine.specs.Received.{Code, Number, Side, General, OfInvoke, OfResult, OfError, ComponentOf, Invoke, ResultLast, ResultNotLast, ReturnError, Reject, Bad, Ignored}
 use Rattle.machine.specs.Sent.{Rejection}
-use Rattle.machine.specs.State.{Was, OperationSent, WaitForReject, Invocation, is_sent, any_sent}
+use Rattle.machine.specs.State.{WaitForReject, Invocation, is_sent, any_sent}
 use Rattle.machine.specs.Invocations.{ends_it}
 
 -- The invocations of a dialogue stand by rising ids, each once.
@@ -104,7 +104,8 @@ reject_answer id side true = []
 reject_answer id side false = rejection (Some id) side unrecognized_invoke_id ∷ []
 
 -- The Reject, if any, of a component that stands after these. A Reject is never answered.
-abbrev pub reject_of : {P : Type 0} → Offer → List Invocation → (earlier : List (ComponentOf P)) → ComponentOf P → List Rejection
+abbrev pub reject_of : {P : Type 0} → Offer → List Invocation → (earlier : List (ComponentOf P)) → ComponentOf P
+    → List Rejection
 reject_of offer vs earlier (Invoke id linked operation parameter) =
     reject_invoke id (problem_of offer (is_open_id offer vs earlier id) (linked_to vs earlier linked) operation (is_empty earlier))
 reject_of offer vs earlier (ResultLast id) = reject_answer id OfResult (open_at vs earlier id)
@@ -115,9 +116,11 @@ reject_of offer vs earlier (Bad id problem) = rejection id General problem ∷ [
 reject_of offer vs earlier Ignored = []
 
 -- the Rejects of those that follow these, in order
-abbrev pub rejects_after : {P : Type 0} → Offer → List Invocation → (earlier : List (ComponentOf P)) → List (ComponentOf P) → List Rejection
+abbrev pub rejects_after : {P : Type 0} → Offer → List Invocation → (earlier : List (ComponentOf P))
+    → List (ComponentOf P) → List Rejection
 rejects_after offer vs earlier [] = []
-rejects_after offer vs earlier (c ∷ cs) = reject_of offer vs earlier c ++ rejects_after offer vs (earlier ++ c ∷ []) cs
+rejects_after offer vs earlier (c ∷ cs) =
+    reject_of offer vs earlier c ++ rejects_after offer vs (earlier ++ c ∷ []) cs
 
 -- an invocation that is concluded: a Reject leaves it Idle, a result or an error in Wait for Reject
 abbrev pub concluded_by : {P : Type 0} → ℕ → Invocation → Option (ComponentOf P) → List Invocation

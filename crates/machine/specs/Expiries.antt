@@ -21,7 +21,7 @@ is_register vlr (Some register) = same register.vlr vlr
 -- the register of an update
 abbrev pub register_of : Option Dialogue → Option Register
 register_of None = None
-register_of (Some d) = of_kind d.kind
+register_of (Some dialogue) = of_kind dialogue.kind
   where
     of_kind : Kind → Option Register
     of_kind (Updates register invoke) = Some register
@@ -34,7 +34,8 @@ current_register here (Some current) = register_of (here.dialogues current)
 -- whether the digits are those of the serving register, purged or not, or of the current update's
 abbrev pub is_wanted : Local → (vlr : List ℕ) → Option Subscriber → Bool
 is_wanted here vlr None = false
-is_wanted here vlr (Some s) = is_register vlr s.register || is_register vlr (current_register here s.current)
+is_wanted here vlr (Some subscriber) =
+    is_register vlr subscriber.register || is_register vlr (current_register here subscriber.current)
 
 -- whether a cancel is sent again
 abbrev pub is_repeated : Local → (vlr : List ℕ) → (attempt : ℕ) → Bool
@@ -42,31 +43,34 @@ is_repeated here vlr attempt = nat_lt attempt most_attempts && not (is_wanted he
 
 -- A cancel that is not answered ends, with an End where it is Active. It is sent again, as the next attempt and to the same
 -- digits, unless the register there is wanted.
-abbrev pub cancel_expires : Local → Dialogue → (vlr : List ℕ) → (attempt : ℕ) → CancellationType → (new : List ℕ) → Outcome
-cancel_expires here d vlr attempt cause new = record {
+abbrev pub cancel_expires : Local → Dialogue → (vlr : List ℕ) → (attempt : ℕ) → CancellationType → (new : List ℕ)
+    → Outcome
+cancel_expires here dialogue vlr attempt cause new = record {
   after = here.record_of;
   stays = None;
   opens = cond (is_repeated here vlr attempt) (Some (cancel here vlr (attempt + 1) cause)) None;
-  sent = ended d.transaction d.transaction.remote [] [] ++ cond (is_repeated here vlr attempt) (cancel_begin here vlr cause new) [];
+  sent =
+      ended dialogue.transaction dialogue.transaction.remote [] []
+      ++ cond (is_repeated here vlr attempt) (cancel_begin here vlr cause new) [];
 }
 
 -- An expiry in Operation Sent ends the dialogue. New subscriber data is not sent again.
 abbrev pub sent_expires : Local → List ℕ → Dialogue → Kind → (new : List ℕ) → Outcome
-sent_expires here id d (Updates register invoke) new = update_fails here id d invoke []
-sent_expires here id d (Cancels vlr attempt cause) new = cancel_expires here d vlr attempt cause new
-sent_expires here id d Data new = record {
+sent_expires here id dialogue (Updates register invoke) new = update_fails here id dialogue invoke []
+sent_expires here id dialogue (Cancels vlr attempt cause) new = cancel_expires here dialogue vlr attempt cause new
+sent_expires here id dialogue Data new = record {
   after = here.record_of;
   stays = None;
   opens = None;
-  sent = ended d.transaction d.transaction.remote [] [];
+  sent = ended dialogue.transaction dialogue.transaction.remote [] [];
 }
 
 -- An expiry in Wait for Reject: the invocation is forgotten.
 abbrev pub expires : Local → List ℕ → Dialogue → (invoke : ℤ) → Was → (new : List ℕ) → Outcome
-expires here id d invoke OperationSent new = sent_expires here id d d.kind new
-expires here id d invoke WaitForReject new = record {
+expires here id dialogue invoke OperationSent new = sent_expires here id dialogue dialogue.kind new
+expires here id dialogue invoke WaitForReject new = record {
   after = here.record_of;
-  stays = Some (record d { invocations = without invoke d.invocations });
+  stays = Some (record dialogue { invocations = without invoke dialogue.invocations });
   opens = None;
   sent = [];
 }

@@ -2,8 +2,8 @@
 use Rattle.std.specs.Prelude.{◌≡◌, ℕ, ℤ, List, [], ◌∷◌, Bool, true, false, cond, ◌&&◌, Option, Some, None}
 use Rattle.std.specs.List.{list_any}
 use Rattle.machine.specs.Keys.{same, put}
-use Rattle.machine.specs.Received.{Register, Argument, Update, Message, Begin, Continue, End, Abort, Verdict, Read}
-use Rattle.machine.specs.Sent.{SentComponent, UpdateResult, Cancel, SentMessage, SentBegin, SentContinue, SentEnd, SentAbort, Out}
+use Rattle.machine.specs.Received.{Register, Argument, Update, Begin, Continue, End, Abort, Read}
+use Rattle.machine.specs.Sent.{SentComponent, UpdateResult, Cancel, SentMessage, SentBegin, SentEnd, Out}
 use Rattle.machine.specs.Events.{Event, Frame, Clock, Expire, Operator}
 use Rattle.machine.specs.State.{Subscriber, Invocation, Kind, Updates, Dialogue, State}
 use Rattle.machine.specs.Begins.{first_argument}
@@ -57,7 +57,8 @@ names _ = None
 abbrev pub IsNamed : State → Event → List ℕ → Type 0
 IsNamed S (Frame from verdict) i = names (Frame from verdict) ≡ Some i
 IsNamed S (Clock shard now) i = ⊥
-IsNamed S (Expire shard) i = (d : Dialogue) × (j : ℤ) × (v : Invocation) × IsDue S shard i d j v × IsLeast S shard v.deadline i j
+IsNamed S (Expire shard) i =
+    (d : Dialogue) × (j : ℤ) × (v : Invocation) × IsDue S shard i d j v × IsLeast S shard v.deadline i j
 IsNamed S (Operator imsi change) i = ⊥
 
 abbrev pub began_named : (List ℕ → Option (List ℕ)) → Option (List ℕ) → Option (List ℕ)
@@ -95,14 +96,18 @@ is_subject x (Some imsi) = same imsi x
 
 -- After one frame that an entry sends: an End with the result of updateLocation, in an entry whose subject is x, adds the
 -- digits with which its dialogue began; a cancelLocation of x removes those that it goes to.
-abbrev pub held_after_message : List ℕ → (is_x : Bool) → (began : Option (List ℕ)) → (to : List ℕ) → SentMessage → Holding → Holding
-held_after_message x is_x began to (SentEnd destination context rejects components) holding = cond (list_any is_update_result components && is_x) (added began holding) holding
-held_after_message x is_x began to (SentBegin origin context components) holding = cond (list_any (is_cancel_of x) components) (removed to holding) holding
+abbrev pub held_after_message : List ℕ → (is_x : Bool) → (began : Option (List ℕ)) → (to : List ℕ) → SentMessage
+    → Holding → Holding
+held_after_message x is_x began to (SentEnd destination context rejects components) holding =
+    cond (list_any is_update_result components && is_x) (added began holding) holding
+held_after_message x is_x began to (SentBegin origin context components) holding =
+    cond (list_any (is_cancel_of x) components) (removed to holding) holding
 held_after_message x is_x began to _ holding = holding
 
 abbrev pub held_after : List ℕ → (is_x : Bool) → (began : Option (List ℕ)) → List Out → Holding → Holding
 held_after x is_x began [] holding = holding
-held_after x is_x began (out ∷ outs) holding = held_after x is_x began outs (held_after_message x is_x began out.to out.message holding)
+held_after x is_x began (out ∷ outs) holding =
+    held_after x is_x began outs (held_after_message x is_x began out.to out.message holding)
 
 -- the registers that hold x after the entries, where it is known with which digits each id began
 abbrev pub holders_from : List ℕ → (List ℕ → Option (List ℕ)) → Holding → List Entry → Holding

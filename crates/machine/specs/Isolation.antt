@@ -1,10 +1,9 @@
 -- One subscriber's own entries, and the state as this subscriber has it alone.
 use Rattle.std.specs.Prelude.{◌≡◌, ℕ, List, [], ◌∷◌, filter, Bool, true, false, cond, ◌&&◌, ◌==◌, Option, Some, None}
-use Rattle.std.specs.List.{list_any}
 use Rattle.machine.specs.Keys.{same, Every}
 use Rattle.machine.specs.Numbers.{no_resources}
 use Rattle.machine.specs.Received.{Register, Update, Component, Begin, Read}
-use Rattle.machine.specs.Sent.{Why, Cause, SentMessage, SentAbort, Out}
+use Rattle.machine.specs.Sent.{Cause, SentMessage, SentAbort, Out}
 use Rattle.machine.specs.Events.{Event, Frame, Clock}
 use Rattle.machine.specs.State.{Subscriber, Dialogue, State, if_of, IsFull}
 use Rattle.machine.specs.Begins.{first_argument}
@@ -50,7 +49,8 @@ is_turned_away (out ∷ outs) = is_limit out.message
 
 -- no update of x met a full shard
 abbrev pub NoneTurnedAway : List Entry → List ℕ → Type 0
-NoneTurnedAway journal x = Every (λ entry. is_subject x entry.answer.subject && is_turned_away entry.answer.sent ≡ false) journal
+NoneTurnedAway journal x =
+    Every (λ entry. is_subject x entry.answer.subject && is_turned_away entry.answer.sent ≡ false) journal
 
 -- The event is an update of x that a full shard turned away: nothing changed.
 pub record MetFullShard (S : State) (e : Event) (T : State) (a : Answer) (x : List ℕ) : Type 0 where

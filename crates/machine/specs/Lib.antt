@@ -23,6 +23,7 @@ pub mod Tables
 pub mod Sound
 pub mod Parts
 pub mod Opening
+pub mod Bounds
 pub mod Legal
 pub mod Holders
 pub mod Isolation

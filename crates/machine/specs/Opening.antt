@@ -3,7 +3,8 @@ use Rattle.std.specs.Prelude.{◌≡◌, ℕ, List, true, false, Option, Some, N
 use Rattle.machine.specs.State.{Subscriber, State}
 
 -- the records as they were loaded, no dialogue, and each clock at 0
-unfoldable pub opening : (records : List ℕ → Option Subscriber) → (directory : List ℕ → Option (List ℕ)) → (hlr : List ℕ) → State
+unfoldable pub opening : (records : List ℕ → Option Subscriber) → (directory : List ℕ → Option (List ℕ))
+    → (hlr : List ℕ) → State
 opening records directory hlr = record {
   records = records;
   dialogues = λ id. None;

@@ -1,5 +1,5 @@
 -- What a procedure on one subscriber leaves, and what its parts have in common.
-use Rattle.std.specs.Prelude.{ℕ, zero, suc, ℤ, pos, ◌+◌, ◌-◌, ◌*◌, ◌/◌, List, [], ◌∷◌, ◌++◌, map, take, drop, length, Bool, true, false, cond, Option, Some, None}
+use Rattle.std.specs.Prelude.{ℕ, zero, suc, ℤ, pos, ◌+◌, ◌-◌, ◌*◌, ◌/◌, List, [], ◌∷◌, ◌++◌, map, take, drop, length, Bool, false, cond, Option, Some, None}
 use Rattle.machine.specs.Keys.{same}
 use Rattle.machine.specs.Numbers.{invocation_timer, codes_in_insert}
 use Rattle.machine.specs.Sent.{CancellationType, LocationCancellation, Rejection, SentComponent, Insert, Cancel, SentMessage, SentBegin, SentContinue, SentEnd, Out}
@@ -63,7 +63,7 @@ abbrev pub ended : Transaction → (remote : Option (List ℕ)) → List Rejecti
 ended t None rejects components = []
 ended t (Some remote) rejects components = send t.peer (SentEnd remote None rejects components)
 
--- a Continue, where there is a Reject to send
+-- a Continue, where there is a Reject to send; the Continue that was received has made the dialogue Active
 abbrev pub continued : List ℕ → Transaction → (remote : Option (List ℕ)) → List Rejection → List Out
 continued id t remote [] = []
 continued id t None (r ∷ rs) = []
@@ -78,4 +78,5 @@ is_marked (Some current) id = same current id
 -- the record without the mark, where it is this dialogue's
 abbrev pub unmarked : List ℕ → Option Subscriber → Option Subscriber
 unmarked id None = None
-unmarked id (Some s) = Some (cond (is_marked s.current id) (record s { current = None }) s)
+unmarked id (Some subscriber) =
+    Some (cond (is_marked subscriber.current id) (record subscriber { current = None }) subscriber)

@@ -1,5 +1,5 @@
 -- The whole state and the parts of the shards.
-use Rattle.std.specs.Prelude.{◌≡◌, ℕ, List, cond, ◌==◌, nat_lt, Option, Some, None}
+use Rattle.std.specs.Prelude.{◌≡◌, ℕ, List, cond, ◌==◌, nat_lt, None}
 use Rattle.machine.specs.Keys.{shard_of, shard_of_id}
 use Rattle.machine.specs.Numbers.{shards}
 use Rattle.machine.specs.State.{State}

@@ -1,8 +1,8 @@
 -- The shard that an event is for (profile).
-use Rattle.std.specs.Prelude.{ℕ, List, [], ◌∷◌, cond, ◌&&◌, nat_lt, ◌==◌, length, Option, Some, None}
+use Rattle.std.specs.Prelude.{ℕ, List, cond, ◌&&◌, nat_lt, ◌==◌, length, Option, Some, None}
 use Rattle.machine.specs.Keys.{shard_of, shard_of_id}
 use Rattle.machine.specs.Numbers.{shards}
-use Rattle.machine.specs.Received.{Argument, BadValue, Update, Purge, Route, Component, Message, Begin, Continue, End, Abort, Verdict, Discard, Refuse, Read}
+use Rattle.machine.specs.Received.{Argument, Update, Purge, Route, Component, Message, Begin, Continue, End, Abort, Verdict, Read}
 use Rattle.machine.specs.Events.{Event, Frame, Clock, Expire, Operator}
 use Rattle.machine.specs.Begins.{first_argument}
 

@@ -15,11 +15,13 @@ has_short_messages codes = list_any (λ code. (code == short_message_services) |
 
 abbrev pub route_by : List ℕ → (purged : Bool) → Option Register → RouteAnswer
 route_by imsi purged None = NoRoute absent_subscriber_sm
-route_by imsi purged (Some register) = cond purged (NoRoute absent_subscriber_sm) (RouteTo imsi register.msc register.lmsi)
+route_by imsi purged (Some register) =
+    cond purged (NoRoute absent_subscriber_sm) (RouteTo imsi register.msc register.lmsi)
 
 -- The SM route of one record or none. The errors come in this order.
 abbrev pub sm_route : List ℕ → Option Subscriber → RouteAnswer
 sm_route imsi None = NoRoute unknown_subscriber
-sm_route imsi (Some s) =
-    cond s.withdrawn (NoRoute unknown_subscriber)
-    (cond (has_short_messages s.codes) (route_by imsi s.purged s.register) (NoRoute teleservice_not_provisioned))
+sm_route imsi (Some subscriber) =
+    cond subscriber.withdrawn (NoRoute unknown_subscriber)
+    (cond (has_short_messages subscriber.codes) (route_by imsi subscriber.purged subscriber.register)
+    (NoRoute teleservice_not_provisioned))

@@ -2,7 +2,7 @@
 use Rattle.std.specs.Prelude.{◌≡◌, ℕ, ◌≤◌, List, true, false, length, Option, Some, None, is_some, IsTrue}
 use Rattle.machine.specs.Keys.{shard_of}
 use Rattle.machine.specs.Numbers.{most_dialogues}
-use Rattle.machine.specs.State.{Subscriber, Kind, Updates, Cancels, Data, Dialogue, State, any_sent, IsIdOf, AreOpen}
+use Rattle.machine.specs.State.{Subscriber, Kind, Updates, Dialogue, State, any_sent, IsIdOf, AreOpen}
 use Rattle.machine.specs.Effect.{AreRising}
 
 abbrev pub IsUpdate : Kind → Type 0

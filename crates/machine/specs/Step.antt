@@ -1,10 +1,10 @@
 -- One event of the register.
-use Rattle.std.specs.Prelude.{◌≡◌, ℕ, min, max, List, [], ◌∷◌, Bool, cond, Option, Some, None, is_some, IsTrue}
+use Rattle.std.specs.Prelude.{◌≡◌, ℕ, min, max, List, [], Option, Some, None, is_some, IsTrue}
 use Rattle.machine.specs.Keys.{put, put_at, shard_of}
 use Rattle.machine.specs.Numbers.{no_resources, latest_clock}
 use Rattle.machine.specs.Received.{Component}
 use Rattle.machine.specs.Sent.{Cause, SentAbort, Out}
-use Rattle.machine.specs.Events.{Event, Frame, Clock, Expire, Operator}
+use Rattle.machine.specs.Events.{Event, Operator}
 use Rattle.machine.specs.State.{Subscriber, Dialogue, Local, local_of, local_of_nobody, State, IsIdOf, IsFull}
 use Rattle.machine.specs.Outcome.{Outcome, send, unchanged}
 use Rattle.machine.specs.Begins.{begins}
@@ -108,8 +108,10 @@ pub record TurnedAway (S : State) (n : ℕ) (turn : Turn) (o : Outcome) (after :
 
 -- One event leads from a state to a state, with an answer.
 pub data Step (S : State) (e : Event) (after : State) (a : Answer) : Type 0 where
-  Taken : (turn : Turn) (new : List ℕ) → TurnsTo S e turn → Moves S (route S.directory e) turn new (outcome_in S (route S.directory e) turn new) after a → Step S e after a
-  Full : (turn : Turn) (new : List ℕ) → TurnsTo S e turn → TurnedAway S (route S.directory e) turn (outcome_in S (route S.directory e) turn new) after a → Step S e after a
+  Taken : (turn : Turn) (new : List ℕ) → TurnsTo S e turn
+      → Moves S (route S.directory e) turn new (outcome_in S (route S.directory e) turn new) after a → Step S e after a
+  Full : (turn : Turn) (new : List ℕ) → TurnsTo S e turn
+      → TurnedAway S (route S.directory e) turn (outcome_in S (route S.directory e) turn new) after a → Step S e after a
 
 -- An operator's change that would overflow the shard is refused: it has no step.
 abbrev pub HasNoRoom : State → Event → Type 0

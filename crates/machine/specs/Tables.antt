@@ -23,13 +23,19 @@ transaction_of (Some d) = Some d.transaction
 pub data Does (i : List ℕ) (before : Option Transaction) (sent : List Out) (after : Option Transaction) : Type 0 where
   DoesNothing : after ≡ before → sent ≡ [] → Does i before sent after
   DoesBegin : (to : List ℕ) (context : Context) (components : List SentComponent)
-      → transact before (OwnBegin to) ≡ row after IsSent → sent ≡ send to (SentBegin i context components) → Does i before sent after
+      → transact before (OwnBegin to) ≡ row after IsSent → sent ≡ send to (SentBegin i context components)
+      → Does i before sent after
   DoesAnswer : (from origin : List ℕ) (context : Context) (rejects : List Rejection) (components : List SentComponent)
-      → transact before (Answered from origin) ≡ row after IsSent → sent ≡ send from (SentContinue i origin (Some context) rejects components) → Does i before sent after
-  DoesContinue : (t : Transaction) (remote : List ℕ) (rejects : List Rejection) (components : List SentComponent) → before ≡ Some t → t.remote ≡ Some remote
-      → transact before OwnContinue ≡ row after IsSent → sent ≡ send t.peer (SentContinue i remote None rejects components) → Does i before sent after
-  DoesEnd : (t : Transaction) (remote : List ℕ) (rejects : List Rejection) (components : List SentComponent) → before ≡ Some t → t.remote ≡ Some remote
-      → transact before OwnEnd ≡ row after IsSent → sent ≡ send t.peer (SentEnd remote None rejects components) → Does i before sent after
+      → transact before (Answered from origin) ≡ row after IsSent
+      → sent ≡ send from (SentContinue i origin (Some context) rejects components) → Does i before sent after
+  DoesContinue : (t : Transaction) (remote : List ℕ) (rejects : List Rejection) (components : List SentComponent)
+      → before ≡ Some t → t.remote ≡ Some remote
+      → transact before OwnContinue ≡ row after IsSent
+      → sent ≡ send t.peer (SentContinue i remote None rejects components) → Does i before sent after
+  DoesEnd : (t : Transaction) (remote : List ℕ) (rejects : List Rejection) (components : List SentComponent)
+      → before ≡ Some t → t.remote ≡ Some remote
+      → transact before OwnEnd ≡ row after IsSent → sent ≡ send t.peer (SentEnd remote None rejects components)
+      → Does i before sent after
   DoesClose : transact before OwnClose ≡ row after Nothing → sent ≡ [] → Does i before sent after
 
 -- Of what a step sends, first come the frames of the dialogue i that its event is for, whose transaction stands so when the
@@ -61,11 +67,13 @@ pub record TimedOut (now : ℕ) (j : ℤ) (before after : List Invocation) : Typ
 -- What becomes of a Continue for the local id i, by its row of the transaction table. Where it is for the dialogue, its
 -- components move the invocations.
 pub data ContinueMoves (S : State) (from origin i : List ℕ) (components : List Component) (T : State) (a : Answer) : Type 0 where
-  ForDialogue : (d : Dialogue) (t : Transaction) → S.dialogues i ≡ Some d → transact (Some d.transaction) (ContinueComes from origin) ≡ row (Some t) ForIt
+  ForDialogue : (d : Dialogue) (t : Transaction) → S.dialogues i ≡ Some d
+      → transact (Some d.transaction) (ContinueComes from origin) ≡ row (Some t) ForIt
       → DoesFirst i (Some t) a.sent a.id (T.dialogues i)
       → ((f : Dialogue) → T.dialogues i ≡ Some f → f.invocations ≡ invocations_after (S.clocks (shard_named i)) components d.invocations)
       → ContinueMoves S from origin i components T a
-  ForNone : (after : Option Transaction) → transact (transaction_of (S.dialogues i)) (ContinueComes from origin) ≡ row after Unassigned
+  ForNone : (after : Option Transaction)
+      → transact (transaction_of (S.dialogues i)) (ContinueComes from origin) ≡ row after Unassigned
       → T ≡ S → a.sent ≡ send from (SentAbort origin (Cause unrecognized_transaction_id))
       → ContinueMoves S from origin i components T a
 

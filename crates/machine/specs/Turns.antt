@@ -1,5 +1,5 @@
 -- What an event turns to in a state: what is to be done, and for which dialogue.
-use Rattle.std.specs.Prelude.{◌≡◌, ℕ, ℤ, ◌≤◌, List, [], ◌∷◌, Bool, false, cond, Option, Some, None}
+use Rattle.std.specs.Prelude.{◌≡◌, ℕ, ℤ, ◌≤◌, List, [], ◌∷◌, false, cond, Option, Some, None}
 use Rattle.std.specs.declared.cmp.Ordering.{Ordering}
 use Rattle.std.specs.Ordering.{nat_cmp, int_cmp, int_eq, ordering_then, is_gt}
 use Rattle.std.specs.Cmp.Lexicographic.{slice_cmp}
@@ -9,7 +9,7 @@ use Rattle.machine.specs.Received.{Component, Message, Begin, Continue, End, Abo
 use Rattle.machine.specs.Sent.{Cause, SentAbort, Out}
 use Rattle.machine.specs.Events.{Change, Event, Frame, Clock, Expire, Operator}
 use Rattle.machine.specs.State.{Transaction, Was, Invocation, Dialogue, State}
-use Rattle.machine.specs.Transactions.{transact, ContinueComes, CloseComes, Row, Fate, IsSent, ForIt, Unassigned, Nothing}
+use Rattle.machine.specs.Transactions.{transact, ContinueComes, Row, Fate, ForIt}
 use Rattle.machine.specs.Outcome.{send}
 use Rattle.machine.specs.Routing.{asked}
 
@@ -32,21 +32,25 @@ for_it None = None
 for_it (Some row) = if_for_it row.fate row.after
 
 abbrev pub continue_for : (from origin id : List ℕ) → List Component → Dialogue → Option Transaction → Turn
-continue_for from origin id components d None = Dismissed (send from (SentAbort origin (Cause unrecognized_transaction_id)))
-continue_for from origin id components d (Some t) = Continues id (record d { transaction = t }) components
+continue_for from origin id components dialogue None =
+    Dismissed (send from (SentAbort origin (Cause unrecognized_transaction_id)))
+continue_for from origin id components dialogue (Some t) =
+    Continues id (record dialogue { transaction = t }) components
 
 abbrev pub continue_at : (from origin id : List ℕ) → List Component → Option Dialogue → Turn
-continue_at from origin id components None = Dismissed (send from (SentAbort origin (Cause unrecognized_transaction_id)))
-continue_at from origin id components (Some d) =
-    continue_for from origin id components d (for_it (transact (Some d.transaction) (ContinueComes from origin)))
+continue_at from origin id components None =
+    Dismissed (send from (SentAbort origin (Cause unrecognized_transaction_id)))
+continue_at from origin id components (Some dialogue) =
+    continue_for from origin id components dialogue (for_it (transact (Some dialogue.transaction) (ContinueComes from origin)))
 
 abbrev pub close_at : List ℕ → Option Dialogue → Turn
 close_at id None = Dismissed []
-close_at id (Some d) = Closes id d
+close_at id (Some dialogue) = Closes id dialogue
 
 abbrev pub turn_of_message : (dialogues : List ℕ → Option Dialogue) → (from : List ℕ) → Message → Turn
 turn_of_message dialogues from (Begin origin name components) = Begins from origin name components
-turn_of_message dialogues from (Continue origin destination portion components) = continue_at from origin destination components (dialogues destination)
+turn_of_message dialogues from (Continue origin destination portion components) =
+    continue_at from origin destination components (dialogues destination)
 turn_of_message dialogues from (End destination portion components) = close_at destination (dialogues destination)
 turn_of_message dialogues from (Abort destination) = close_at destination (dialogues destination)
 
@@ -73,12 +77,16 @@ triple_cmp t i j t' i' j' = ordering_then (nat_cmp t t') (ordering_then (slice_c
 
 -- nothing that is due comes before this
 abbrev pub IsLeast : State → ℕ → (deadline : ℕ) → (id : List ℕ) → (invoke : ℤ) → Type 0
-IsLeast S n t i j = (i' : List ℕ) (d' : Dialogue) (j' : ℤ) (v' : Invocation) → IsDue S n i' d' j' v' → is_gt (triple_cmp t i j v'.deadline i' j') ≡ false
+IsLeast S n t i j =
+    (i' : List ℕ) (d' : Dialogue) (j' : ℤ) (v' : Invocation) → IsDue S n i' d' j' v'
+    → is_gt (triple_cmp t i j v'.deadline i' j') ≡ false
 
 -- An expiry is of the least that is due, or nothing is due.
 pub data Expiry (S : State) (n : ℕ) (turn : Turn) : Type 0 where
-  OneDue : (i : List ℕ) (d : Dialogue) (j : ℤ) (v : Invocation) → IsDue S n i d j v → IsLeast S n v.deadline i j → turn ≡ Expires i d j v.was → Expiry S n turn
-  NoneDue : ((i : List ℕ) (d : Dialogue) (j : ℤ) (v : Invocation) → IsDue S n i d j v → ⊥) → turn ≡ Dismissed [] → Expiry S n turn
+  OneDue : (i : List ℕ) (d : Dialogue) (j : ℤ) (v : Invocation) → IsDue S n i d j v → IsLeast S n v.deadline i j
+      → turn ≡ Expires i d j v.was → Expiry S n turn
+  NoneDue : ((i : List ℕ) (d : Dialogue) (j : ℤ) (v : Invocation) → IsDue S n i d j v → ⊥) → turn ≡ Dismissed []
+      → Expiry S n turn
 
 -- the event turns to this
 abbrev pub TurnsTo : State → Event → Turn → Type 0
@@ -92,14 +100,14 @@ abbrev pub concern : (directory : List ℕ → Option (List ℕ)) → Turn → O
 concern directory (Dismissed sent) = None
 concern directory (Ticks shard now) = None
 concern directory (Begins from origin name components) = asked directory components
-concern directory (Continues id d components) = Some d.subscriber
-concern directory (Closes id d) = Some d.subscriber
-concern directory (Expires id d invoke was) = Some d.subscriber
+concern directory (Continues id dialogue components) = Some dialogue.subscriber
+concern directory (Closes id dialogue) = Some dialogue.subscriber
+concern directory (Expires id dialogue invoke was) = Some dialogue.subscriber
 concern directory (Changes imsi change) = Some imsi
 
 -- the open dialogue that it is for
 abbrev pub named : Turn → Option (List ℕ)
-named (Continues id d components) = Some id
-named (Closes id d) = Some id
-named (Expires id d invoke was) = Some id
+named (Continues id dialogue components) = Some id
+named (Closes id dialogue) = Some id
+named (Expires id dialogue invoke was) = Some id
 named _ = None

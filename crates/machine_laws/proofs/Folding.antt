@@ -1,15 +1,12 @@
 -- What a fold over components needs: the effect of one more, from the table as it then stands.
-use Rattle.std.proofs.Common.{◌≡◌, ◌+◌, ℕ, ℤ, List, [], ◌∷◌, ◌++◌, Bool, true, false, cond, not, ◌&&◌, ◌||◌, refl, sym, ap, ◌∙◌, subst, Option, Some, None, is_some, append_assoc, append-nil, int_eq, int_cmp, is_eq, Ordering, Less, Equal, Greater}
-use Rattle.std.specs.FinMap.{int_cmp-IsAntisymmetric}
+use Rattle.std.proofs.Common.{◌≡◌, ◌+◌, ℕ, ℤ, List, [], ◌∷◌, ◌++◌, Bool, true, false, cond, not, ◌&&◌, ◌||◌, refl, sym, ap, ◌∙◌, subst, Option, Some, None, is_some, append_assoc, append-nil, int_eq}
 use Rattle.std.specs.Cmp.{int_eq_equiv}
-use Rattle.std.proofs.lemmas.Bool.{both_ways}
 use Rattle.machine.specs.Received.{Bad, ComponentOf, Ignored, Invoke, Reject, ResultLast, ResultNotLast, ReturnError}
 use Rattle.machine.specs.Keys.{Every}
 use Rattle.machine.specs.State.{Invocation, WaitForReject, is_sent}
 use Rattle.machine.specs.Effect.{Offer, any_failed, concluded, concluded_by, concludes, concluding, in_sent, invocations_after, is_failure, open_at, reject_of, rejects_after}
-use Rattle.machine.specs.Outcome.{ended}
 use Rattle.machine.specs.Numbers.{reject_timer}
-use Rattle.machine_laws.proofs.Rising.{int_is, IsMap, rising_map, every_one, every_concluded, every_after}
+use Rattle.machine_laws.proofs.Rising.{int_is, IsMap, every_one, every_concluded, every_after}
 
 pub not_in_sent : (j : ℤ) (vs : List Invocation) → Every (λ (u : Invocation). int_eq u.id j ≡ false) vs → in_sent j vs ≡ false
 not_in_sent j [] h = refl

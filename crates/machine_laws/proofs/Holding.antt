@@ -101,7 +101,7 @@ pub record Holds (S T : State) (e : Event) (a : Answer) (x : List ℕ) (began : 
   pub held : (w : List ℕ) → held_after x (is_subject x a.subject) (began_named began (names e)) a.sent (serving (S.records x)) w ≡ serving (T.records x) w
   pub right : BeganRight T (began_by began e a.id)
 
-ticked_records : (S : State) (turn : Turn) → (ticked turn S).records ≡ S.records
+pub ticked_records : (S : State) (turn : Turn) → (ticked turn S).records ≡ S.records
 ticked_records S (Dismissed out) = refl
 ticked_records S (Ticks n now) = refl
 ticked_records S (Begins from r p cs) = refl

@@ -14,7 +14,6 @@ use Rattle.machine.specs.Sound.{IsUpdateOf, Sound, SoundDialogue, SoundRecord}
 use Rattle.machine.specs.Parts.{Leaves, part}
 use Rattle.machine.specs.Outcome.{Outcome}
 use Rattle.machine.specs.Run.{Run}
-use Rattle.machine.specs.Dialogues.{ends}
 use Rattle.machine.specs.Holders.{is_subject, names}
 use Rattle.machine.specs.Routing.{route}
 use Rattle.machine_laws.proofs.Keys.{none_some, some_inj, put-other, put-at, cases_same, same_refl, not_same, same_is, is_same}

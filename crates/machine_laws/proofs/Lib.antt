@@ -18,6 +18,10 @@ pub mod Determined
 pub mod Refusing
 pub mod Ruling
 pub mod Tabled
+pub mod Bounding
+pub mod Within
+pub mod Starting
+pub mod Progress
 pub mod Opened
 pub mod Growing
 pub mod Openings

@@ -10,8 +10,6 @@ use Rattle.machine.specs.Sound.{IsUpdateOf, Sound, SoundDialogue, SoundRecord}
 use Rattle.machine.specs.Parts.{Leaves, part, union}
 use Rattle.machine.specs.Merges.{Merges}
 use Rattle.machine.specs.Run.{Run}
-use Rattle.machine.specs.Outcome.{ended}
-use Rattle.machine.specs.Dialogues.{ends}
 use Rattle.machine.specs.Routing.{route}
 use Rattle.machine_laws.proofs.Keys.{none_some}
 use Rattle.machine_laws.proofs.Counting.{every_to}

@@ -1,7 +1,6 @@
 -- One component moves one invocation by a row of its table, and no other.
 use Rattle.std.proofs.Common.{◌≡◌, ℕ, ℤ, List, [], ◌∷◌, ◌++◌, Bool, true, false, cond, ◌&&◌, refl, sym, ap, ◌∙◌, subst, ◌⊎◌, inl, inr, Option, Some, None, int_eq}
 use Rattle.std.specs.Cmp.{int_eq_equiv}
-use Rattle.std.proofs.lemmas.Bool.{both_ways}
 use Rattle.machine.specs.Received.{Bad, Code, ComponentOf, General, Ignored, Invoke, OfError, OfInvoke, OfResult, Reject, ResultLast, ResultNotLast, ReturnError, Side}
 use Rattle.machine.specs.Keys.{Every}
 use Rattle.machine.specs.Invocations.{Failed, GetsError, GetsReject, GetsResultLast, GetsResultNotLast, Happening, NoReply, Rejected, Reply, Standing, Succeeded, ends_it, invocation}
@@ -9,10 +8,9 @@ use Rattle.machine.specs.State.{Invocation, OperationSent, WaitForReject, Was, i
 use Rattle.machine.specs.Rows.{MovesByRow, happening, is_failed, rejected_by, standing_of}
 use Rattle.machine.specs.Effect.{Offer, any_failed, concluded, concluded_by, concludes, concluding, in_sent, invocations_after, is_failure, reject_answer, reject_of}
 use Rattle.machine.specs.Sent.{Rejection}
-use Rattle.machine.specs.Turns.{named}
 use Rattle.machine.specs.Transactions.{row}
 use Rattle.machine_laws.proofs.Keys.{none_some, some_inj}
-use Rattle.machine_laws.proofs.Rising.{int_is, IsMap, rising_map, every_one, every_concluded}
+use Rattle.machine_laws.proofs.Rising.{int_is, IsMap, every_one, every_concluded}
 
 abbrev first_standing : List Invocation → Standing
 first_standing [] = None

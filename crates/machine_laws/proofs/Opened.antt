@@ -1,12 +1,11 @@
 -- Which dialogue a step opens.
-use Rattle.std.proofs.Common.{◌≡◌, ℕ, List, Bool, true, false, refl, sym, ap, ◌∙◌, subst, ◌⊎◌, inl, inr, Option, Some, None, is_some, IsTrue}
-use Rattle.std.proofs.lemmas.Bool.{both_ways}
+use Rattle.std.proofs.Common.{◌≡◌, ℕ, List, refl, sym, ap, ◌∙◌, subst, Option, Some, None, is_some}
 use Rattle.machine.specs.Step.{Answer, Full, IsNewId, Step, Taken, moved, outcome_in, taken}
 use Rattle.machine.specs.State.{Dialogue, State}
 use Rattle.machine.specs.Events.{Event}
 use Rattle.machine.specs.Turns.{Turn, concern, named}
 use Rattle.machine.specs.Routing.{route}
-use Rattle.machine_laws.proofs.Keys.{none_some, some_inj, put-same}
+use Rattle.machine_laws.proofs.Keys.{none_some, some_inj}
 use Rattle.machine_laws.proofs.Views.{View, view, Idly, Ticking, Beginning, Continuing, Closing, Expiring, Changing}
 use Rattle.machine_laws.proofs.Soundness.{From, from, Opened, Stayed, Was_there}
 use Rattle.machine_laws.proofs.Naming.{ticked_there}

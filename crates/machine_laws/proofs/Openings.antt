@@ -1,5 +1,5 @@
 -- How the register begins.
-use Rattle.std.proofs.Common.{◌≡◌, ◌<◌, ℕ, List, [], refl, sym, ap, ◌∙◌, Option, Some, None}
+use Rattle.std.proofs.Common.{◌<◌, ℕ, List, [], refl, sym, Option}
 use Rattle.machine.specs.Opening.{AreLoaded, opening}
 use Rattle.machine.specs.Legal.{Legal}
 use Rattle.machine.specs.Sound.{Sound}

@@ -1,5 +1,5 @@
 -- What every outcome of a procedure has in common, case by case.
-use Rattle.std.proofs.Common.{◌≡◌, ◌+◌, ◌*◌, int_eq, take, drop, map, ℕ, ℤ, pos, List, [], ◌∷◌, ◌++◌, Bool, true, false, cond, not, ◌&&◌, ◌||◌, nat_lt, refl, sym, ap, ◌∙◌, subst, ◌⊎◌, inl, inr, Option, Some, None, IsTrue, is_some}
+use Rattle.std.proofs.Common.{◌≡◌, ◌+◌, ◌*◌, int_eq, take, drop, map, ℕ, ℤ, pos, List, [], ◌∷◌, ◌++◌, Bool, true, false, cond, ◌||◌, refl, sym, ap, ◌∙◌, subst, ◌⊎◌, inl, inr, Option, Some, None, IsTrue, is_some}
 use Rattle.std.proofs.lemmas.Bool.{and_parts, both_ways, not-true}
 use Rattle.std.specs.List.{list_any}
 use Rattle.machine.specs.Effect.{AreRising, Conclusion, Effect, GoesOn, HasFailed, HasSucceeded, conclusion_of, effect}

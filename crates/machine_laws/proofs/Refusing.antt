@@ -1,6 +1,6 @@
 -- What is refused in a full shard: an operator's change has no step, an update is turned away and tells it.
-use Rattle.std.proofs.Common.{◌≡◌, ℕ, ℤ, List, [], ◌∷◌, Bool, true, false, cond, ◌&&◌, refl, sym, ap, ◌∙◌, subst, Option, Some, None, is_some, IsTrue}
-use Rattle.std.proofs.lemmas.Bool.{both_ways, and_from}
+use Rattle.std.proofs.Common.{◌≡◌, ℕ, ℤ, List, [], ◌∷◌, Bool, true, false, cond, refl, sym, ap, ◌∙◌, subst, Option, Some, None, is_some, IsTrue}
+use Rattle.std.proofs.lemmas.Bool.{both_ways}
 use Rattle.machine.specs.Step.{Answer, Full, HasNoRoom, Moves, Step, Taken, TurnedAway, if_known, outcome_in, seen, subject_of}
 use Rattle.machine.specs.Received.{Argument, BadValue, Begin, Component, Purge, Read, Register, Route, Update}
 use Rattle.machine.specs.Begins.{Asker, answered, begins, begins_in, begins_named, begun, first_argument, procedure, purge, purge_at, update_begins}
@@ -13,7 +13,7 @@ use Rattle.machine.specs.Outcome.{Outcome, unchanged}
 use Rattle.machine.specs.Contexts.{accepted}
 use Rattle.machine.specs.Routing.{asked, named_in, route}
 use Rattle.machine.specs.Keys.{same, shard_of}
-use Rattle.machine_laws.proofs.Keys.{none_some, some_inj, same_refl}
+use Rattle.machine_laws.proofs.Keys.{some_inj}
 use Rattle.machine_laws.proofs.Views.{View, view, Idly, Ticking, Beginning, Continuing, Closing, Expiring, Changing}
 use Rattle.machine_laws.proofs.Determined.{free}
 
@@ -49,7 +49,7 @@ opens_first : (P : Type 0) (b : Bool) (o p : Outcome) → (IsTrue (is_some o.ope
 opens_first P true o p f g h = f h
 opens_first P false o p f g h = g h
 
-never : (P : Type 0) → IsTrue false → P
+pub never : (P : Type 0) → IsTrue false → P
 never P h = absurd (both_ways false refl h)
 
 module _ (L : Local) (new : List ℕ) where
@@ -108,7 +108,7 @@ record_known : (S : State) (n : ℕ) (x : List ℕ) → IsTrue (is_some (local_o
 unfolding local_of
 record_known S n x h = h
 
-known_is : (x : List ℕ) (r : Option Subscriber) → IsTrue (is_some r) → if_known x r ≡ Some x
+pub known_is : (x : List ℕ) (r : Option Subscriber) → IsTrue (is_some r) → if_known x r ≡ Some x
 known_is x None h = absurd (both_ways false refl h)
 known_is x (Some s) h = refl
 
@@ -129,8 +129,7 @@ away_is S e turn new T a turns t = go (asked S.directory t.components) refl
     go None q = absurd (nobody_known S (route S.directory e) (sight None q).known)
     go (Some x) q =
         let one : IsUpdateHere (seen S (route S.directory e) (Some x)) t.components = sight (Some x) q in
-        let is_x : one.imsi ≡ x = some_inj one.imsi x _ (ap (λ p. named_in S.directory p) one.argument) q in
-        (
+        let is_x : one.imsi ≡ x = some_inj one.imsi x _ (ap (λ p. named_in S.directory p) one.argument) q in (
           x,
           record {
             from = t.from;

@@ -1,7 +1,6 @@
 -- The invocations of a dialogue stay by rising ids.
-use Rattle.std.proofs.Common.{◌≡◌, ◌+◌, ◌<◌, ◌≤◌, ℕ, zero, suc, ℤ, pos, ◌<ℤ◌, List, [], ◌∷◌, ◌++◌, map, Bool, true, false, cond, refl, sym, ap, ◌∙◌, subst, Option, Some, None, arith, int_eq, int_cmp, is_eq, Ordering, Less, Equal, Greater}
+use Rattle.std.proofs.Common.{◌≡◌, ◌+◌, ◌<◌, ◌≤◌, ℕ, zero, suc, ℤ, pos, ◌<ℤ◌, List, [], ◌∷◌, ◌++◌, map, Bool, true, false, cond, refl, sym, ap, subst, Option, Some, None, arith, int_eq, int_cmp, is_eq, Ordering, Less, Equal, Greater}
 use Rattle.std.specs.FinMap.{int_cmp-IsAntisymmetric}
-use Rattle.std.specs.Cmp.{int_ranks}
 use Rattle.std.specs.Int.Signed.{<ℤ_irrefl}
 use Rattle.std.specs.Int.Signed.{lt_z_yes}
 use Rattle.std.proofs.Math.Facts.{yes_ltb}
@@ -11,7 +10,6 @@ use Rattle.machine.specs.Received.{Bad, ComponentOf, Ignored, Invoke, Reject, Re
 use Rattle.machine.specs.Keys.{Every}
 use Rattle.machine.specs.State.{Invocation, is_sent}
 use Rattle.machine.specs.Outcome.{below, further, inserts_invoked, invoked}
-use Rattle.machine.specs.Dialogues.{ends}
 use Rattle.machine.specs.Expiries.{without}
 
 pub int_is : (x y : ℤ) → int_eq x y ≡ true → x ≡ y
@@ -82,7 +80,7 @@ module _ {P : Type 0} where
       (λ u e. (every_after (λ i. u.id <ℤ i) now cs vs (subst (λ i. Every (λ (w : Invocation). i <ℤ w.id) vs) (sym e) h.0), rest))
 
 -- without one
-every_without : (Q : Invocation → Type 0) (j : ℤ) (vs : List Invocation) → Every Q vs → Every Q (without j vs)
+pub every_without : (Q : Invocation → Type 0) (j : ℤ) (vs : List Invocation) → Every Q vs → Every Q (without j vs)
 every_without Q j [] h = tt
 every_without Q j (v ∷ vs) h = by (int_eq v.id j) (every_without Q j vs h.1)
   where

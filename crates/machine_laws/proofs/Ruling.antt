@@ -1,7 +1,5 @@
 -- What the register does with transactions and invocations are rows of their tables, outcome by outcome.
-use Rattle.std.proofs.Common.{◌≡◌, ◌+◌, ℕ, ℤ, pos, List, [], ◌∷◌, ◌++◌, map, Bool, true, false, cond, not, ◌&&◌, nat_lt, refl, sym, ap, ◌∙◌, subst, append-nil, Option, Some, None, is_some, IsTrue, int_eq}
-use Rattle.std.specs.Cmp.{int_eq_equiv}
-use Rattle.std.proofs.lemmas.Bool.{both_ways}
+use Rattle.std.proofs.Common.{◌≡◌, ◌+◌, ℕ, ℤ, pos, List, [], ◌∷◌, ◌++◌, map, Bool, true, false, cond, refl, sym, ap, subst, append-nil, Option, Some, None}
 use Rattle.machine.specs.Tables.{AreInvoked, Does, DoesAnswer, DoesBegin, DoesClose, DoesContinue, DoesEnd, DoesNothing, transaction_of}
 use Rattle.machine.specs.Received.{Argument, BadValue, Component, Purge, Register, Route, Update}
 use Rattle.machine.specs.Begins.{Asker, answered, begins, begins_in, begins_named, begun, is_allowed, procedure, purge, purge_at, update_begins, update_opened}
@@ -16,10 +14,8 @@ use Rattle.machine.specs.Contexts.{accepted}
 use Rattle.machine.specs.Changes.{change_to, changes, codes_to, data_to, withdraw_from}
 use Rattle.machine.specs.Dialogues.{continues, continues_as, goes_on, other_continues, update_completes, update_continues, update_done, update_fails}
 use Rattle.machine.specs.Expiries.{expires, is_repeated, sent_expires, without}
-use Rattle.machine.specs.Turns.{named}
 use Rattle.machine.specs.Numbers.{roaming_not_allowed, unknown_subscriber}
 use Rattle.machine_laws.proofs.Keys.{none_some, some_inj}
-use Rattle.machine_laws.proofs.Rising.{int_is, every_join, IsMap, every_one}
 
 -- of an outcome, where the named dialogue's transaction stands so once the frame is received
 pub record Ruled (now : ℕ) (i : Option (List ℕ)) (received : Option Transaction) (new : List ℕ) (o : Outcome) : Type 0 where

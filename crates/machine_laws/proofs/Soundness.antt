@@ -6,7 +6,6 @@ use Rattle.machine.specs.State.{AreOpen, Dialogue, IsFull, IsIdOf, State, Subscr
 use Rattle.machine.specs.Sound.{IsUpdateOf, Sound, SoundDialogue, SoundRecord}
 use Rattle.machine.specs.Outcome.{Outcome}
 use Rattle.machine.specs.Step.{moved, named_stays, new_opens}
-use Rattle.machine.specs.Holders.{names}
 use Rattle.machine_laws.proofs.Keys.{none_some, some_inj, put-other, put-at, put_cases}
 use Rattle.machine_laws.proofs.Outcomes.{Good, Like, record_keeps}
 use Rattle.machine_laws.proofs.Counting.{less, every_less, different_less, length_less, none_less, every_with, every_to, every_take, different_take}

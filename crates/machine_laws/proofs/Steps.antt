@@ -1,5 +1,5 @@
 -- Steps keep sound states sound, and leave each open dialogue that the event does not name.
-use Rattle.std.proofs.Common.{◌≡◌, ◌<◌, ℕ, List, cond, refl, sym, ap, ◌∙◌, subst, arith, Option, Some, None, is_some, IsTrue, eq-eqb, lt-ltb}
+use Rattle.std.proofs.Common.{◌≡◌, ◌<◌, ℕ, List, cond, refl, sym, ap, ◌∙◌, subst, arith, Option, Some, None, is_some, eq-eqb, lt-ltb}
 use Rattle.std.proofs.lemmas.Bool.{and_from}
 use Rattle.machine.specs.Step.{Answer, Full, Moves, Step, Taken, moved, outcome, outcome_in, seen, ticked}
 use Rattle.machine.specs.Effect.{AreRising}
@@ -8,7 +8,7 @@ use Rattle.machine.specs.State.{Dialogue, IsIdOf, State, local_of}
 use Rattle.machine.specs.Events.{Event}
 use Rattle.machine.specs.Outcome.{Outcome}
 use Rattle.machine.specs.Sound.{Sound}
-use Rattle.machine.specs.Holders.{names, vlr_of, vlr_of_kind}
+use Rattle.machine.specs.Holders.{vlr_of, vlr_of_kind}
 use Rattle.machine.specs.Routing.{route, shard_asked, shard_named}
 use Rattle.machine.specs.Keys.{shard_of, shard_of_id}
 use Rattle.machine_laws.proofs.Keys.{none_some, some_inj}

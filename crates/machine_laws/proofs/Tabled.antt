@@ -1,7 +1,5 @@
 -- Every step moves transactions and invocations by rows of their tables.
-use Rattle.std.proofs.Common.{◌≡◌, ℕ, ℤ, List, [], ◌∷◌, ◌++◌, Bool, true, false, cond, refl, sym, ap, ◌∙◌, subst, Option, Some, None, is_some, IsTrue, int_eq}
-use Rattle.std.specs.Cmp.{int_eq_equiv}
-use Rattle.std.proofs.lemmas.Bool.{both_ways}
+use Rattle.std.proofs.Common.{◌≡◌, ℕ, ℤ, List, [], ◌∷◌, Bool, true, false, cond, refl, sym, ap, ◌∙◌, subst, Option, Some, None, is_some, IsTrue, int_eq}
 use Rattle.machine.specs.Step.{Answer, Full, Moves, Step, Taken, moved, named_stays, new_opens, outcome, outcome_in, seen, taken, ticked}
 use Rattle.machine.specs.Turns.{Begins, Changes, Closes, Continues, Dismissed, Expires, IsDue, IsLeast, OneDue, Ticks, Turn, TurnsTo, close_at, concern, continue_at, continue_for, for_it, invocation_of, named}
 use Rattle.machine.specs.State.{Cancels, Data, Dialogue, Invocation, Kind, Local, OperationSent, State, Subscriber, Transaction, Updates, WaitForReject, Was, local_of, local_of_nobody}
@@ -13,16 +11,16 @@ use Rattle.machine.specs.Effect.{Conclusion, GoesOn, HasFailed, HasSucceeded, ef
 use Rattle.machine.specs.Events.{Event, Expire, Frame}
 use Rattle.machine.specs.Keys.{Every, put, same}
 use Rattle.machine.specs.Invocations.{NoReply, TimesOut, invocation}
-use Rattle.machine.specs.Outcome.{Outcome, ended, invoked, is_marked, send}
+use Rattle.machine.specs.Outcome.{Outcome, ended, is_marked, send}
 use Rattle.machine.specs.Sound.{Sound}
 use Rattle.machine.specs.Dialogues.{closes, continues, continues_as, goes_on, offer_to, other_continues, update_completes, update_continues, update_done, update_fails}
 use Rattle.machine.specs.Expiries.{expires, sent_expires, without}
 use Rattle.machine.specs.Routing.{route, shard_named}
 use Rattle.machine.specs.Rows.{standing_of}
 use Rattle.machine.specs.Numbers.{unrecognized_transaction_id}
-use Rattle.machine_laws.proofs.Keys.{none_some, some_inj, put-same, put-other}
+use Rattle.machine_laws.proofs.Keys.{none_some, some_inj, put-same}
 use Rattle.machine_laws.proofs.Rising.{int_is, IsMap, rising_map, every_one}
-use Rattle.machine_laws.proofs.Views.{View, view, Idly, Ticking, Beginning, Continuing, Closing, Expiring, Changing}
+use Rattle.machine_laws.proofs.Views.{view}
 use Rattle.machine_laws.proofs.Soundness.{opens_other}
 use Rattle.machine_laws.proofs.Naming.{ticked_there}
 use Rattle.machine_laws.proofs.Determined.{expiry_one}

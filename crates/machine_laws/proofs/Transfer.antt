@@ -8,7 +8,6 @@ use Rattle.machine.specs.Parts.{Leaves}
 use Rattle.machine.specs.Outcome.{Outcome}
 use Rattle.machine.specs.Sound.{Sound}
 use Rattle.machine.specs.Turns.{Turn, TurnsTo, concern, named}
-use Rattle.machine.specs.Begins.{begins}
 use Rattle.machine.specs.Keys.{put, put_at, same, shard_of, shard_of_id}
 use Rattle.machine.specs.Routing.{route}
 use Rattle.machine_laws.proofs.Keys.{put-other}

@@ -1,5 +1,5 @@
 -- An entry with a subject sends an Abort with cause 4 only where an update met a full shard.
-use Rattle.std.proofs.Common.{◌≡◌, ℕ, ℤ, List, [], ◌∷◌, ◌++◌, Bool, true, false, cond, not, ◌&&◌, nat_lt, refl, sym, ap, ◌∙◌, subst, Option, Some, None}
+use Rattle.std.proofs.Common.{◌≡◌, ℕ, ℤ, List, [], ◌∷◌, ◌++◌, Bool, true, false, cond, ◌&&◌, refl, sym, ap, ◌∙◌, subst, Option, Some, None}
 use Rattle.std.proofs.lemmas.Bool.{both_ways, and_parts}
 use Rattle.machine.specs.Step.{Answer, Full, Step, Taken, outcome, seen, subject_of}
 use Rattle.machine.specs.Received.{Argument, BadValue, Component, Purge, Register, Route, Update}

@@ -1,10 +1,10 @@
 -- The union of parts is one whole state.
-use Rattle.std.proofs.Common.{◌≡◌, ◌<◌, ◌≤◌, ℕ, List, refl, sym, ap, ◌∙◌}
+use Rattle.std.proofs.Common.{◌≡◌, ◌<◌, ◌≤◌, ℕ, sym, ◌∙◌}
 use Rattle.machine.specs.Sound.{Sound}
 use Rattle.machine.specs.State.{State}
 use Rattle.machine.specs.Parts.{part, union}
-use Rattle.machine_laws.proofs.Parts.{AgreeOn, agree_sym}
-use Rattle.machine_laws.proofs.Merging.{Goes, goes_union, union_goes, part_alike, part_agrees, part_sound}
+use Rattle.machine_laws.proofs.Parts.{agree_sym}
+use Rattle.machine_laws.proofs.Merging.{goes_union, union_goes, part_alike, part_agrees, part_sound}
 
 pub union_of_parts : (S : State) → Sound S → ((n : ℕ) → 16 ≤ n → S.clocks n ≡ 0) → union (part S) ≡ S
 union_of_parts S sound late = sym (goes_union S (part S) (record {

@@ -2,7 +2,6 @@
 -- the new id.
 use Rattle.std.specs.Prelude.{ℕ, ℤ, List, [], Option, Some, None}
 use Rattle.machine.specs.Received.{Message}
-use Rattle.machine.specs.Sent.{Out}
 use Rattle.machine.specs.Events.{Change}
 use Rattle.machine.specs.State.{Invocation, Dialogue, State}
 use Rattle.machine.specs.Routing.{route_message}

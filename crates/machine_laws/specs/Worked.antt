@@ -1,5 +1,5 @@
 -- The subscribers and the messages of the worked examples.
-use Rattle.std.specs.Prelude.{ℕ, ◌-◌, ℤ, pos, List, [], ◌∷◌, map, true, false, cond, Option, Some, None, codes}
+use Rattle.std.specs.Prelude.{ℕ, ◌-◌, ℤ, pos, List, [], ◌∷◌, map, false, cond, Option, Some, None, codes}
 use Rattle.machine.specs.Keys.{same}
 use Rattle.machine.specs.Numbers.{update_location, purge_ms, send_routing_info_for_sm}
 use Rattle.machine.specs.Received.{Register, Update, Purge, Route, Typed, Number, Component, Invoke, ResultLast, Message, Begin, Continue}
@@ -38,7 +38,8 @@ at_b = record { vlr = vlr_b; msc = digits (codes "447700900002"); lmsi = None }
 abbrev pub at_c : Register
 at_c = record { vlr = vlr_c; msc = digits (codes "447700900003"); lmsi = None }
 
--- four subscribers: the first is served by A, the third may roam only where numbers begin with 4478
+-- five subscribers: the first is served by A, the third may roam only where numbers begin with 4478; the fifth is of the
+-- same shard as the first
 
 abbrev pub first_imsi : List ℕ
 first_imsi = digits (codes "234150000000001")
@@ -52,6 +53,9 @@ third_imsi = digits (codes "234150000000003")
 abbrev pub fourth_imsi : List ℕ
 fourth_imsi = digits (codes "234150000000004")
 
+abbrev pub fifth_imsi : List ℕ
+fifth_imsi = digits (codes "234150000000017")
+
 abbrev pub first_msisdn : List ℕ
 first_msisdn = digits (codes "447700900000")
 
@@ -63,6 +67,9 @@ third_msisdn = digits (codes "447700900203")
 
 abbrev pub fourth_msisdn : List ℕ
 fourth_msisdn = digits (codes "447700900204")
+
+abbrev pub fifth_msisdn : List ℕ
+fifth_msisdn = digits (codes "447700900217")
 
 abbrev pub nine_codes : List ℕ
 nine_codes = 0x11 ∷ 0x12 ∷ 0x20 ∷ 0x21 ∷ 0x22 ∷ 0x61 ∷ 0x62 ∷ 0x91 ∷ 0x92 ∷ []
@@ -90,19 +97,24 @@ third_record = subscriber third_msisdn (0x21 ∷ []) (Some (digits (codes "4478"
 abbrev pub fourth_record : Subscriber
 fourth_record = subscriber fourth_msisdn (0x11 ∷ []) None None
 
+abbrev pub fifth_record : Subscriber
+fifth_record = subscriber fifth_msisdn (0x11 ∷ []) None None
+
 abbrev pub records : List ℕ → Option Subscriber
 records imsi =
     cond (same imsi first_imsi) (Some first_record)
     (cond (same imsi second_imsi) (Some second_record)
     (cond (same imsi third_imsi) (Some third_record)
-    (cond (same imsi fourth_imsi) (Some fourth_record) None)))
+    (cond (same imsi fourth_imsi) (Some fourth_record)
+    (cond (same imsi fifth_imsi) (Some fifth_record) None))))
 
 abbrev pub directory : List ℕ → Option (List ℕ)
 directory msisdn =
     cond (same msisdn first_msisdn) (Some first_imsi)
     (cond (same msisdn second_msisdn) (Some second_imsi)
     (cond (same msisdn third_msisdn) (Some third_imsi)
-    (cond (same msisdn fourth_msisdn) (Some fourth_imsi) None)))
+    (cond (same msisdn fourth_msisdn) (Some fourth_imsi)
+    (cond (same msisdn fifth_msisdn) (Some fifth_imsi) None))))
 
 abbrev pub start : State
 start = opening records directory hlr

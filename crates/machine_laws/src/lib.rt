@@ -4,29 +4,31 @@
 
 pub mod examples;
 
-ghost use Rattle.std.specs.Prelude.{◌≡◌, ℕ, ℤ, Option, None, ◌<◌, ◌≤◌, List, [], ◌∷◌, ◌++◌, ◌&&◌, ◌||◌, true, false, length};
+ghost use Rattle.std.specs.Prelude.{◌≡◌, ℕ, ℤ, Option, None, ◌<◌, ◌≤◌, List, [], ◌∷◌, ◌++◌, ◌&&◌, ◌||◌, ◌⊎◌, true, false, length};
 ghost use Rattle.machine.specs.Received.{Abort, Component, ComponentOf, Continue, End, Read, Register, Response};
 ghost use Rattle.machine.specs.Isolation.{AgreeOf, MetFullShard, NoneTurnedAway, SameAfter, SameOf, is_of, is_turned_away, only_of, own};
-ghost use Rattle.machine.specs.Step.{Answer, HasNoRoom, IsNewId, Step, TurnedAway, outcome_in, taken};
+ghost use Rattle.machine.specs.Step.{Answer, HasNoRoom, IsNewId, Step, TurnedAway, outcome_in, subject_of};
+ghost use Rattle.machine.specs.Bounds.{AnswerInBounds, AreDigits, ComponentsInBounds, EventInBounds, RecordInBounds, StartsOfOperation, StateInBounds};
 ghost use Rattle.machine.specs.Opening.{AreLoaded, opening};
-ghost use Rattle.machine.specs.Effect.{AreRising, Offer, any_failed, in_sent, invocations_after, open_at, reject_of, rejects_after, starts};
+ghost use Rattle.machine.specs.Effect.{AreRising, Offer, any_failed, effect, in_sent, invocations_after, open_at, reject_of, rejects_after, starts};
 ghost use Rattle.machine.specs.Chains.{Chain, Epoch, first_base, joined};
 ghost use Rattle.machine.specs.Tables.{CloseMoves, ContinueMoves, ExpiryMoves, OpeningMoves};
+ghost use Rattle.machine.specs.Sent.{Context};
 ghost use Rattle.machine.specs.State.{Dialogue, Invocation, IsFull, State, Subscriber, Updates};
 ghost use Rattle.machine.specs.Legal.{Entry, Legal, answers_of, events_of};
 ghost use Rattle.machine.specs.Events.{Event, Expire, Frame};
+ghost use Rattle.machine.specs.Keys.{Every, IsIn, put_at, shard_of_id};
 ghost use Rattle.machine.specs.Invocations.{Happening};
 ghost use Rattle.machine.specs.Turns.{IsDue, IsLeast, Turn, TurnsTo};
-ghost use Rattle.machine.specs.Keys.{IsIn, put_at, shard_of_id};
 ghost use Rattle.machine.specs.Holders.{IsNamed, began_from, began_in, holders, is_subject, serving};
 ghost use Rattle.machine.specs.Parts.{Leaves, part, union};
 ghost use Rattle.machine.specs.Merges.{Merges};
 ghost use Rattle.machine.specs.Rows.{MovesByRow, happening, standing_of};
 ghost use Rattle.machine.specs.Run.{Run};
 ghost use Rattle.machine.specs.Sound.{Sound};
-ghost use Rattle.machine.specs.Dialogues.{continues, ends};
-ghost use Rattle.machine.specs.Expiries.{expires};
 ghost use Rattle.machine.specs.Numbers.{most_dialogues, shards};
+ghost use Rattle.machine.specs.Begins.{offer_in};
+ghost use Rattle.machine_laws.specs.Play.{play};
 ghost use Rattle.machine.specs.Routing.{route};
 
 // Sound states
@@ -75,10 +77,28 @@ pub fn opened_dialogues_are_new()
         → Step S e T a → a.id ≡ Some i → IsNewId S (route S.directory e) i }
 {}
 
+/// In a sound state the subscriber of an open dialogue has a record, so it is the subject of each step of the dialogue.
+pub fn dialogues_have_subjects()
+    ensures { (S : State) (i : List ℕ) (d : Dialogue)
+        → Sound S → S.dialogues i ≡ Some d → subject_of S (Some d.subscriber) ≡ Some d.subscriber }
+{}
+
+/// In a sound state each event has a step, but for an operator's change that would overflow its shard.
+pub fn events_have_steps()
+    ensures { (S : State) (e : Event) → Sound S → ((T : State) × (a : Answer) × Step S e T a) ⊎ HasNoRoom S e }
+{}
+
 /// The id that is taken is a step's only free choice.
 pub fn ids_are_the_only_choice()
     ensures { (S : State) (e : Event) (T U : State) (a b : Answer)
         → Step S e T a → Step S e U b → a.id ≡ b.id → (T ≡ U) × (a ≡ b) }
+{}
+
+/// What the worked examples compute is a step, where there is room and the new id is one.
+pub fn played_turns_are_steps()
+    ensures { (S : State) (e : Event) (turn : Turn) (new : List ℕ)
+        → TurnsTo S e turn → IsNewId S (route S.directory e) new → (IsFull S (route S.directory e) → ⊥)
+        → Step S e (play S (route S.directory e) turn new).state (play S (route S.directory e) turn new).answer }
 {}
 
 /// An operator's change that would overflow its shard has no step.
@@ -141,6 +161,30 @@ pub fn components_come_one_by_one<P>()
         → AreRising vs → open_at vs cs j ≡ in_sent j (invocations_after now cs vs) }
     ensures rising { (now : ℕ) (cs : List (ComponentOf P)) (vs : List Invocation)
         → AreRising vs → AreRising (invocations_after now cs vs) }
+{}
+
+// Bounds
+
+/// Where the values of a state and of what comes are within their bounds, so are those of the state after a step and of its
+/// answer, and along every run. What is loaded begins so; a part is so where the whole is, and the whole where the parts are.
+pub fn steps_stay_in_bounds()
+    ensures step { (S : State) (e : Event) (T : State) (a : Answer)
+        → StateInBounds S → EventInBounds e → Step S e T a → StateInBounds T × AnswerInBounds a }
+    ensures run { (S : State) (events : List Event) (T : State) (answers : List Answer)
+        → StateInBounds S → Every EventInBounds events → Run S events T answers → StateInBounds T × Every AnswerInBounds answers }
+    ensures opening_state { (records : List ℕ → Option Subscriber) (directory : List ℕ → Option (List ℕ)) (hlr : List ℕ)
+        → ((x : List ℕ) (s : Subscriber) → records x ≡ Some s → AreDigits x × RecordInBounds s) → AreDigits hlr
+        → StateInBounds (opening records directory hlr) }
+    ensures parts { (S : State) (n : ℕ) → StateInBounds S → StateInBounds (part S n) }
+    ensures unions { (states : ℕ → State) → ((n : ℕ) → n < shards → StateInBounds (states n)) → StateInBounds (union states) }
+{}
+
+/// What a Begin starts in a context has an argument, and it is of the operation that a peer may invoke there.
+pub fn what_starts_is_of_its_context()
+    ensures { (now : ℕ) (context : Context) (vs : List Invocation) (components : List Component) (invoke : ℤ)
+        → ComponentsInBounds components
+        → (effect now (offer_in context components) vs components).started ≡ Some invoke
+        → StartsOfOperation context components }
 {}
 
 // Who holds a subscriber

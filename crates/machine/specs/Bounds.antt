@@ -1,0 +1,180 @@
+-- How long and how great values are, in what is loaded, received and sent (profile; TS 29.002, Q.773). Steps keep it, so
+-- that what is sent can be spelt.
+use Rattle.std.specs.Prelude.{◌≡◌, ◌≢◌, ℕ, ℤ, ◌<◌, ◌≤◌, List, [], ◌∷◌, length, FitsSigned, Option, Some, None, is_some, IsTrue}
+use Rattle.std.specs.Int.{w8}
+use Rattle.machine.specs.Keys.{Every}
+use Rattle.machine.specs.Numbers.{update_location, purge_ms, send_routing_info_for_sm, shards, most_attempts, codes_in_insert, latest_clock}
+use Rattle.machine.specs.Received.{Register, Argument, BadValue, Update, Purge, Route, Parameter, Typed, Code, Number, Component, Invoke, ResultLast, ResultNotLast, ReturnError, Bad, Message, Begin, Continue, Verdict, Discard, Refuse, Read}
+use Rattle.machine.specs.Sent.{Context, Rejection, SentComponent, Insert, Cancel, UpdateResult, PurgeResult, RouteResult, SentError, Why, Refusing, SentMessage, SentBegin, SentContinue, SentEnd, SentAbort, Out}
+use Rattle.machine.specs.Events.{Change, Codes, Withdraw, Event, Frame, Clock, Expire, Operator}
+use Rattle.machine.specs.State.{Subscriber, Transaction, Invocation, Kind, Updates, Cancels, Data, Dialogue, State}
+use Rattle.machine.specs.Contexts.{operation_of}
+use Rattle.machine.specs.Begins.{first_argument}
+use Rattle.machine.specs.Step.{Answer}
+
+-- values
+
+abbrev pub IfThere : {X : Type 0} → (X → Type 0) → Option X → Type 0
+IfThere P None = Unit {0}
+IfThere P (Some x) = P x
+
+-- at most sixteen digits 0 to 9
+abbrev pub AreDigits : List ℕ → Type 0
+AreDigits digits = Every (λ d. d < 10) digits × (length digits ≤ 16)
+
+abbrev pub AreOctets : List ℕ → Type 0
+AreOctets octets = Every (λ o. o < 256) octets
+
+-- one to four octets
+pub record IsTransactionId (id : List ℕ) : Type 0 where
+  pub octets : AreOctets id
+  pub some : 0 < length id
+  pub most : length id ≤ 4
+
+-- from -128 to 127
+abbrev pub IsInvokeId : ℤ → Type 0
+IsInvokeId id = FitsSigned w8 id
+
+-- the name of an application context: at most 32 octets
+abbrev pub IsName : List ℕ → Type 0
+IsName name = AreOctets name × (length name ≤ 32)
+
+abbrev pub AreDistinct : List ℕ → Type 0
+AreDistinct [] = Unit {0}
+AreDistinct (c ∷ cs) = Every (λ d. c ≢ d) cs × AreDistinct cs
+
+-- a subscriber's teleservice codes: at most 32 different octets
+pub record AreCodes (codes : List ℕ) : Type 0 where
+  pub octets : AreOctets codes
+  pub different : AreDistinct codes
+  pub most : length codes ≤ 32
+
+pub record IsRegister (register : Register) : Type 0 where
+  pub vlr : AreDigits register.vlr
+  pub msc : AreDigits register.msc
+  pub lmsi : IfThere (λ lmsi. AreOctets lmsi × (length lmsi ≡ 4)) register.lmsi
+
+-- states
+
+pub record RecordInBounds (s : Subscriber) : Type 0 where
+  pub msisdn : AreDigits s.msisdn
+  pub codes : AreCodes s.codes
+  pub roam : IfThere (λ prefixes. Every AreDigits prefixes × (length prefixes ≤ 8)) s.roam
+  pub register : IfThere IsRegister s.register
+
+-- An update is Active from its beginning.
+abbrev pub KindInBounds : Kind → Transaction → Type 0
+KindInBounds (Updates register invoke) t = IsRegister register × IsInvokeId invoke × IsTrue (is_some t.remote)
+KindInBounds (Cancels vlr attempt cause) t = AreDigits vlr × (0 < attempt) × (attempt ≤ most_attempts)
+KindInBounds Data t = Unit {0}
+
+pub record DialogueInBounds (d : Dialogue) : Type 0 where
+  pub subscriber : AreDigits d.subscriber
+  pub peer : AreDigits d.transaction.peer
+  pub remote : IfThere IsTransactionId d.transaction.remote
+  pub invocations : Every (λ (v : Invocation). IsInvokeId v.id) d.invocations
+  pub kind : KindInBounds d.kind d.transaction
+
+pub record StateInBounds (S : State) : Type 0 where
+  pub records : (x : List ℕ) (s : Subscriber) → S.records x ≡ Some s → AreDigits x × RecordInBounds s
+  pub dialogues : (i : List ℕ) (d : Dialogue) → S.dialogues i ≡ Some d → IsTransactionId i × DialogueInBounds d
+  pub clocks : (n : ℕ) → S.clocks n ≤ latest_clock
+  pub no_more : (n : ℕ) → shards ≤ n → S.clocks n ≡ 0
+  pub hlr : AreDigits S.hlr
+
+-- events
+
+-- An argument is of the operation that it came with.
+abbrev pub IsOfOperation : Code → Argument → Type 0
+IsOfOperation (Number operation) (Update imsi register) = operation ≡ update_location
+IsOfOperation (Number operation) (Purge imsi vlr) = operation ≡ purge_ms
+IsOfOperation (Number operation) (Route msisdn) = operation ≡ send_routing_info_for_sm
+IsOfOperation (Number operation) BadValue = Unit {0}
+IsOfOperation _ argument = ⊥
+
+abbrev pub ArgumentInBounds : Argument → Type 0
+ArgumentInBounds BadValue = Unit {0}
+ArgumentInBounds (Update imsi register) = AreDigits imsi × IsRegister register
+ArgumentInBounds (Purge imsi vlr) = AreDigits imsi × IfThere AreDigits vlr
+ArgumentInBounds (Route msisdn) = AreDigits msisdn
+
+abbrev pub ParameterInBounds : Code → Option Parameter → Type 0
+ParameterInBounds operation (Some (Typed argument)) = ArgumentInBounds argument × IsOfOperation operation argument
+ParameterInBounds operation _ = Unit {0}
+
+abbrev pub ComponentInBounds : Component → Type 0
+ComponentInBounds (Invoke id linked operation parameter) = IsInvokeId id × ParameterInBounds operation parameter
+ComponentInBounds (ResultLast id) = IsInvokeId id
+ComponentInBounds (ResultNotLast id) = IsInvokeId id
+ComponentInBounds (ReturnError id error) = IsInvokeId id
+ComponentInBounds (Bad id problem) = IfThere IsInvokeId id
+ComponentInBounds _ = Unit {0}
+
+abbrev pub ComponentsInBounds : List Component → Type 0
+ComponentsInBounds components = Every ComponentInBounds components × (length components ≤ 16)
+
+abbrev pub MessageInBounds : Message → Type 0
+MessageInBounds (Begin origin name components) =
+    IsTransactionId origin × IfThere IsName name × ComponentsInBounds components
+MessageInBounds (Continue origin destination portion components) = IsTransactionId origin × ComponentsInBounds components
+MessageInBounds _ = Unit {0}
+
+abbrev pub VerdictInBounds : Verdict → Type 0
+VerdictInBounds Discard = Unit {0}
+VerdictInBounds (Refuse origin cause) = IsTransactionId origin
+VerdictInBounds (Read message) = MessageInBounds message
+
+abbrev pub ChangeInBounds : Change → Type 0
+ChangeInBounds (Codes codes) = AreCodes codes
+ChangeInBounds Withdraw = Unit {0}
+
+abbrev pub EventInBounds : Event → Type 0
+EventInBounds (Frame from verdict) = AreDigits from × VerdictInBounds verdict
+EventInBounds (Clock shard now) = shard < shards
+EventInBounds (Expire shard) = shard < shards
+EventInBounds (Operator imsi change) = ChangeInBounds change
+
+-- answers
+
+abbrev pub SentComponentInBounds : SentComponent → Type 0
+SentComponentInBounds (Insert id imsi msisdn codes) =
+    IsInvokeId id × IfThere AreDigits imsi × IfThere AreDigits msisdn × AreOctets codes × (length codes ≤ codes_in_insert)
+SentComponentInBounds (Cancel id imsi cause) = IsInvokeId id × AreDigits imsi
+SentComponentInBounds (UpdateResult id hlr) = IsInvokeId id × AreDigits hlr
+SentComponentInBounds (PurgeResult id freeze) = IsInvokeId id
+SentComponentInBounds (RouteResult id imsi msc lmsi) =
+    IsInvokeId id × AreDigits imsi × AreDigits msc × IfThere (λ lmsi. AreOctets lmsi × (length lmsi ≡ 4)) lmsi
+SentComponentInBounds (SentError id code) = IsInvokeId id
+
+-- at most four of a procedure's own components, and at most sixteen Rejects
+abbrev pub OwnInBounds : List SentComponent → Type 0
+OwnInBounds components = Every SentComponentInBounds components × (length components ≤ 4)
+
+abbrev pub RejectsInBounds : List Rejection → Type 0
+RejectsInBounds rejects = Every (λ (r : Rejection). IfThere IsInvokeId r.id) rejects × (length rejects ≤ 16)
+
+abbrev pub WhyInBounds : Why → Type 0
+WhyInBounds (Refusing name) = IsName name
+WhyInBounds _ = Unit {0}
+
+abbrev pub SentInBounds : SentMessage → Type 0
+SentInBounds (SentBegin origin context components) = IsTransactionId origin × OwnInBounds components
+SentInBounds (SentContinue origin destination context rejects components) =
+    IsTransactionId origin × IsTransactionId destination × RejectsInBounds rejects × OwnInBounds components
+SentInBounds (SentEnd destination context rejects components) =
+    IsTransactionId destination × RejectsInBounds rejects × OwnInBounds components
+SentInBounds (SentAbort destination why) = IsTransactionId destination × WhyInBounds why
+
+abbrev pub OutInBounds : Out → Type 0
+OutInBounds out = AreDigits out.to × SentInBounds out.message
+
+abbrev pub AnswerInBounds : Answer → Type 0
+AnswerInBounds a = Every OutInBounds a.sent
+
+-- The first component has an argument, of the operation that a peer may invoke in the context.
+pub record StartsOfOperation (context : Context) (components : List Component) : Type 0 where
+  pub operation : ℕ
+  pub argument : Argument
+  pub of_context : operation_of context ≡ Some operation
+  pub is_first : first_argument components ≡ Some argument
+  pub of_operation : IsOfOperation (Number operation) argument
