@@ -1,5 +1,9 @@
 //! Known octets, texts and orders.
 
+ghost use Rattle.std.specs.Prelude.{◌≡◌, true, bytes_eq};
+ghost use Rattle.std.specs.BTreeMap as tree;
+ghost use Rattle.hlr_types.specs.Orders.{octets_cmp};
+
 use crate::{
     Digits, Imsi, IsdnAddress, Lmsi, Peer, Register, RemoteId, ShortList, TbcdFault, Tid,
     tbcd_read, tbcd_write,
@@ -175,6 +179,54 @@ fn texts(rt: HostRuntime) -> Result<(), Fail> {
         None,
         "seventeen digits"
     );
+    Ok(())
+}
+
+/// Identities are compared, and looked up, as their lists are.
+fn same_imsi(left: &Imsi, right: &Imsi) -> bool
+    ensures { result ≡ bytes_eq left.now right.now }
+{
+    left == right
+}
+
+fn same_register(left: &Register, right: &Register) -> bool
+    ensures { result ≡ true → bytes_eq left.now.vlr right.now.vlr ≡ true }
+{
+    left == right
+}
+
+fn value_of(map: &BTreeMap<Imsi, u8>, imsi: &Imsi) -> Option<u8>
+    ensures { result ≡ tree.get octets_cmp map.now imsi.now }
+{
+    map.get(imsi).copied()
+}
+
+fn value_at(map: &BTreeMap<Tid, u8>, id: &Tid) -> Option<u8>
+    ensures { result ≡ tree.get octets_cmp map.now id.now }
+{
+    map.get(id).copied()
+}
+
+#[test]
+fn keys(rt: HostRuntime) -> Result<(), Fail> {
+    let mut subscribers = BTreeMap::new(rt.alloc());
+    subscribers.insert(imsi("12345")?, 7)?;
+    assert_eq!(rt; value_of(&subscribers, &imsi("12345")?), Some(7));
+    assert_eq!(rt; value_of(&subscribers, &imsi("012345")?), None, "leading zeros count");
+    let mut ids = BTreeMap::new(rt.alloc());
+    ids.insert(Tid([0, 0, 0, 1]), 8)?;
+    assert_eq!(rt; value_at(&ids, &Tid([0, 0, 0, 1])), Some(8));
+    assert!(rt; same_imsi(&imsi("12345")?, &imsi("12345")?));
+    let here = Register {
+        vlr: address("1")?,
+        msc: address("2")?,
+        lmsi: None,
+    };
+    let there = Register {
+        vlr: address("3")?,
+        ..here
+    };
+    assert!(rt; !same_register(&here, &there));
     Ok(())
 }
 

@@ -1,0 +1,5 @@
+use Rattle.frames_laws.proofs.Computed as laws
+use Rattle.frames_laws.proofs.examples.refused_updates.Goals as goal
+
+pub returns : goal.returns
+returns c = laws.refused_updates

@@ -1,0 +1,5 @@
+use Rattle.frames_laws.proofs.Laws as laws
+use Rattle.frames_laws.proofs.one_verdict.Goals as goal
+
+pub returns : goal.returns
+returns c = laws.one_verdict

@@ -1,0 +1,4 @@
+pub mod Laws
+pub mod JournalLaws
+pub mod Written
+pub mod Examples

@@ -1,0 +1,38 @@
+//! The laws of journals of octets.
+
+ghost use Rattle.frames_laws.specs.JournalLaws.{OneJournal, HoldersAreServing, OwnEntriesAreLegal, JournalsGrow, ChainsAreJournals, MergesAreRuns, RunsStayInBounds};
+
+/// A journal of octets spells one journal of messages, and from one base it leads to one state.
+pub fn one_journal()
+    ensures { OneJournal }
+{}
+
+/// Exactly the serving register, or none, holds each subscriber, as the octets of the journal tell.
+pub fn holders_are_serving()
+    ensures { HoldersAreServing }
+{}
+
+/// The entries of one subscriber are a legal journal from the state as this subscriber has it alone.
+pub fn own_entries_are_legal()
+    ensures { OwnEntriesAreLegal }
+{}
+
+/// A step of its shard puts its entry last in a legal journal.
+pub fn journals_grow()
+    ensures { JournalsGrow }
+{}
+
+/// Epochs that follow each other are one legal journal.
+pub fn chains_are_journals()
+    ensures { ChainsAreJournals }
+{}
+
+/// Every merge of the journals of sixteen shards is a run of the whole register.
+pub fn merges_are_runs()
+    ensures { MergesAreRuns }
+{}
+
+/// Runs of octets stay within bounds, whatever the octets of the frames are, and send short frames alone.
+pub fn runs_stay_in_bounds()
+    ensures { RunsStayInBounds }
+{}

@@ -1,0 +1,98 @@
+//! The laws of frames. Each is the contract of a public function that does nothing.
+#![tactic(auto)]
+
+pub mod examples;
+pub mod journals;
+
+ghost use Rattle.frames_laws.specs.Laws.{MessagesAreRead, DialoguesAreRead, ComponentsAreRead, ParametersAreRead, ComponentsAreHeard, TreesAreJudged, OneMessage, OneVerdict, VerdictsAreWithinBounds, SentComponentsHaveForms, SentPortionsHaveForms, SentIsMeant, SentIsOctets, SentIsShallow, SentIsShort, OctetsTell, SentIsRead, NumbersAgree};
+
+/// Up to its portions a tree is read as a message exactly where it has the message's form, and otherwise as what the first
+/// point says that fits.
+pub fn messages_are_read()
+    ensures { MessagesAreRead }
+{}
+
+/// A dialogue portion is read exactly where it has the form of one.
+pub fn dialogues_are_read()
+    ensures { DialoguesAreRead }
+{}
+
+/// Each tree is read as the one component whose form it has, ill-formed ones among them.
+pub fn components_are_read()
+    ensures { ComponentsAreRead }
+{}
+
+/// Each parameter is read as the one that it is by its form: mistyped, a bad value, or an argument.
+pub fn parameters_are_read()
+    ensures { ParametersAreRead }
+{}
+
+/// Each tree is heard as the one component whose form it has, its parameter read.
+pub fn components_are_heard()
+    ensures { ComponentsAreHeard }
+{}
+
+/// The verdict that is read of a tree is the one that the points give.
+pub fn trees_are_judged()
+    ensures { TreesAreJudged }
+{}
+
+/// A tree is at most one message.
+pub fn one_message()
+    ensures { OneMessage }
+{}
+
+/// Octets, whatever they are, have exactly one verdict.
+pub fn one_verdict()
+    ensures { OneVerdict }
+{}
+
+/// What octets read to is within the bounds that the machine keeps.
+pub fn verdicts_are_within_bounds()
+    ensures { VerdictsAreWithinBounds }
+{}
+
+/// What is sent as a component has the component's form.
+pub fn sent_components_have_forms()
+    ensures { SentComponentsHaveForms }
+{}
+
+/// What is sent as a dialogue portion has the portion's form.
+pub fn sent_portions_have_forms()
+    ensures { SentPortionsHaveForms }
+{}
+
+/// The tree that is sent is the message that is meant.
+pub fn sent_is_meant()
+    ensures { SentIsMeant }
+{}
+
+/// What is sent is octets.
+pub fn sent_is_octets()
+    ensures { SentIsOctets }
+{}
+
+/// What is sent is within the levels of what is read.
+pub fn sent_is_shallow()
+    ensures { SentIsShallow }
+{}
+
+/// What the machine sends within its bounds is a short frame.
+pub fn sent_is_short()
+    ensures { SentIsShort }
+{}
+
+/// Two different messages are never sent as the same octets.
+pub fn octets_tell()
+    ensures { OctetsTell }
+{}
+
+/// What is sent within the limits is read as what is meant.
+pub fn sent_is_read()
+    ensures { SentIsRead }
+{}
+
+/// The numbers of frames are those of the machine.
+pub fn numbers_agree()
+    ensures { NumbersAgree }
+{}
