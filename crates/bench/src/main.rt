@@ -1,0 +1,63 @@
+//! How long the layers take.
+//!
+//! Without words one round of each is run, and what it did is counted. With a name and a number, as in `read 1000000`, so
+//! many rounds of that one are run, and the time of one is printed, in nanoseconds.
+#![tactic(auto)]
+
+mod answer;
+mod reading;
+mod request;
+mod writing;
+
+use anyhow::{Context, Result, bail};
+use std::alloc::Global;
+use std::env;
+use std::time::Instant;
+
+/// What can be run.
+#[derive(Clone, Copy, PartialEq, Eq)]
+enum Layer {
+    Read,
+    Write,
+}
+
+fn layer_of(name: &str) -> Option<Layer> {
+    match name {
+        "read" => Some(Layer::Read),
+        "write" => Some(Layer::Write),
+        _ => None,
+    }
+}
+
+/// Runs so many rounds, and counts what they did: elements that were read, or octets that were written.
+fn run(alloc: Global, layer: Layer, rounds: u64) -> Result<u64> {
+    match layer {
+        Layer::Read => reading::run(alloc, &request::FIRST_ROUTE, rounds),
+        Layer::Write => writing::run(alloc, &answer::first_answer(alloc)?, rounds),
+    }
+}
+
+fn count(rt: &HostRuntime) -> Result<()> {
+    println!(rt; "read: {} elements", run(rt.alloc(), Layer::Read, 1)?)?;
+    println!(rt; "write: {} octets", run(rt.alloc(), Layer::Write, 1)?)?;
+    Ok(())
+}
+
+fn time(rt: &HostRuntime, name: &str, rounds: u64) -> Result<()> {
+    let layer = layer_of(name).context("no such layer")?;
+    let start = Instant::now(rt)?;
+    let done = run(rt.alloc(), layer, rounds)?;
+    let nanoseconds = start.elapsed(rt)?.as_nanos();
+    let each = nanoseconds.checked_div(u128::from(rounds)).unwrap_or(0);
+    println!(rt; "{name}: {rounds} rounds, {done} in all, {each} ns each")?;
+    Ok(())
+}
+
+fn main(rt: HostRuntime) -> Result<()> {
+    let mut words = env::args(&rt)?.skip(1);
+    match (words.next(), words.next()) {
+        (None, _) => count(&rt),
+        (Some(name), Some(rounds)) => time(&rt, &name, rounds.parse::<u64>()?),
+        (Some(_), None) => bail!("a layer and a number of rounds"),
+    }
+}

@@ -1,0 +1,5 @@
+pub mod Contents
+pub mod Frames
+pub mod Heads
+pub mod States
+pub mod Trees

@@ -1,0 +1,18 @@
+//! The tree that octets spell (ITU-T X.690, 8.1), read into an arena.
+//!
+//! [`read_tree`] makes the nodes, whose octets are parts of those that were given. Readers of messages call the accessors
+//! of [`Node`] and the functions of [`elements`], and never look at a node's variants.
+#![tactic(auto)]
+
+pub mod elements;
+mod fault;
+mod head;
+mod node;
+mod read;
+#[cfg(test)]
+mod tests;
+
+pub use fault::TreeFault;
+pub use node::Node;
+pub use read::{MAX_LEVELS, MAX_OCTETS, read_tree};
+pub use x690::{Class, Tag};

@@ -1,0 +1,149 @@
+//! The reader: one pass over the octets, without recursion at any depth.
+ghost use Rattle.std.specs.Prelude.{◌≡◌, ℕ, ◌+◌, ◌<◌, ◌≤◌, ◌↔◌, List, [], length, IfSome, IfNone, IfOk, IfErr, MatchResult};
+ghost use Rattle.x690.specs.Tree.{Tree, levels};
+ghost use Rattle.x690.specs.Spelling.{Spells};
+ghost use Rattle.bertree.specs.Contents.{Closes};
+ghost use Rattle.bertree.specs.Faults.{SpellsNone, SpellsTooDeep, IsRefused};
+ghost use Rattle.bertree.specs.Head.{Opens, followed_by};
+ghost use Rattle.bertree.specs.Nodes.{tree};
+
+use crate::fault::TreeFault;
+use crate::head::{Head, next, read_head};
+use crate::node::Node;
+use bumpalo::Bump;
+use bumpalo::collections::into_bump_slice;
+use x690::Tag;
+
+/// More octets than these are not read (profile).
+pub const MAX_OCTETS: usize = 4096;
+
+/// A tree of more levels than these is refused (profile).
+pub const MAX_LEVELS: usize = 32;
+
+/// A constructed element that has begun: its children so far and, where its length is known, what follows it.
+#[derive(Drop)]
+struct Open<'a> {
+    tag: Tag,
+    children: Vec<Node<'a>, &'a Bump>,
+    after: Option<&'a [u8]>,
+}
+
+impl<'a> Open<'a> {
+    fn new(bump: &'a Bump, tag: Tag, after: Option<&'a [u8]>) -> Open<'a>
+        ensures tag { result.tag ≡ tag }
+        ensures after { result.after ≡ after.entry }
+        ensures children { result.children.items ≡ [] }
+    {
+        Open {
+            tag,
+            children: Vec::new(bump),
+            after,
+        }
+    }
+}
+
+/// What follows an element, if its contents end here: at the last octet of a definite length, otherwise at `00 00`
+/// (X.690, 8.1.5).
+fn end<'a>(after: Option<&'a [u8]>, octets: &'a [u8]) -> Option<&'a [u8]>
+    ensures found { IfSome result (λ rest. Closes (followed_by after.entry) octets.now [] rest.now) }
+    ensures none { IfNone result ((rest : List ℕ) → Closes (followed_by after.entry) octets.now [] rest → ⊥) }
+{
+    match after {
+        Some(after) => { if octets.is_empty() { Some(after) } else { None } }
+        None => {
+            let (first, rest) = next(octets)?;
+            let (second, rest) = next(rest)?;
+            if first == 0 && second == 0 {
+                Some(rest)
+            } else {
+                None
+            }
+        }
+    }
+}
+
+/// The node, where no octet follows it.
+fn alone<'a>(node: Node<'a>, after: &[u8]) -> Result<Node<'a>, TreeFault>
+    ensures ok { IfOk result (λ same. (same ≡ node.entry) × (after.now ≡ [])) }
+    ensures not_ber { IfErr result (λ fault. (fault ≡ TreeFault.NotBer) × (after.now ≡ [] → ⊥)) }
+{
+    if after.is_empty() {
+        Ok(node)
+    } else {
+        Err(TreeFault::NotBer)
+    }
+}
+
+/// The tree that the octets spell, and its levels. The elements that have begun stand in `outer`, from the outermost on,
+/// and in `inner`; `rest` is what is left of the contents of `inner`.
+fn read_levels<'a>(bump: &'a Bump, octets: &'a [u8]) -> Result<(Node<'a>, usize), TreeFault>
+    ensures ok { IfOk result (λ found. Spells octets.now (tree found.0) × (levels (tree found.0) ≡ found.1)) }
+    ensures not_ber { result ≡ Err TreeFault.NotBer → SpellsNone octets.now }
+    ensures others { (result ≡ Err TreeFault.TooLong → ⊥) × (result ≡ Err TreeFault.TooDeep → ⊥) }
+{
+    let Some(head) = read_head(octets) else {
+        return Err(TreeFault::NotBer);
+    };
+    let (mut inner, mut rest) = match head {
+        Head::Primitive(tag, contents, after) => {
+            return Ok((alone(Node::Primitive(tag, contents), after)?, 1));
+        }
+        Head::Constructed(tag, contents, after) => (Open::new(bump, tag, after), contents),
+    };
+    let mut outer: Vec<Open<'a>, &'a Bump> = Vec::new(bump);
+    let mut deepest = 1;
+    loop {
+        if let Some(after) = end(inner.after, rest) {
+            let node = Node::Constructed(inner.tag, into_bump_slice(inner.children));
+            let Some(parent) = outer.pop() else {
+                return Ok((alone(node, after)?, deepest));
+            };
+            inner = parent;
+            inner.children.push(node)?;
+            rest = after;
+            continue;
+        }
+        let Some(head) = read_head(rest) else {
+            return Err(TreeFault::NotBer);
+        };
+        deepest = deepest.max(outer.len() + 2);
+        match head {
+            Head::Primitive(tag, contents, after) => {
+                inner.children.push(Node::Primitive(tag, contents))?;
+                rest = after;
+            }
+            Head::Constructed(tag, contents, after) => {
+                outer.push(inner)?;
+                inner = Open::new(bump, tag, after);
+                rest = contents;
+            }
+        }
+    }
+}
+
+/// The tree that the octets spell, in the arena.
+///
+/// `TooLong` takes no memory, and where there is no tree this is found at any depth, so `NotBer` comes before `TooDeep`.
+/// Of the arena after a refusal nothing is said.
+pub fn read_tree<'a>(bump: &'a Bump, octets: &'a [u8]) -> Result<Node<'a>, TreeFault>
+    ensures ok { IfOk result (λ node. Spells octets.now (tree node)
+        × (length octets.now ≤ MAX_OCTETS) × (levels (tree node) ≤ MAX_LEVELS)) }
+    ensures too_long { (result ≡ Err TreeFault.TooLong) ↔ (MAX_OCTETS < length octets.now) }
+    ensures not_ber { result ≡ Err TreeFault.NotBer → SpellsNone octets.now }
+    ensures too_deep { result ≡ Err TreeFault.TooDeep → SpellsTooDeep octets.now }
+
+    // And the other way round: what each string of at most so many octets is answered.
+    ensures tree { length octets.now ≤ MAX_OCTETS → (t : Tree) → Spells octets.now t → levels t ≤ MAX_LEVELS
+        → MatchResult result (λ node. tree node ≡ t) (λ fault. fault ≡ TreeFault.Memory) }
+    ensures no_tree { length octets.now ≤ MAX_OCTETS → SpellsNone octets.now → IsRefused result TreeFault.NotBer }
+    ensures deep_tree { length octets.now ≤ MAX_OCTETS → SpellsTooDeep octets.now → IsRefused result TreeFault.TooDeep }
+{
+    if octets.len() > MAX_OCTETS {
+        return Err(TreeFault::TooLong);
+    }
+    let (node, levels) = read_levels(bump, octets)?;
+    if levels > MAX_LEVELS {
+        return Err(TreeFault::TooDeep);
+    }
+    Ok(node)
+}

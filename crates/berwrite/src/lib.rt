@@ -1,0 +1,18 @@
+//! The octets that are sent for a tree (ITU-T X.690, 8.1): definite lengths, in the fewest octets.
+//!
+//! A message is built as an [`OwnTree`] by `OwnTree::primitive`, `OwnTree::constructed` and `OwnTree::around`, and written
+//! by [`write_tree`]. All that fails here fails for want of [`Memory`].
+#![tactic(auto)]
+
+mod identifier;
+mod length;
+mod memory;
+mod own_tree;
+#[cfg(test)]
+mod tests;
+mod write;
+
+pub use memory::Memory;
+pub use own_tree::OwnTree;
+pub use write::write_tree;
+pub use x690::{Class, Tag};

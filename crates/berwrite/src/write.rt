@@ -1,0 +1,51 @@
+//! The writer: one pass over the tree, from front to end.
+ghost use Rattle.std.specs.Prelude.{◌≡◌, ◌+◌, ◌-◌, ◌^◌, ◌<◌, ◌++◌, length, take, drop, IfOk, OnOk};
+ghost use Rattle.x690.specs.Length.{length_octets};
+ghost use Rattle.x690.specs.Spelling.{Spells, enc};
+ghost use Rattle.x690.specs.Tree.{HasTags};
+ghost use Rattle.berwrite.specs.OwnTrees.{own};
+
+use crate::identifier::put_identifier;
+use crate::length::{put_length, set_length};
+use crate::memory::Memory;
+use crate::own_tree::OwnTree;
+use std::alloc::{AllocError, Global};
+
+/// Adds the octets of a tree. The place of a length is kept by one octet until the contents stand behind it.
+fn put(tree: &OwnTree, out: &mut Vec<u8>) -> Result<(), AllocError>
+    ensures { OnOk result (out.new.items ≡ out.old.items ++ enc (own tree.now)) }
+{
+    put_identifier(out, tree.tag())?;
+    match tree {
+        OwnTree::Primitive(_, octets) => {
+            put_length(out, octets.len())?;
+            out.extend_from_slice(octets)?;
+            Ok(())
+        }
+        OwnTree::Constructed(_, children) => {
+            let place = out.len();
+            out.push(0)?;
+            for child in children {
+                put(child, out)?;
+            }
+            set_length(out, place)
+        }
+    }
+}
+
+/// The octets that are sent for a tree, in one allocation of their size.
+///
+/// No condition is asked: a tree whose octets would be 2^32 or more, for whose lengths four octets are too few, is
+/// answered as one for which there is no memory.
+pub fn write_tree(alloc: Global, tree: &OwnTree) -> Result<Vec<u8>, Memory>
+    ensures octets { IfOk result (λ octets. octets.items ≡ enc (own tree.now)) }
+    ensures short { IfOk result (λ octets. length octets.items < 2 ^ 32) }
+    ensures spelling { IfOk result (λ octets. HasTags (own tree.now) → Spells octets.items (own tree.now)) }
+{
+    let Some(length) = tree.octets_len() else {
+        return Err(Memory);
+    };
+    let mut octets = Vec::with_capacity(alloc, length as usize)?;
+    put(tree, &mut octets)?;
+    Ok(octets)
+}
