@@ -1,0 +1,38 @@
+//! cancelLocation (TS 29.002, 17.7.1): its argument, as it is sent.
+
+ghost use Rattle.std.specs.Prelude.{◌≡◌, IfOk};
+ghost use Rattle.berwrite.specs.OwnTrees.{own};
+ghost use Rattle.frames.specs.SentTrees.{cancel_tree, cancellation_octet};
+ghost use Rattle.mapargs_loc.specs.Seen.{cancellation};
+
+use berwrite::{Memory, OwnTree};
+use frames::numbers::{SUBSCRIPTION_WITHDRAW, UPDATE_PROCEDURE};
+use frames::tags::{CANCEL_ARGUMENT, ENUMERATED, OCTET_STRING};
+use hlr_types::Imsi;
+use std::alloc::Global;
+
+/// Why a location is cancelled (TS 29.002, CancellationType).
+#[derive(Clone, Copy, Debug, PartialEq, Eq)]
+pub enum CancellationType {
+    UpdateProcedure,
+    SubscriptionWithdraw,
+}
+
+fn octet_of(why: CancellationType) -> u8
+    ensures { result ≡ cancellation_octet (cancellation why) }
+{
+    match why {
+        CancellationType::UpdateProcedure => UPDATE_PROCEDURE,
+        CancellationType::SubscriptionWithdraw => SUBSCRIPTION_WITHDRAW,
+    }
+}
+
+/// The argument of a cancelLocation: `A3`, and in it the imsi `04` and the cancellationType `0A`, which is always sent.
+pub fn cancel_arg(alloc: Global, imsi: &Imsi, why: CancellationType) -> Result<OwnTree, Memory>
+    ensures { IfOk result (λ tree. own tree ≡ cancel_tree imsi.now (cancellation why)) }
+{
+    let mut elements = Vec::with_capacity(alloc, 2)?;
+    elements.push(OwnTree::primitive(alloc, OCTET_STRING, imsi.octets().as_slice())?)?;
+    elements.push(OwnTree::primitive(alloc, ENUMERATED, &[octet_of(why)])?)?;
+    Ok(OwnTree::constructed(CANCEL_ARGUMENT, elements))
+}

@@ -1,0 +1,22 @@
+//! The parameters of MAP's location operations (3GPP TS 29.002): the arguments that are received, and the arguments, results
+//! and error parameter that are sent.
+//!
+//! The readers take no memory, and read one element in its place after the other. Each writer gives the tree of its
+//! parameter alone, which the component around it takes.
+#![tactic(auto)]
+
+mod cancel;
+mod fault;
+mod insert;
+mod purge;
+mod roaming;
+#[cfg(test)]
+mod tests;
+mod update;
+
+pub use cancel::{CancellationType, cancel_arg};
+pub use fault::ArgFault;
+pub use insert::insert_arg;
+pub use purge::{PurgeArg, purge_result, read_purge};
+pub use roaming::roaming_not_allowed;
+pub use update::{UpdateArg, read_update, update_result};

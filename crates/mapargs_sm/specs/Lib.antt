@@ -1,0 +1,2 @@
+pub mod Location
+pub mod Seen

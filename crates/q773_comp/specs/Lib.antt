@@ -1,0 +1,4 @@
+pub mod Seen
+pub mod Kinds
+pub mod Forms
+pub mod Sent

@@ -1,0 +1,73 @@
+//! The components of a message.
+ghost use Rattle.std.specs.Prelude.{◌≡◌, ◌<◌, ◌↔◌, List, length, map, IfOk, Err};
+ghost use Rattle.x690.specs.Tree.{Tree};
+ghost use Rattle.machine.specs.Received.{ComponentOf};
+ghost use Rattle.frames.specs.Components.{components_of};
+ghost use Rattle.bertree.specs.Nodes.{elements};
+ghost use Rattle.q773_comp.specs.Forms.{AreRead};
+ghost use Rattle.q773_comp.specs.Seen.{seen};
+
+use crate::component::Component;
+use crate::reading::read_component;
+use bertree::Node;
+use frames::numbers::MAX_COMPONENTS;
+use std::alloc::{AllocError, AllocFailed, Global};
+use thiserror::Error;
+
+/// Why components are not read.
+#[derive(Clone, Copy, Debug, PartialEq, Eq, Drop, Error)]
+pub enum CompFault {
+    /// There are more components than are read (profile).
+    #[error("more than 16 components")]
+    TooMany,
+    /// The list could not grow.
+    #[error("out of memory")]
+    Memory,
+}
+
+impl From<AllocError> for CompFault {
+    ghost use Rattle.std.specs.Prelude.{◌≡◌};
+    ghost use Rattle.q773_comp.specs.declared.list.CompFault.TheVariants.{Memory};
+
+    ghost from_gives = { λ _ fault. fault ≡ Memory };
+
+    fn from(_refused: AllocError) -> CompFault {
+        CompFault::Memory
+    }
+}
+
+impl<T: Drop> From<AllocFailed<T>> for CompFault {
+    ghost use Rattle.std.specs.Prelude.{◌≡◌};
+    ghost use Rattle.q773_comp.specs.declared.list.CompFault.TheVariants.{Memory};
+
+    ghost from_gives = { λ _ fault. fault ≡ Memory };
+
+    fn from(_refused: AllocFailed<T>) -> CompFault {
+        CompFault::Memory
+    }
+}
+
+/// The components that nodes are, in order, each read by itself.
+///
+/// `TooMany` takes no memory.
+pub fn read_components<'a>(
+    alloc: Global,
+    nodes: &'a [Node<'a>],
+) -> Result<Vec<Component<&'a Node<'a>>>, CompFault>
+    // What is read has its form, and what has a form is read so.
+    ensures found { IfOk result (λ components. AreRead (elements nodes.now) (map seen components.items)) }
+    ensures only { (cs : List (ComponentOf Tree)) → AreRead (elements nodes.now) cs
+        → IfOk result (λ components. map seen components.items ≡ cs) }
+    // It is a function of the trees.
+    ensures exact { IfOk result (λ components. map seen components.items ≡ components_of (elements nodes.now)) }
+    ensures too_many { (result ≡ Err CompFault.TooMany) ↔ (MAX_COMPONENTS < length nodes.now) }
+{
+    if nodes.len() > MAX_COMPONENTS {
+        return Err(CompFault::TooMany);
+    }
+    let mut components = Vec::with_capacity(alloc, nodes.len())?;
+    for node in nodes {
+        components.push(read_component(node))?;
+    }
+    Ok(components)
+}

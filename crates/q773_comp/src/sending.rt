@@ -1,0 +1,157 @@
+//! The trees of the components that are sent.
+ghost use Rattle.std.specs.Prelude.{◌≡◌, IfOk, option_map};
+ghost use Rattle.frames.specs.ComponentForms.{problem_tag};
+ghost use Rattle.frames.specs.SentTrees.{id_tree, code_tree, invoke_tree, result_tree, error_tree, rejected_tree, reject_tree};
+ghost use Rattle.berwrite.specs.OwnTrees.{own};
+ghost use Rattle.q773_comp.specs.Seen.{side, rejection};
+ghost use Rattle.q773_comp.specs.Sent.{out_tree};
+
+use crate::component::Side;
+use bertree::Tag;
+use berwrite::{Memory, OwnTree};
+use frames::tags::{
+    ERROR_PROBLEM, GENERAL_PROBLEM, INTEGER, INVOKE, INVOKE_PROBLEM, NULL, REJECT, RESULT_LAST,
+    RESULT_PROBLEM, RETURN_ERROR, SEQUENCE,
+};
+use std::alloc::Global;
+
+/// A Reject that is sent. Without an id it rejects what had none.
+#[derive(Clone, Copy, Debug, PartialEq, Eq)]
+pub struct Rejection {
+    pub id: Option<i8>,
+    pub side: Side,
+    pub problem: u8,
+}
+
+/// A component that is sent, with the tree of its parameter.
+#[derive(Debug, Drop)]
+pub enum OutComponent {
+    Invoke {
+        id: i8,
+        operation: u8,
+        parameter: OwnTree,
+    },
+    ResultLast {
+        id: i8,
+        operation: u8,
+        parameter: OwnTree,
+    },
+    /// A last result that gives nothing.
+    EmptyResult {
+        id: i8,
+    },
+    ReturnError {
+        id: i8,
+        error: u8,
+        parameter: Option<OwnTree>,
+    },
+    Reject(Rejection),
+}
+
+fn id_tree(alloc: Global, id: i8) -> Result<OwnTree, Memory>
+    ensures { IfOk result (λ made. own made ≡ id_tree id) }
+{
+    OwnTree::primitive(alloc, INTEGER, &[id.cast_unsigned()])
+}
+
+fn code_tree(alloc: Global, code: u8) -> Result<OwnTree, Memory>
+    ensures { IfOk result (λ made. own made ≡ code_tree code) }
+{
+    OwnTree::primitive(alloc, INTEGER, &[code])
+}
+
+/// What is rejected: an id, or a NULL.
+fn rejected_tree(alloc: Global, id: Option<i8>) -> Result<OwnTree, Memory>
+    ensures { IfOk result (λ made. own made ≡ rejected_tree id) }
+{
+    match id {
+        Some(id) => id_tree(alloc, id),
+        None => OwnTree::primitive(alloc, NULL, &[]),
+    }
+}
+
+fn problem_tag(of: Side) -> Tag
+    ensures { result ≡ problem_tag (side of) }
+{
+    match of {
+        Side::General => GENERAL_PROBLEM,
+        Side::OfInvoke => INVOKE_PROBLEM,
+        Side::OfResult => RESULT_PROBLEM,
+        Side::OfError => ERROR_PROBLEM,
+    }
+}
+
+fn invoke_tree(alloc: Global, id: i8, operation: u8, parameter: &OwnTree) -> Result<OwnTree, Memory>
+    ensures { IfOk result (λ made. own made ≡ invoke_tree id operation (own parameter.now)) }
+{
+    let parts = vec![in alloc;
+        id_tree(alloc, id)?,
+        code_tree(alloc, operation)?,
+        parameter.try_copy(alloc)?,
+    ]?;
+    Ok(OwnTree::constructed(INVOKE, parts))
+}
+
+fn result_tree(alloc: Global, id: i8, operation: u8, parameter: &OwnTree) -> Result<OwnTree, Memory>
+    ensures { IfOk result (λ made. own made ≡ result_tree id operation (own parameter.now)) }
+{
+    let outcome = vec![in alloc; code_tree(alloc, operation)?, parameter.try_copy(alloc)?]?;
+    let parts = vec![in alloc;
+        id_tree(alloc, id)?,
+        OwnTree::constructed(SEQUENCE, outcome),
+    ]?;
+    Ok(OwnTree::constructed(RESULT_LAST, parts))
+}
+
+fn error_tree(
+    alloc: Global,
+    id: i8,
+    error: u8,
+    parameter: Option<&OwnTree>,
+) -> Result<OwnTree, Memory>
+    ensures { IfOk result (λ made. own made ≡ error_tree id error (option_map (λ p. own p.now) parameter.entry)) }
+{
+    let mut parts = vec![in alloc; id_tree(alloc, id)?, code_tree(alloc, error)?]?;
+    if let Some(parameter) = parameter {
+        parts.push(parameter.try_copy(alloc)?)?;
+    }
+    Ok(OwnTree::constructed(RETURN_ERROR, parts))
+}
+
+/// A Reject: what is rejected, and the problem.
+fn reject_tree(alloc: Global, reject: Rejection) -> Result<OwnTree, Memory>
+    ensures { IfOk result (λ made. own made ≡ reject_tree (rejection reject)) }
+{
+    let parts = vec![in alloc;
+        rejected_tree(alloc, reject.id)?,
+        OwnTree::primitive(alloc, problem_tag(reject.side), &[reject.problem])?,
+    ]?;
+    Ok(OwnTree::constructed(REJECT, parts))
+}
+
+/// The tree of a component that is sent. Its parameter is copied.
+pub fn component_tree(alloc: Global, component: &OutComponent) -> Result<OwnTree, Memory>
+    ensures { IfOk result (λ made. own made ≡ out_tree component.now) }
+{
+    match component {
+        OutComponent::Invoke {
+            id,
+            operation,
+            parameter,
+        } => invoke_tree(alloc, *id, *operation, parameter),
+        OutComponent::ResultLast {
+            id,
+            operation,
+            parameter,
+        } => result_tree(alloc, *id, *operation, parameter),
+        OutComponent::EmptyResult { id } => {
+            OwnTree::around(alloc, RESULT_LAST, id_tree(alloc, *id)?)
+        }
+        OutComponent::ReturnError {
+            id,
+            error,
+            parameter,
+        } => error_tree(alloc, *id, *error, parameter.as_ref()),
+        OutComponent::Reject(reject) => reject_tree(alloc, *reject),
+    }
+}
