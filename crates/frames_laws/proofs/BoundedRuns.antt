@@ -1,16 +1,15 @@
 -- Runs of octets stay within the bounds of the machine.
-use Rattle.std.proofs.Common.{◌≡◌, ℕ, ◌<◌, ◌≤◌, List, [], ◌∷◌, length, sym, subst}
+use Rattle.std.proofs.Common.{◌<◌, ◌≤◌, List, [], ◌∷◌, length, sym, subst}
 use Rattle.std.specs.Prelude.{map}
 use Rattle.machine.specs.Keys.{Every}
 use Rattle.machine.specs.Sent.{Out}
 use Rattle.machine.specs.Events.{Event, Frame, Clock, Expire, Operator}
-use Rattle.machine.specs.State.{State}
 use Rattle.machine.specs.Numbers.{shards}
 use Rattle.machine.specs.Legal.{Entry, events_of, answers_of}
-use Rattle.machine.specs.Bounds.{AreDigits, ChangeInBounds, EventInBounds, StateInBounds, OutInBounds, AnswerInBounds}
+use Rattle.machine.specs.Bounds.{AreDigits, ChangeInBounds, EventInBounds, OutInBounds, AnswerInBounds}
 use Rattle.machine_laws.proofs.Within.{run_within}
 use Rattle.frames.specs.declared.numbers.TheConstants.{MAX_OCTETS}
-use Rattle.frames.specs.Octets.{RawEvent, RawFrame, RawClock, RawExpire, RawChange, RawOut, RawEntry, IsEvent, spelled_out, SpellsEntry, SpellsJournal, RunOctets}
+use Rattle.frames.specs.Octets.{RawEvent, RawFrame, RawClock, RawExpire, RawChange, RawOut, RawEntry, IsEvent, spelled_out, SpellsJournal}
 use Rattle.frames_laws.specs.JournalLaws.{RawInBounds, RunsStayInBounds}
 use Rattle.frames_laws.proofs.BoundLaws.{verdict_within}
 use Rattle.frames_laws.proofs.OctetLaws.{run_found}

@@ -18,3 +18,5 @@ pub mod Hostile
 pub mod BoundLaws
 pub mod SizeLaws
 pub mod BoundedRuns
+pub mod Amongs
+pub mod AccountedEntries

@@ -20,7 +20,7 @@ use Rattle.machine.specs.Parts.{union}
 use Rattle.machine_laws.proofs.Determined.{determined}
 use Rattle.machine_laws.proofs.Growing.{legal_push}
 use Rattle.machine_laws.proofs.Holding.{holders_run}
-use Rattle.machine_laws.proofs.Isolation.{isolation}
+use Rattle.machine_laws.proofs.OwnJournals.{isolation}
 use Rattle.machine_laws.proofs.Chains.{legal_append}
 use Rattle.machine_laws.proofs.Merging.{merge_law}
 use Rattle.frames.specs.Frames.{IsVerdict}

@@ -1,5 +1,5 @@
 -- What the machine sends is short.
-use Rattle.std.proofs.Common.{◌≡◌, ℕ, ℤ, ◌+◌, ◌*◌, ◌≤◌, Bool, true, false, eqb, cond, List, [], ◌∷◌, ◌++◌, length, refl, ap, arith, length-append}
+use Rattle.std.proofs.Common.{◌≡◌, ℕ, ℤ, ◌+◌, ◌*◌, ◌≤◌, Bool, true, false, eqb, cond, List, [], ◌∷◌, ◌++◌, length, arith, length-append}
 use Rattle.std.specs.Prelude.{Option, Some, None, map, option_map, option_to_list}
 use Rattle.x690.specs.Tree.{Tree, Trees, Primitive, Constructed, Empty, More, trees, element}
 use Rattle.x690.specs.Spelling.{enc, enc_all}
@@ -10,11 +10,11 @@ use Rattle.machine.specs.Keys.{Every}
 use Rattle.machine.specs.Received.{OfUser}
 use Rattle.machine.specs.Sent.{Context, NetworkLocUp, LocationCancellation, SubscriberDataMngt, ShortMsgGateway, MsPurging, Rejection, SentComponent, Insert, Cancel, UpdateResult, PurgeResult, RouteResult, SentError, NoCause, Cause, Refusing, SentMessage, SentBegin, SentContinue, SentEnd, SentAbort}
 use Rattle.machine.specs.Contexts.{name_of}
-use Rattle.machine.specs.Bounds.{AreDigits, AreOctets, IfThere, IsTransactionId, SentComponentInBounds, OwnInBounds, RejectsInBounds, SentInBounds}
+use Rattle.machine.specs.Bounds.{AreDigits, AreOctets, IfThere, SentComponentInBounds, OwnInBounds, SentInBounds}
 use Rattle.frames.specs.declared.numbers.TheConstants.{MAX_OCTETS, INSERT_SUBSCRIBER_DATA, CANCEL_LOCATION, UPDATE_LOCATION, SEND_ROUTING_INFO_FOR_SM, ACCEPTED, NO_DIAGNOSTIC, REJECT_PERMANENT, CONTEXT_NAME_NOT_SUPPORTED, ROAMING_NOT_ALLOWED, PLMN_ROAMING_NOT_ALLOWED}
 use Rattle.frames.specs.declared.tags.TheConstants.{SEQUENCE, ENUMERATED, OCTET_STRING, INSERT_IMSI}
 use Rattle.frames.specs.DialogueForms.{portion_tree}
-use Rattle.frames.specs.SentTrees.{invoke_tree, result_tree, cancel_tree, update_result_tree, route_result_tree, rejected_tree, reject_tree, subscriber_trees, teleservice_tree, teleservice_trees, insert_tree, error_parameter, component_tree, aare_tree, asking, accepting, component_portion, portion_trees, component_trees, reason_tree, tree_of, octets_of_sent}
+use Rattle.frames.specs.SentTrees.{invoke_tree, result_tree, cancel_tree, update_result_tree, route_result_tree, rejected_tree, reject_tree, subscriber_trees, teleservice_tree, teleservice_trees, insert_tree, error_parameter, component_tree, aare_tree, asking, accepting, component_portion, portion_trees, component_trees, tree_of, octets_of_sent}
 
 -- ---- no element takes more than eleven octets beside its contents
 

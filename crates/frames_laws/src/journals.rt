@@ -1,6 +1,7 @@
 //! The laws of journals of octets.
 
 ghost use Rattle.frames_laws.specs.JournalLaws.{OneJournal, HoldersAreServing, OwnEntriesAreLegal, JournalsGrow, ChainsAreJournals, MergesAreRuns, RunsStayInBounds};
+ghost use Rattle.frames_laws.specs.AccountLaws.{EntriesAreOneJob};
 
 /// A journal of octets spells one journal of messages, and from one base it leads to one state.
 pub fn one_journal()
@@ -35,4 +36,9 @@ pub fn merges_are_runs()
 /// Runs of octets stay within bounds, whatever the octets of the frames are, and send short frames alone.
 pub fn runs_stay_in_bounds()
     ensures { RunsStayInBounds }
+{}
+
+/// Where jobs and receipts account for the journals, each entry is that of one job, and of no other.
+pub fn entries_are_one_job()
+    ensures { EntriesAreOneJob }
 {}

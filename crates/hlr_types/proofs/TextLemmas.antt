@@ -79,8 +79,8 @@ pub ruleset text_laws = (text_found, text_again)
 
 pub are_text_forms : AreTextForms
 are_text_forms = record {
-    printed_is_read = printed;
-    read_is_printed = λ text ds e. sym (text_found text ds e).printed;
-  }
+  printed_is_read = printed;
+  read_is_printed = λ text ds e. sym (text_found text ds e).printed;
+}
 
 pub ruleset text_forms = (are_text_forms)

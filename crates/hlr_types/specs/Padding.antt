@@ -21,7 +21,7 @@ padded_items n items count h =
 pub same_made : {A : Type 0} (make : List ℕ → ℕ → A) (xs ys : List ℕ) (m n : ℕ) → xs ≡ ys → m ≡ n → make xs m ≡ make ys n
 same_made make xs ys m n e f = cc
 
--- one item more
+-- One item more.
 pub padded_push : (n : ℕ) (items : List ℕ) (count item : ℕ) → IsPadded n items count → count < n → IsPadded n (set items count item) (count + 1)
 padded_push n items count item h lt =
     let rest : (n - count) - 1 ≡ n - (count + 1) = omega arith in

@@ -212,7 +212,11 @@ fn keys(rt: HostRuntime) -> Result<(), Fail> {
     let mut subscribers = BTreeMap::new(rt.alloc());
     subscribers.insert(imsi("12345")?, 7)?;
     assert_eq!(rt; value_of(&subscribers, &imsi("12345")?), Some(7));
-    assert_eq!(rt; value_of(&subscribers, &imsi("012345")?), None, "leading zeros count");
+    assert_eq!(rt;
+        value_of(&subscribers, &imsi("012345")?),
+        None,
+        "leading zeros count"
+    );
     let mut ids = BTreeMap::new(rt.alloc());
     ids.insert(Tid([0, 0, 0, 1]), 8)?;
     assert_eq!(rt; value_at(&ids, &Tid([0, 0, 0, 1])), Some(8));

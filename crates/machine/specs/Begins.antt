@@ -16,6 +16,7 @@ abbrev pub argument_of : Component → Option Argument
 argument_of (Invoke id linked operation (Some (Typed argument))) = Some argument
 argument_of _ = None
 
+-- the argument of the first component of a Begin, which alone can start a procedure
 abbrev pub first_argument : List Component → Option Argument
 first_argument [] = None
 first_argument (c ∷ cs) = argument_of c
@@ -33,6 +34,8 @@ answered asker components = send asker.from (SentEnd asker.origin (Some asker.co
 
 -- updateLocation
 
+-- whether the subscriber may roam at this VLR: one of the prefixes of the record is a prefix of its digits, or the
+-- record allows all
 abbrev pub is_allowed : (roam : Option (List (List ℕ))) → (vlr : List ℕ) → Bool
 is_allowed None vlr = true
 is_allowed (Some prefixes) vlr = list_any (λ prefix. is_prefix prefix vlr) prefixes
@@ -77,6 +80,7 @@ purge_at here asker invoke subscriber vlr (Some register) =
     })
     (unchanged here (answered asker (PurgeResult invoke false ∷ [])))
 
+-- purgeMS. Without a VLR number the error is dataMissing, also for an unknown subscriber.
 abbrev pub purge : Local → Asker → (invoke : ℤ) → (vlr : Option (List ℕ)) → Option Subscriber → Outcome
 purge here asker invoke None subscriber = unchanged here (answered asker (SentError invoke data_missing ∷ []))
 purge here asker invoke (Some vlr) None = unchanged here (answered asker (SentError invoke unknown_subscriber ∷ []))
@@ -102,6 +106,7 @@ abbrev pub begun : Local → Asker → (started : Option ℤ) → Option Argumen
 begun here asker (Some invoke) (Some argument) new = procedure here asker invoke argument new
 begun here asker _ _ new = unchanged here (answered asker [])
 
+-- what a Begin in this context may start
 abbrev pub offer_in : Context → List Component → Offer
 offer_in context components = record {
   open_id = None;
@@ -118,6 +123,7 @@ begins_in here from origin context (c ∷ cs) new =
     begun here (record { from = from; origin = origin; context = context; rejects = did.rejects }) did.started
     (first_argument (c ∷ cs)) new
 
+-- a Begin with this name: its context is accepted, or the Abort refuses it
 abbrev pub begins_named : Local → (from origin name : List ℕ) → Option Context → List Component → (new : List ℕ) → Outcome
 begins_named here from origin name None components new =
     unchanged here (send from (SentAbort origin (Refusing (refused_name name))))

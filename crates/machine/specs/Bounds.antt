@@ -14,6 +14,7 @@ use Rattle.machine.specs.Step.{Answer}
 
 -- values
 
+-- P holds of the value, if there is one
 abbrev pub IfThere : {X : Type 0} → (X → Type 0) → Option X → Type 0
 IfThere P None = Unit {0}
 IfThere P (Some x) = P x
@@ -22,6 +23,7 @@ IfThere P (Some x) = P x
 abbrev pub AreDigits : List ℕ → Type 0
 AreDigits digits = Every (λ d. d < 10) digits × (length digits ≤ 16)
 
+-- each is an octet
 abbrev pub AreOctets : List ℕ → Type 0
 AreOctets octets = Every (λ o. o < 256) octets
 
@@ -39,6 +41,7 @@ IsInvokeId id = FitsSigned w8 id
 abbrev pub IsName : List ℕ → Type 0
 IsName name = AreOctets name × (length name ≤ 32)
 
+-- no number stands twice
 abbrev pub AreDistinct : List ℕ → Type 0
 AreDistinct [] = Unit {0}
 AreDistinct (c ∷ cs) = Every (λ d. c ≢ d) cs × AreDistinct cs
@@ -49,6 +52,7 @@ pub record AreCodes (codes : List ℕ) : Type 0 where
   pub different : AreDistinct codes
   pub most : length codes ≤ 32
 
+-- a register's numbers are digits, and an LMSI has four octets
 pub record IsRegister (register : Register) : Type 0 where
   pub vlr : AreDigits register.vlr
   pub msc : AreDigits register.msc
@@ -56,6 +60,7 @@ pub record IsRegister (register : Register) : Type 0 where
 
 -- states
 
+-- a subscriber's record, with at most eight roaming prefixes
 pub record RecordInBounds (s : Subscriber) : Type 0 where
   pub msisdn : AreDigits s.msisdn
   pub codes : AreCodes s.codes
@@ -68,6 +73,7 @@ KindInBounds (Updates register invoke) t = IsRegister register × IsInvokeId inv
 KindInBounds (Cancels vlr attempt cause) t = AreDigits vlr × (0 < attempt) × (attempt ≤ most_attempts)
 KindInBounds Data t = Unit {0}
 
+-- an open dialogue's digits and ids
 pub record DialogueInBounds (d : Dialogue) : Type 0 where
   pub subscriber : AreDigits d.subscriber
   pub peer : AreDigits d.transaction.peer
@@ -75,6 +81,7 @@ pub record DialogueInBounds (d : Dialogue) : Type 0 where
   pub invocations : Every (λ (v : Invocation). IsInvokeId v.id) d.invocations
   pub kind : KindInBounds d.kind d.transaction
 
+-- Every record, every dialogue and every clock of a state; there are no clocks but those of the shards.
 pub record StateInBounds (S : State) : Type 0 where
   pub records : (x : List ℕ) (s : Subscriber) → S.records x ≡ Some s → AreDigits x × RecordInBounds s
   pub dialogues : (i : List ℕ) (d : Dialogue) → S.dialogues i ≡ Some d → IsTransactionId i × DialogueInBounds d
@@ -92,16 +99,19 @@ IsOfOperation (Number operation) (Route msisdn) = operation ≡ send_routing_inf
 IsOfOperation (Number operation) BadValue = Unit {0}
 IsOfOperation _ argument = ⊥
 
+-- the digits of an argument
 abbrev pub ArgumentInBounds : Argument → Type 0
 ArgumentInBounds BadValue = Unit {0}
 ArgumentInBounds (Update imsi register) = AreDigits imsi × IsRegister register
 ArgumentInBounds (Purge imsi vlr) = AreDigits imsi × IfThere AreDigits vlr
 ArgumentInBounds (Route msisdn) = AreDigits msisdn
 
+-- a parameter that is not of its type is not read
 abbrev pub ParameterInBounds : Code → Option Parameter → Type 0
 ParameterInBounds operation (Some (Typed argument)) = ArgumentInBounds argument × IsOfOperation operation argument
 ParameterInBounds operation _ = Unit {0}
 
+-- the ids of a received component
 abbrev pub ComponentInBounds : Component → Type 0
 ComponentInBounds (Invoke id linked operation parameter) = IsInvokeId id × ParameterInBounds operation parameter
 ComponentInBounds (ResultLast id) = IsInvokeId id
@@ -110,24 +120,29 @@ ComponentInBounds (ReturnError id error) = IsInvokeId id
 ComponentInBounds (Bad id problem) = IfThere IsInvokeId id
 ComponentInBounds _ = Unit {0}
 
+-- at most sixteen components
 abbrev pub ComponentsInBounds : List Component → Type 0
 ComponentsInBounds components = Every ComponentInBounds components × (length components ≤ 16)
 
+-- a received message; what closes a dialogue has no more to be looked at
 abbrev pub MessageInBounds : Message → Type 0
 MessageInBounds (Begin origin name components) =
     IsTransactionId origin × IfThere IsName name × ComponentsInBounds components
 MessageInBounds (Continue origin destination portion components) = IsTransactionId origin × ComponentsInBounds components
 MessageInBounds _ = Unit {0}
 
+-- what a frame reads to
 abbrev pub VerdictInBounds : Verdict → Type 0
 VerdictInBounds Discard = Unit {0}
 VerdictInBounds (Refuse origin cause) = IsTransactionId origin
 VerdictInBounds (Read message) = MessageInBounds message
 
+-- an operator's change
 abbrev pub ChangeInBounds : Change → Type 0
 ChangeInBounds (Codes codes) = AreCodes codes
 ChangeInBounds Withdraw = Unit {0}
 
+-- an event
 abbrev pub EventInBounds : Event → Type 0
 EventInBounds (Frame from verdict) = AreDigits from × VerdictInBounds verdict
 EventInBounds (Clock shard now) = shard < shards
@@ -136,6 +151,7 @@ EventInBounds (Operator imsi change) = ChangeInBounds change
 
 -- answers
 
+-- what a component that is sent has
 abbrev pub SentComponentInBounds : SentComponent → Type 0
 SentComponentInBounds (Insert id imsi msisdn codes) =
     IsInvokeId id × IfThere AreDigits imsi × IfThere AreDigits msisdn × AreOctets codes × (length codes ≤ codes_in_insert)
@@ -150,13 +166,16 @@ SentComponentInBounds (SentError id code) = IsInvokeId id
 abbrev pub OwnInBounds : List SentComponent → Type 0
 OwnInBounds components = Every SentComponentInBounds components × (length components ≤ 4)
 
+-- at most sixteen Rejects
 abbrev pub RejectsInBounds : List Rejection → Type 0
 RejectsInBounds rejects = Every (λ (r : Rejection). IfThere IsInvokeId r.id) rejects × (length rejects ≤ 16)
 
+-- the name in an Abort that refuses
 abbrev pub WhyInBounds : Why → Type 0
 WhyInBounds (Refusing name) = IsName name
 WhyInBounds _ = Unit {0}
 
+-- what a message that is sent has
 abbrev pub SentInBounds : SentMessage → Type 0
 SentInBounds (SentBegin origin context components) = IsTransactionId origin × OwnInBounds components
 SentInBounds (SentContinue origin destination context rejects components) =
@@ -165,9 +184,11 @@ SentInBounds (SentEnd destination context rejects components) =
     IsTransactionId destination × RejectsInBounds rejects × OwnInBounds components
 SentInBounds (SentAbort destination why) = IsTransactionId destination × WhyInBounds why
 
+-- and the address it goes to
 abbrev pub OutInBounds : Out → Type 0
 OutInBounds out = AreDigits out.to × SentInBounds out.message
 
+-- each frame of an answer
 abbrev pub AnswerInBounds : Answer → Type 0
 AnswerInBounds a = Every OutInBounds a.sent
 

@@ -3,6 +3,7 @@ use Rattle.std.specs.Prelude.{ℕ, List, [], ◌∷◌, ◌++◌}
 use Rattle.machine.specs.State.{State}
 use Rattle.machine.specs.Legal.{Entry, Legal}
 
+-- a piece of the journal, with the state it begins in
 pub record Epoch : Type 0 where
   pub base : State
   pub entries : List Entry

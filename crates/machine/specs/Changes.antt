@@ -46,6 +46,7 @@ withdraw_from here subscriber new (Some register) = record {
   sent = cancel_begin here register.vlr SubscriptionWithdraw new;
 }
 
+-- either change of a subscriber who is not withdrawn
 abbrev pub change_to : Local → Subscriber → Change → (new : List ℕ) → Outcome
 change_to here subscriber (Codes codes) new = codes_to here subscriber codes new subscriber.register
 change_to here subscriber Withdraw new = withdraw_from here subscriber new subscriber.register

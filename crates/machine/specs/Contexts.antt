@@ -5,6 +5,7 @@ use Rattle.machine.specs.Keys.{same}
 use Rattle.machine.specs.Numbers.{update_location, send_routing_info_for_sm, purge_ms}
 use Rattle.machine.specs.Sent.{Context, NetworkLocUp, LocationCancellation, SubscriberDataMngt, ShortMsgGateway, MsPurging}
 
+-- a context's own octet
 abbrev pub octet_of : Context → ℕ
 octet_of NetworkLocUp = 0x01
 octet_of LocationCancellation = 0x02
@@ -16,6 +17,7 @@ octet_of MsPurging = 0x1B
 abbrev pub family : Context → List ℕ
 family context = 4 ∷ 0 ∷ 0 ∷ 1 ∷ 0 ∷ octet_of context ∷ []
 
+-- the name of version 3
 abbrev pub name_of : Context → List ℕ
 name_of context = family context ++ 3 ∷ []
 
@@ -33,20 +35,25 @@ pub data Named : Type 0 where
   OtherVersion : Context → Named
   Unknown : Named
 
+-- all that are known here
 abbrev pub contexts : List Context
 contexts = NetworkLocUp ∷ LocationCancellation ∷ SubscriberDataMngt ∷ ShortMsgGateway ∷ MsPurging ∷ []
 
+-- whether the name is that of this context in some version
 abbrev pub is_version_of : List ℕ → Context → Bool
 is_version_of name context = (length name == 7) && same (take 6 name) (family context)
 
+-- another version of a context that was found
 abbrev pub other_version : Option Context → Named
 other_version None = Unknown
 other_version (Some context) = OtherVersion context
 
+-- the context that was found, otherwise the other answer
 abbrev pub known_or : Option Context → Named → Named
 known_or None named = named
 known_or (Some context) named = Known context
 
+-- A name is looked for as it is, then as another version of a context in which a peer may begin.
 unfoldable pub context_of : List ℕ → Named
 context_of name =
     known_or (find (λ context. same name (name_of context)) contexts)
@@ -57,6 +64,7 @@ abbrev pub accepted_as : Named → Option Context
 accepted_as (Known context) = cond (is_some (operation_of context)) (Some context) None
 accepted_as _ = None
 
+-- the same of the name itself
 unfoldable pub accepted : List ℕ → Option Context
 accepted name = accepted_as (context_of name)
 
@@ -65,5 +73,6 @@ abbrev pub refused_as : List ℕ → Named → List ℕ
 refused_as name (OtherVersion context) = name_of context
 refused_as name _ = name
 
+-- the same of the name itself
 unfoldable pub refused_name : List ℕ → List ℕ
 refused_name name = refused_as name (context_of name)

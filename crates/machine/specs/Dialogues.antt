@@ -34,6 +34,8 @@ update_done here register subscriber result new (Some old) = record {
   sent = result ++ cond (same old.vlr register.vlr) [] (cancel_begin here old.vlr UpdateProcedure new);
 }
 
+-- An update whose inserts have all succeeded: it counts only where it is the current one. (The subscriber of a dialogue
+-- has a record.)
 abbrev pub update_completes : Local → List ℕ → Dialogue → Register → (invoke : ℤ) → List Rejection → (new : List ℕ)
     → Option Subscriber → Outcome
 update_completes here id dialogue register invoke rejects new None = update_fails here id dialogue invoke rejects
@@ -52,6 +54,7 @@ goes_on here id dialogue rejects invocations = record {
   sent = continued id dialogue.transaction dialogue.transaction.remote rejects;
 }
 
+-- an update, by how its inserts stand
 abbrev pub update_continues : Local → List ℕ → Dialogue → Register → (invoke : ℤ) → Effect → Conclusion
     → (new : List ℕ) → Outcome
 update_continues here id dialogue register invoke effect HasFailed new =
@@ -71,6 +74,7 @@ other_continues here id dialogue effect _ = record {
   sent = ended dialogue.transaction dialogue.transaction.remote effect.rejects [];
 }
 
+-- a dialogue, by what it is for
 abbrev pub continues_as : Local → List ℕ → Dialogue → Kind → Effect → (new : List ℕ) → Outcome
 continues_as here id dialogue (Updates register invoke) effect new =
     update_continues here id dialogue register invoke effect effect.conclusion new

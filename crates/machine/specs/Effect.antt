@@ -44,10 +44,12 @@ pub record Offer : Type 0 where
   pub may_start : Bool
   pub typed : Bool
 
+-- whether the peer waits for this id
 abbrev pub is_id : Option ℤ → ℤ → Bool
 is_id None j = false
 is_id (Some i) j = int_eq i j
 
+-- whether the code is that of the operation that may be invoked
 abbrev pub is_operation : Option ℕ → Code → Bool
 is_operation (Some a) (Number b) = a == b
 is_operation _ _ = false
@@ -87,13 +89,16 @@ starts offer vs (c ∷ cs) = started_by offer vs c
 abbrev pub is_open_id : {P : Type 0} → Offer → List Invocation → (earlier : List (ComponentOf P)) → ℤ → Bool
 is_open_id offer vs earlier id = is_id offer.open_id id || is_id (starts offer vs earlier) id
 
+-- whether there is nothing before
 abbrev pub is_empty : {X : Type 0} → List X → Bool
 is_empty [] = true
 is_empty (x ∷ xs) = false
 
+-- a Reject of this problem
 abbrev pub rejection : Option ℤ → Side → ℕ → Rejection
 rejection id side problem = record { id = id; side = side; problem = problem }
 
+-- an Invoke is rejected where it has a problem
 abbrev pub reject_invoke : ℤ → Option ℕ → List Rejection
 reject_invoke id None = []
 reject_invoke id (Some problem) = rejection (Some id) OfInvoke problem ∷ []
@@ -128,6 +133,7 @@ concluded_by now v None = v ∷ []
 concluded_by now v (Some (Reject id side problem)) = []
 concluded_by now v (Some c) = record { id = v.id; was = WaitForReject; deadline = now + reject_timer } ∷ []
 
+-- an invocation after the components: in Wait for Reject it stays as it is
 abbrev pub concluded : {P : Type 0} → ℕ → List (ComponentOf P) → Invocation → List Invocation
 concluded now cs v = cond (is_sent v.was) (concluded_by now v (concluding v.id cs)) (v ∷ [])
 
@@ -136,6 +142,7 @@ abbrev pub invocations_after : {P : Type 0} → ℕ → List (ComponentOf P) →
 invocations_after now cs [] = []
 invocations_after now cs (v ∷ vs) = concluded now cs v ++ invocations_after now cs vs
 
+-- whether it is a conclusion that fails: an error, or a Reject
 abbrev pub is_failure : {P : Type 0} → Option (ComponentOf P) → Bool
 is_failure None = false
 is_failure (Some (ResultLast id)) = false
@@ -146,11 +153,13 @@ abbrev pub any_failed : {P : Type 0} → List (ComponentOf P) → List Invocatio
 any_failed cs [] = false
 any_failed cs (v ∷ vs) = cond (is_sent v.was && is_failure (concluding v.id cs)) true (any_failed cs vs)
 
+-- how the invocations of a dialogue stand after the components
 pub data Conclusion : Type 0 where
   HasFailed : Conclusion
   HasSucceeded : Conclusion
   GoesOn : Conclusion
 
+-- Failure comes first; while one waits for its answer, it goes on.
 unfoldable pub conclusion_of : (failed still_sent : Bool) → Conclusion
 conclusion_of true still_sent = HasFailed
 conclusion_of false true = GoesOn
@@ -164,6 +173,7 @@ pub record Effect : Type 0 where
   pub invocations : List Invocation
   pub conclusion : Conclusion
 
+-- the effect of a list of components at this clock
 unfoldable pub effect : {P : Type 0} → ℕ → Offer → List Invocation → List (ComponentOf P) → Effect
 effect now offer vs cs = record {
   rejects = rejects_after offer vs [] cs;

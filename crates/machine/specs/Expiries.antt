@@ -14,6 +14,7 @@ abbrev pub without : ℤ → List Invocation → List Invocation
 without id [] = []
 without id (v ∷ vs) = cond (int_eq v.id id) vs (v ∷ without id vs)
 
+-- whether these are the digits of the register
 abbrev pub is_register : (vlr : List ℕ) → Option Register → Bool
 is_register vlr None = false
 is_register vlr (Some register) = same register.vlr vlr
@@ -27,6 +28,7 @@ register_of (Some dialogue) = of_kind dialogue.kind
     of_kind (Updates register invoke) = Some register
     of_kind _ = None
 
+-- the register of the subscriber's current update
 abbrev pub current_register : Local → (current : Option (List ℕ)) → Option Register
 current_register here None = None
 current_register here (Some current) = register_of (here.dialogues current)

@@ -12,6 +12,7 @@ use Rattle.machine.specs.Legal.{Entry}
 
 -- the VLR digits with which a dialogue begins
 
+-- those of an update's argument
 abbrev pub vlr_of_argument : Option Argument → Option (List ℕ)
 vlr_of_argument (Some (Update imsi register)) = Some register.vlr
 vlr_of_argument _ = None
@@ -21,10 +22,12 @@ abbrev pub vlr_of : Event → Option (List ℕ)
 vlr_of (Frame from (Read (Begin origin name components))) = vlr_of_argument (first_argument components)
 vlr_of _ = None
 
+-- those that a dialogue has kept
 abbrev pub vlr_of_kind : Kind → Option (List ℕ)
 vlr_of_kind (Updates register invoke) = Some register.vlr
 vlr_of_kind _ = None
 
+-- those of an open dialogue
 abbrev pub vlr_of_dialogue : Option Dialogue → Option (List ℕ)
 vlr_of_dialogue None = None
 vlr_of_dialogue (Some d) = vlr_of_kind d.kind
@@ -33,13 +36,16 @@ vlr_of_dialogue (Some d) = vlr_of_kind d.kind
 abbrev pub began_in : State → List ℕ → Option (List ℕ)
 began_in base id = vlr_of_dialogue (base.dialogues id)
 
+-- an event whose step takes an id begins it with its digits
 abbrev pub began_by : (List ℕ → Option (List ℕ)) → Event → (id : Option (List ℕ)) → List ℕ → Option (List ℕ)
 began_by began e None = began
 began_by began e (Some id) = put began id (vlr_of e)
 
+-- after one more entry
 abbrev pub began_after : (List ℕ → Option (List ℕ)) → Entry → List ℕ → Option (List ℕ)
 began_after began entry = began_by began entry.event entry.answer.id
 
+-- after these entries
 abbrev pub began_from : (List ℕ → Option (List ℕ)) → List Entry → List ℕ → Option (List ℕ)
 began_from began [] = began
 began_from began (entry ∷ entries) = began_from (began_after began entry) entries
@@ -61,6 +67,7 @@ IsNamed S (Expire shard) i =
     (d : Dialogue) × (j : ℤ) × (v : Invocation) × IsDue S shard i d j v × IsLeast S shard v.deadline i j
 IsNamed S (Operator imsi change) i = ⊥
 
+-- those of the dialogue that is named
 abbrev pub began_named : (List ℕ → Option (List ℕ)) → Option (List ℕ) → Option (List ℕ)
 began_named began None = None
 began_named began (Some id) = began id
@@ -71,20 +78,25 @@ began_named began (Some id) = began id
 abbrev pub Holding : Type 0
 Holding = List ℕ → Bool
 
+-- nobody holds
 abbrev pub held_by_none : Holding
 held_by_none vlr = false
 
+-- one more holds
 abbrev pub added : Option (List ℕ) → Holding → Holding
 added None holding vlr = holding vlr
 added (Some one) holding vlr = cond (same one vlr) true (holding vlr)
 
+-- one holds no longer
 abbrev pub removed : List ℕ → Holding → Holding
 removed one holding vlr = cond (same one vlr) false (holding vlr)
 
+-- whether it is the result of updateLocation
 abbrev pub is_update_result : SentComponent → Bool
 is_update_result (UpdateResult id hlr) = true
 is_update_result _ = false
 
+-- whether it is a cancelLocation of x
 abbrev pub is_cancel_of : List ℕ → SentComponent → Bool
 is_cancel_of x (Cancel id imsi cause) = same imsi x
 is_cancel_of x _ = false
@@ -104,6 +116,7 @@ held_after_message x is_x began to (SentBegin origin context components) holding
     cond (list_any (is_cancel_of x) components) (removed to holding) holding
 held_after_message x is_x began to _ holding = holding
 
+-- after the frames of an entry, in their order
 abbrev pub held_after : List ℕ → (is_x : Bool) → (began : Option (List ℕ)) → List Out → Holding → Holding
 held_after x is_x began [] holding = holding
 held_after x is_x began (out ∷ outs) holding =
@@ -121,6 +134,7 @@ abbrev pub served_by : Option Register → Holding
 served_by None = held_by_none
 served_by (Some register) = same register.vlr
 
+-- the same of a record
 abbrev pub serving : Option Subscriber → Holding
 serving None = held_by_none
 serving (Some s) = served_by s.register

@@ -4,6 +4,7 @@ use Rattle.machine.specs.Numbers.{invocation_timer, reject_timer}
 use Rattle.machine.specs.Received.{Side, General, OfInvoke, OfResult, OfError}
 use Rattle.machine.specs.State.{Was, OperationSent, WaitForReject}
 
+-- what happens to an invocation: it is invoked, a component of its id comes, its timer runs out, or its dialogue ends
 pub data Happening : Type 0 where
   Invoked : Happening
   GetsResultLast : Happening
@@ -25,9 +26,11 @@ pub data Reply : Type 0 where
 abbrev pub Standing : Type 0
 Standing = Option (Was × ℕ)
 
+-- in Operation Sent from now on
 abbrev pub sent_at : ℕ → Standing
 sent_at now = Some (OperationSent, now + invocation_timer)
 
+-- in Wait for Reject from now on
 abbrev pub waiting_at : ℕ → Standing
 waiting_at now = Some (WaitForReject, now + reject_timer)
 
@@ -38,6 +41,7 @@ ends_it OfInvoke = true
 ends_it OfResult = false
 ends_it OfError = false
 
+-- a Reject in Operation Sent: it ends the invocation, or is of no concern to it
 abbrev pub rejected_at : Side → ℕ → Standing × Reply
 rejected_at side deadline = cond (ends_it side) (None, Failed) (Some (OperationSent, deadline), NoReply)
 

@@ -12,6 +12,7 @@ use Rattle.machine.specs.Step.{Answer}
 use Rattle.machine.specs.Legal.{Entry}
 use Rattle.machine.specs.Holders.{is_subject}
 
+-- whether it is a clock value
 abbrev pub is_clock : Event → Bool
 is_clock (Clock shard now) = true
 is_clock _ = false
@@ -20,9 +21,11 @@ is_clock _ = false
 abbrev pub is_of : List ℕ → Entry → Bool
 is_of x entry = cond (is_clock entry.event) true (is_subject x entry.answer.subject)
 
+-- x's entries, in their order
 abbrev pub only_of : List Entry → List ℕ → List Entry
 only_of journal x = filter (is_of x) journal
 
+-- the record without the mark of its current update
 abbrev pub without_mark : Option Subscriber → Option Subscriber
 without_mark None = None
 without_mark (Some s) = Some (record s { current = None })
@@ -43,6 +46,7 @@ abbrev pub is_limit : SentMessage → Bool
 is_limit (SentAbort destination (Cause cause)) = cause == no_resources
 is_limit _ = false
 
+-- whether the answer begins with such an Abort
 abbrev pub is_turned_away : List Out → Bool
 is_turned_away [] = false
 is_turned_away (out ∷ outs) = is_limit out.message

@@ -10,13 +10,16 @@ use Rattle.machine.specs.Run.{Run}
 use Rattle.machine.specs.Sound.{Sound}
 use Rattle.machine.specs.Parts.{part}
 
+-- an entry: the event, and the answer of its step
 pub record Entry : Type 0 where
   pub event : Event
   pub answer : Answer
 
+-- the events of the entries
 abbrev pub events_of : List Entry → List Event
 events_of entries = map (λ entry. entry.event) entries
 
+-- and their answers
 abbrev pub answers_of : List Entry → List Answer
 answers_of entries = map (λ entry. entry.answer) entries
 

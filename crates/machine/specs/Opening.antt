@@ -19,5 +19,6 @@ pub record IsLoaded (s : Subscriber) : Type 0 where
   pub purged : s.register ≡ None → s.purged ≡ false
   pub withdrawn : s.withdrawn ≡ true → s.register ≡ None
 
+-- each record may be loaded
 abbrev pub AreLoaded : (List ℕ → Option Subscriber) → Type 0
 AreLoaded records = (x : List ℕ) (s : Subscriber) → records x ≡ Some s → IsLoaded s

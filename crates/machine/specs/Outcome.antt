@@ -13,6 +13,7 @@ pub record Outcome : Type 0 where
   pub opens : Option Dialogue
   pub sent : List Out
 
+-- one message to one address
 abbrev pub send : List ℕ → SentMessage → List Out
 send to message = record { to = to; message = message } ∷ []
 
@@ -22,6 +23,7 @@ unchanged here sent = record { after = here.record_of; stays = None; opens = Non
 
 -- own invocations
 
+-- an invocation in Operation Sent, invoked now
 abbrev pub invoked : ℕ → ℤ → Invocation
 invoked now id = record { id = id; was = OperationSent; deadline = now + invocation_timer }
 
@@ -34,6 +36,7 @@ below (suc k) = below k ++ k ∷ []
 abbrev pub further : List ℕ → ℕ
 further codes = (length codes - 1) / codes_in_insert
 
+-- the invocations of the inserts
 abbrev pub inserts_invoked : ℕ → List ℕ → List Invocation
 inserts_invoked now codes = invoked now (pos 1) ∷ map (λ k. invoked now (pos (k + 2))) (below (further codes))
 
@@ -53,6 +56,7 @@ cancel here vlr attempt cause = record {
   kind = Cancels vlr attempt cause;
 }
 
+-- and the Begin that carries it
 abbrev pub cancel_begin : Local → List ℕ → CancellationType → (new : List ℕ) → List Out
 cancel_begin here vlr cause new = send vlr (SentBegin new LocationCancellation (Cancel (pos 1) here.imsi cause ∷ []))
 
@@ -71,6 +75,7 @@ continued id t (Some remote) (r ∷ rs) = send t.peer (SentContinue id remote No
 
 -- the mark of the current update
 
+-- whether the mark is that of this dialogue
 abbrev pub is_marked : (current : Option (List ℕ)) → List ℕ → Bool
 is_marked None id = false
 is_marked (Some current) id = same current id

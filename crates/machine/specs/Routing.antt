@@ -17,6 +17,7 @@ named_in directory _ = None
 abbrev pub asked : (directory : List ℕ → Option (List ℕ)) → List Component → Option (List ℕ)
 asked directory components = named_in directory (first_argument components)
 
+-- where there is no subscriber, shard 0
 abbrev pub shard_asked : Option (List ℕ) → ℕ
 shard_asked None = 0
 shard_asked (Some imsi) = shard_of imsi
@@ -25,16 +26,19 @@ shard_asked (Some imsi) = shard_of imsi
 abbrev pub shard_named : List ℕ → ℕ
 shard_named id = cond ((length id == 4) && nat_lt (shard_of_id id) shards) (shard_of_id id) 0
 
+-- a Begin goes by the subscriber it asks about, what follows by the local id
 abbrev pub route_message : (directory : List ℕ → Option (List ℕ)) → Message → ℕ
 route_message directory (Begin origin name components) = shard_asked (asked directory components)
 route_message directory (Continue origin destination portion components) = shard_named destination
 route_message directory (End destination portion components) = shard_named destination
 route_message directory (Abort destination) = shard_named destination
 
+-- what is no message goes to shard 0
 abbrev pub route_verdict : (directory : List ℕ → Option (List ℕ)) → Verdict → ℕ
 route_verdict directory (Read message) = route_message directory message
 route_verdict directory _ = 0
 
+-- the shard of an event
 abbrev pub route : (directory : List ℕ → Option (List ℕ)) → Event → ℕ
 route directory (Frame from verdict) = route_verdict directory verdict
 route directory (Clock shard now) = shard

@@ -21,10 +21,12 @@ abbrev pub standing_of : ℤ → List Invocation → Standing
 standing_of j [] = None
 standing_of j (v ∷ vs) = cond (int_eq v.id j) (Some (v.was, v.deadline)) (standing_of j vs)
 
+-- the Reject that a reply asks for
 abbrev pub rejected_by : ℤ → Reply → List Rejection
 rejected_by j (Rejected side) = rejection (Some j) side unrecognized_invoke_id ∷ []
 rejected_by j _ = []
 
+-- whether the reply says that the operation failed
 abbrev pub is_failed : Reply → Bool
 is_failed Failed = true
 is_failed _ = false

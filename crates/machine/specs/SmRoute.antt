@@ -10,9 +10,11 @@ pub data RouteAnswer : Type 0 where
   NoRoute : (error : ℕ) → RouteAnswer
   RouteTo : (imsi msc : List ℕ) → (lmsi : Option (List ℕ)) → RouteAnswer
 
+-- whether the subscriber may get short messages
 abbrev pub has_short_messages : List ℕ → Bool
 has_short_messages codes = list_any (λ code. (code == short_message_services) || (code == short_message_to_mobile)) codes
 
+-- by the register, if one serves
 abbrev pub route_by : List ℕ → (purged : Bool) → Option Register → RouteAnswer
 route_by imsi purged None = NoRoute absent_subscriber_sm
 route_by imsi purged (Some register) =

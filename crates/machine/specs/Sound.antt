@@ -5,10 +5,12 @@ use Rattle.machine.specs.Numbers.{most_dialogues}
 use Rattle.machine.specs.State.{Subscriber, Kind, Updates, Dialogue, State, any_sent, IsIdOf, AreOpen}
 use Rattle.machine.specs.Effect.{AreRising}
 
+-- the dialogue is for an update
 abbrev pub IsUpdate : Kind → Type 0
 IsUpdate (Updates register invoke) = Unit {0}
 IsUpdate _ = ⊥
 
+-- there is a dialogue, and it is an update of this subscriber
 abbrev pub IsUpdateOf : List ℕ → Option Dialogue → Type 0
 IsUpdateOf imsi None = ⊥
 IsUpdateOf imsi (Some d) = (d.subscriber ≡ imsi) × IsUpdate d.kind
@@ -26,11 +28,13 @@ pub record SoundDialogue (records : List ℕ → Option Subscriber) (i : List �
   pub has_sent : IsTrue (any_sent d.invocations)
   pub rising : AreRising d.invocations
 
+-- A mark names an open update; what has no register is not purged; what is withdrawn has neither register nor mark.
 pub record SoundRecord (dialogues : List ℕ → Option Dialogue) (x : List ℕ) (s : Subscriber) : Type 0 where
   pub mark : MarkNames x dialogues s.current
   pub purged : s.register ≡ None → s.purged ≡ false
   pub withdrawn : s.withdrawn ≡ true → (s.register ≡ None) × (s.current ≡ None)
 
+-- Every open dialogue and every record is sound, and no shard has more open dialogues than may be.
 pub record Sound (S : State) : Type 0 where
   pub dialogues : (i : List ℕ) (d : Dialogue) → S.dialogues i ≡ Some d → SoundDialogue S.records i d
   pub records : (x : List ℕ) (s : Subscriber) → S.records x ≡ Some s → SoundRecord S.dialogues x s

@@ -27,6 +27,7 @@ pub data Was : Type 0 where
   OperationSent : Was
   WaitForReject : Was
 
+-- an own invocation: its invoke id, its state, and when its timer runs out
 pub record Invocation : Type 0 where
   pub id : ℤ
   pub was : Was
@@ -55,6 +56,7 @@ pub record State : Type 0 where
   pub directory : List ℕ → Option (List ℕ)
   pub hlr : List ℕ
 
+-- whether it waits for its answer
 abbrev pub is_sent : Was → Bool
 is_sent OperationSent = true
 is_sent WaitForReject = false
@@ -78,6 +80,7 @@ pub record Local : Type 0 where
   pub clock : ℕ
   pub hlr : List ℕ
 
+-- what a procedure on this subscriber sees
 unfoldable pub local_of : State → ℕ → List ℕ → Local
 local_of S shard imsi = record {
   imsi = imsi;

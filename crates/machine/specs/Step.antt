@@ -24,6 +24,7 @@ outcome here (Closes id d) new = closes here id
 outcome here (Expires id d invoke was) new = expires here id d invoke was new
 outcome here (Changes imsi change) new = changes here change here.record_of new
 
+-- what the procedure sees of the subscriber whom it concerns, if any
 abbrev pub seen : State → ℕ → Option (List ℕ) → Local
 seen S shard None = local_of_nobody S shard
 seen S shard (Some imsi) = local_of S shard imsi
@@ -32,30 +33,41 @@ seen S shard (Some imsi) = local_of S shard imsi
 abbrev pub outcome_in : State → ℕ → Turn → (new : List ℕ) → Outcome
 outcome_in S shard turn new = outcome (seen S shard (concern S.directory turn)) turn new
 
--- A step's answer: the id that was taken, the subject, and what is sent, in order. The subject is the subscriber whom it
--- concerns, where there is a record.
+-- A step's answer: the id that was taken, the subject, and what is sent, in order.
 pub record Answer : Type 0 where
   pub id : Option (List ℕ)
   pub subject : Option (List ℕ)
   pub sent : List Out
 
+-- a dialogue that opens takes the new id
 abbrev pub taken : (new : List ℕ) → Option Dialogue → Option (List ℕ)
 taken new None = None
 taken new (Some d) = Some new
 
+-- the subscriber, where there is a record
 abbrev pub if_known : List ℕ → Option Subscriber → Option (List ℕ)
 if_known imsi None = None
 if_known imsi (Some s) = Some imsi
 
-abbrev pub subject_of : State → Option (List ℕ) → Option (List ℕ)
-subject_of S None = None
-subject_of S (Some imsi) = if_known imsi (S.records imsi)
+-- the same of a subscriber, if any
+abbrev pub known_in : State → Option (List ℕ) → Option (List ℕ)
+known_in S None = None
+known_in S (Some imsi) = if_known imsi (S.records imsi)
+
+-- The subject of a turn: the subscriber of the open dialogue that it is for, or the one whom a Begin asks about or a change
+-- names, where there is a record.
+abbrev pub subject_of : State → Turn → Option (List ℕ)
+subject_of S (Continues id d components) = Some d.subscriber
+subject_of S (Closes id d) = Some d.subscriber
+subject_of S (Expires id d invoke was) = Some d.subscriber
+subject_of S turn = known_in S (concern S.directory turn)
 
 -- the dialogues after: the one that is named as it stays, then the one that opens
 abbrev pub named_stays : Option (List ℕ) → Option Dialogue → (List ℕ → Option Dialogue) → List ℕ → Option Dialogue
 named_stays None stays dialogues = dialogues
 named_stays (Some id) stays dialogues = put dialogues id stays
 
+-- and the one that opens
 abbrev pub new_opens : (new : List ℕ) → Option Dialogue → (List ℕ → Option Dialogue) → List ℕ → Option Dialogue
 new_opens new None dialogues = dialogues
 new_opens new (Some d) dialogues = put dialogues new (Some d)
@@ -90,7 +102,7 @@ pub record Moves (S : State) (n : ℕ) (turn : Turn) (new : List ℕ) (o : Outco
   pub room : WouldOverflow S n turn o → ⊥
   pub state : after ≡ ticked turn (moved S (concern S.directory turn) (named turn) new o)
   pub id : a.id ≡ taken new o.opens
-  pub subject : a.subject ≡ subject_of S (concern S.directory turn)
+  pub subject : a.subject ≡ subject_of S turn
   pub sent : a.sent ≡ o.sent
 
 -- An update that would overflow the shard is aborted, and nothing changes.
@@ -103,7 +115,7 @@ pub record TurnedAway (S : State) (n : ℕ) (turn : Turn) (o : Outcome) (after :
   pub overflows : WouldOverflow S n turn o
   pub state : after ≡ S
   pub id : a.id ≡ None
-  pub subject : a.subject ≡ subject_of S (concern S.directory turn)
+  pub subject : a.subject ≡ subject_of S turn
   pub sent : a.sent ≡ send from (SentAbort origin (Cause no_resources))
 
 -- One event leads from a state to a state, with an answer.

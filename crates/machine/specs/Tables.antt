@@ -14,6 +14,7 @@ use Rattle.machine.specs.Invocations.{Invoked, TimesOut, Reply, NoReply, invocat
 use Rattle.machine.specs.Outcome.{send}
 use Rattle.machine.specs.Rows.{standing_of}
 
+-- the transaction of a local id, if a dialogue has it
 abbrev pub transaction_of : Option Dialogue → Option Transaction
 transaction_of None = None
 transaction_of (Some d) = Some d.transaction

@@ -26,6 +26,7 @@ pub record Row : Type 0 where
   pub after : Option Transaction
   pub fate : Fate
 
+-- a row that happens
 abbrev pub row : Option Transaction → Fate → Option Row
 row after fate = Some (record { after = after; fate = fate })
 
@@ -34,10 +35,12 @@ abbrev pub continue_row : Transaction → (remote : Option (List ℕ)) → (from
 continue_row t None from origin = row (Some (record { peer = from; remote = Some origin })) ForIt
 continue_row t (Some known) from origin = cond (same known origin) (row (Some t) ForIt) (row (Some t) Unassigned)
 
+-- a row for Active alone
 abbrev pub if_active : Option (List ℕ) → Option Row → Option Row
 if_active None then = None
 if_active (Some remote) then = then
 
+-- a row for Initiation Sent alone
 abbrev pub if_initiated : Option (List ℕ) → Option Row → Option Row
 if_initiated None then = then
 if_initiated (Some remote) then = None

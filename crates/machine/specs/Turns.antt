@@ -13,6 +13,7 @@ use Rattle.machine.specs.Transactions.{transact, ContinueComes, Row, Fate, ForIt
 use Rattle.machine.specs.Outcome.{send}
 use Rattle.machine.specs.Routing.{asked}
 
+-- What is to be done: nothing but to answer, to set a clock, or a procedure of one of five kinds.
 pub data Turn : Type 0 where
   Dismissed : List Out → Turn  -- nothing changes, and this is sent
   Ticks : (shard now : ℕ) → Turn
@@ -27,26 +28,31 @@ abbrev pub if_for_it : Fate → Option Transaction → Option Transaction
 if_for_it ForIt t = t
 if_for_it _ t = None
 
+-- the same of a row
 abbrev pub for_it : Option Row → Option Transaction
 for_it None = None
 for_it (Some row) = if_for_it row.fate row.after
 
+-- a Continue at an open dialogue
 abbrev pub continue_for : (from origin id : List ℕ) → List Component → Dialogue → Option Transaction → Turn
 continue_for from origin id components dialogue None =
     Dismissed (send from (SentAbort origin (Cause unrecognized_transaction_id)))
 continue_for from origin id components dialogue (Some t) =
     Continues id (record dialogue { transaction = t }) components
 
+-- a Continue, whether its id is open or not
 abbrev pub continue_at : (from origin id : List ℕ) → List Component → Option Dialogue → Turn
 continue_at from origin id components None =
     Dismissed (send from (SentAbort origin (Cause unrecognized_transaction_id)))
 continue_at from origin id components (Some dialogue) =
     continue_for from origin id components dialogue (for_it (transact (Some dialogue.transaction) (ContinueComes from origin)))
 
+-- an End or an Abort; for no open dialogue it is discarded
 abbrev pub close_at : List ℕ → Option Dialogue → Turn
 close_at id None = Dismissed []
 close_at id (Some dialogue) = Closes id dialogue
 
+-- a received message
 abbrev pub turn_of_message : (dialogues : List ℕ → Option Dialogue) → (from : List ℕ) → Message → Turn
 turn_of_message dialogues from (Begin origin name components) = Begins from origin name components
 turn_of_message dialogues from (Continue origin destination portion components) =
@@ -54,6 +60,7 @@ turn_of_message dialogues from (Continue origin destination portion components) 
 turn_of_message dialogues from (End destination portion components) = close_at destination (dialogues destination)
 turn_of_message dialogues from (Abort destination) = close_at destination (dialogues destination)
 
+-- a received frame
 abbrev pub turn_of_verdict : (dialogues : List ℕ → Option Dialogue) → (from : List ℕ) → Verdict → Turn
 turn_of_verdict dialogues from Discard = Dismissed []
 turn_of_verdict dialogues from (Refuse origin cause) = Dismissed (send from (SentAbort origin (Cause cause)))

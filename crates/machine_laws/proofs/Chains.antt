@@ -12,7 +12,7 @@ use Rattle.machine.specs.Routing.{route}
 use Rattle.machine_laws.proofs.Steps.{step_sound}
 use Rattle.machine_laws.proofs.Transfer.{step_leaves}
 use Rattle.machine_laws.proofs.Holding.{holders_run}
-use Rattle.machine_laws.proofs.Isolation.{isolation}
+use Rattle.machine_laws.proofs.OwnJournals.{isolation}
 
 run_append : (js ks : List Entry) (S T U : State) → Run S (events_of js) T (answers_of js) → Run T (events_of ks) U (answers_of ks) → Run S (events_of (js ++ ks)) U (answers_of (js ++ ks))
 run_append [] ks S T U run more = subst (λ V. Run V (events_of ks) U (answers_of ks)) run more

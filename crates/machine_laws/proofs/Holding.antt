@@ -2,7 +2,7 @@
 use Rattle.std.proofs.Common.{◌≡◌, ℕ, ℤ, List, [], ◌∷◌, Bool, false, refl, sym, ap, ◌∙◌, subst, ◌⊎◌, inl, inr, Option, Some, None, is_some, IsTrue}
 use Rattle.std.proofs.Math.Path.{fun_ext}
 use Rattle.std.proofs.lemmas.Bool.{both_ways}
-use Rattle.machine.specs.Step.{Answer, Full, Moves, Step, Taken, if_known, moved, outcome, outcome_in, seen, subject_of, taken, ticked}
+use Rattle.machine.specs.Step.{Answer, Full, Moves, Step, Taken, if_known, known_in, moved, outcome, outcome_in, seen, taken, ticked}
 use Rattle.machine.specs.Turns.{Begins, Changes, Closes, Continues, Dismissed, Expires, Ticks, Turn, concern, named}
 use Rattle.machine.specs.State.{Dialogue, Local, State, Subscriber, Updates, local_of, local_of_nobody}
 use Rattle.machine.specs.Legal.{Entry, answers_of, events_of}
@@ -20,6 +20,7 @@ use Rattle.machine_laws.proofs.Outcomes.{Good, SoundBefore, good_begins, expires
 use Rattle.machine_laws.proofs.Views.{View, view, Idly, Ticking, Beginning, Continuing, Closing, Expiring, Changing}
 use Rattle.machine_laws.proofs.Soundness.{From, from, Opened, Stayed, Was_there}
 use Rattle.machine_laws.proofs.Steps.{Facts, facts, began_of, state_of, state_none, outcome_of, step_sound}
+use Rattle.machine_laws.proofs.Subjects.{subject_known}
 
 -- where nobody is concerned, no dialogue opens and what is sent is quiet
 
@@ -128,7 +129,7 @@ module _ (S : State) (e : Event) (turn : Turn) (new x : List ℕ) (began : List 
       let bare : Bare (outcome (local_of_nobody S n) turn new) = bare_came S e turn n new v c in
       let state : T ≡ ticked turn S = state_none S e turn new T a c m in
       let no_id : a.id ≡ None = m.id ∙ ap (λ (o : Outcome). taken new o.opens) o_is ∙ ap (λ o. taken new o) bare.opens in
-      let no_subject : is_subject x a.subject ≡ false = ap (λ o. is_subject x o) (m.subject ∙ ap (λ o. subject_of S o) c) in
+      let no_subject : is_subject x a.subject ≡ false = ap (λ o. is_subject x o) (m.subject ∙ subject_known S e turn sound v ∙ ap (λ o. known_in S o) c) in
       let sent : a.sent ≡ (outcome (local_of_nobody S n) turn new).sent = m.sent ∙ ap (λ (o : Outcome). o.sent) o_is in
       record {
         held = λ w. ap (λ t. held_after x t (began_named began (names e)) a.sent (serving (S.records x)) w) no_subject
@@ -162,7 +163,7 @@ module _ (S : State) (e : Event) (turn : Turn) (new x : List ℕ) (began : List 
     sent_is = m.sent ∙ ap (λ (q : Outcome). q.sent) o_is
 
     subject_is : a.subject ≡ if_known y (S.records y)
-    subject_is = m.subject ∙ ap (λ q. subject_of S q) c
+    subject_is = m.subject ∙ subject_known S e turn sound v ∙ ap (λ q. known_in S q) c
 
     records_are : (z : List ℕ) → T.records z ≡ put S.records y (outcome (local_of S (route S.directory e) y) turn new).after z
     records_are z = ap (λ (U : State). U.records z) state

@@ -1,8 +1,10 @@
 pub mod Keys
 pub mod Rising
 pub mod Outcomes
+pub mod ChangeOutcomes
 pub mod Counting
 pub mod Views
+pub mod Subjects
 pub mod Soundness
 pub mod Steps
 pub mod Holding
@@ -10,6 +12,7 @@ pub mod Transfer
 pub mod Parts
 pub mod Merging
 pub mod Isolation
+pub mod OwnJournals
 pub mod Naming
 pub mod Chains
 pub mod Folding
@@ -22,6 +25,7 @@ pub mod Bounding
 pub mod Within
 pub mod Starting
 pub mod Progress
+pub mod FullShard
 pub mod Opened
 pub mod Growing
 pub mod Openings

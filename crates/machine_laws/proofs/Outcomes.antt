@@ -1,19 +1,16 @@
 -- What every outcome of a procedure has in common, case by case.
-use Rattle.std.proofs.Common.{◌≡◌, ◌+◌, ◌*◌, int_eq, take, drop, map, ℕ, ℤ, pos, List, [], ◌∷◌, ◌++◌, Bool, true, false, cond, ◌||◌, refl, sym, ap, ◌∙◌, subst, ◌⊎◌, inl, inr, Option, Some, None, IsTrue, is_some}
+use Rattle.std.proofs.Common.{◌≡◌, ◌+◌, int_eq, ℕ, ℤ, List, [], ◌∷◌, ◌++◌, Bool, true, false, cond, ◌||◌, refl, sym, ap, ◌∙◌, subst, ◌⊎◌, inl, inr, Option, Some, None, IsTrue, is_some}
 use Rattle.std.proofs.lemmas.Bool.{and_parts, both_ways, not-true}
-use Rattle.std.specs.List.{list_any}
 use Rattle.machine.specs.Effect.{AreRising, Conclusion, Effect, GoesOn, HasFailed, HasSucceeded, conclusion_of, effect}
 use Rattle.machine.specs.Received.{Argument, BadValue, Component, Purge, Register, Route, Update}
 use Rattle.machine.specs.Begins.{Asker, answered, begins, begins_in, begins_named, begun, first_argument, is_allowed, procedure, purge, purge_at, route_component, update_begins, update_opened}
-use Rattle.machine.specs.Sent.{CancellationType, Context, Insert, Out, PurgeResult, Rejection, SentBegin, SentComponent, SentError, SubscriberDataMngt, SubscriptionWithdraw, UpdateProcedure, UpdateResult}
+use Rattle.machine.specs.Sent.{CancellationType, Context, Out, PurgeResult, Rejection, SentError, UpdateProcedure, UpdateResult}
 use Rattle.machine.specs.State.{Cancels, Data, Dialogue, Invocation, Kind, Local, OperationSent, Subscriber, Transaction, Updates, WaitForReject, Was, any_sent, is_sent}
-use Rattle.machine.specs.Events.{Change, Codes, Withdraw}
-use Rattle.machine.specs.Holders.{Holding, held_after, is_cancel_of, removed, served_by, serving, vlr_of_argument, vlr_of_kind}
+use Rattle.machine.specs.Holders.{Holding, held_after, removed, served_by, serving, vlr_of_argument, vlr_of_kind}
 use Rattle.machine.specs.Sound.{IsUpdate, IsUpdateOf, MarkNames, SoundRecord}
 use Rattle.machine.specs.SmRoute.{NoRoute, RouteAnswer, RouteTo, sm_route}
-use Rattle.machine.specs.Outcome.{Outcome, below, cancel, cancel_begin, continued, ended, further, inserts, is_marked, send, unchanged, unmarked}
+use Rattle.machine.specs.Outcome.{Outcome, cancel, cancel_begin, continued, ended, is_marked, unchanged, unmarked}
 use Rattle.machine.specs.Contexts.{accepted}
-use Rattle.machine.specs.Changes.{change_to, changes, codes_to, data_to, withdraw_from}
 use Rattle.machine.specs.Dialogues.{closes, continues, continues_as, goes_on, other_continues, update_completes, update_continues, update_done, update_fails}
 use Rattle.machine.specs.Expiries.{current_register, expires, is_register, is_repeated, is_wanted, sent_expires, without}
 use Rattle.machine.specs.Turns.{invocation_of}
@@ -41,7 +38,7 @@ pub record Like (x : List ℕ) (vlr : Option (List ℕ)) (d : Dialogue) : Type 0
 abbrev pub Other : Local → List ℕ → Type 0
 Other L y = (same L.imsi y ≡ false) ⊎ (is_some L.record_of ≡ false)
 
-other_is : (L : Local) (y : List ℕ) → IsTrue (is_some L.record_of) → Other L y → same L.imsi y ≡ false
+pub other_is : (L : Local) (y : List ℕ) → IsTrue (is_some L.record_of) → Other L y → same L.imsi y ≡ false
 other_is L y k (inl e) = e
 other_is L y k (inr e) = absurd (both_ways _ e k)
 
@@ -498,92 +495,3 @@ expires_any L i d j OperationSent new y t b c h w = by_kind d.kind
     by_kind (Updates reg k) = quiet_ended d.transaction d.transaction.remote [] k 34 y t b h w ∙ sym (quiet_ended d.transaction d.transaction.remote [] k 34 y t c h w)
     by_kind (Cancels vlr attempt cancellation) = repeats vlr cancellation (is_repeated L vlr attempt) d.transaction.remote
     by_kind Data = quiet_bare d.transaction d.transaction.remote [] y t b h w ∙ sym (quiet_bare d.transaction d.transaction.remote [] y t c h w)
-
--- an operator's changes
-
-any_map : (p : SentComponent → Bool) (f : ℕ → SentComponent) → ((k : ℕ) → p (f k) ≡ false) → (ks : List ℕ) → list_any p (map f ks) ≡ false
-any_map p f h [] = refl
-any_map p f h (k ∷ ks) = rw (h k) (any_map p f h ks)
-
-module _ (L : Local) (D : List ℕ → Option Dialogue) (new : List ℕ) (before : SoundBefore L D) where
-  good_codes : (s : Subscriber) (codes : List ℕ) (g : Option Register) → L.record_of ≡ Some s → s.register ≡ g → s.withdrawn ≡ false → Good L D None None None new (codes_to L s codes new g)
-  good_codes s codes None r g w = record {
-    known = sym (ap (λ o. is_some o) r);
-    sound = λ f u e. subst (λ v. SoundRecord D L.imsi v) (some_inj _ _ _ refl e) (record { mark = tt; purged = (before s r).purged; withdrawn = λ h. absurd (both_ways _ w h) });
-    stays = λ d e. no_opens d _ e;
-    opens = λ d e. no_opens d _ e;
-    alone = λ d j e. no_opens d _ e;
-    holds = λ v. ap (λ o. serving o v) r;
-    others = λ y b h v e. refl;
-  }
-  good_codes s codes (Some reg) r g w = split s.purged
-    where
-      changed : Subscriber
-      changed = record s { codes = codes; current = None }
-
-      sound_changed : (E : List ℕ → Option Dialogue) → SoundRecord E L.imsi (record s { codes = codes; current = None })
-      sound_changed E = record { mark = tt; purged = (before s r).purged; withdrawn = λ h. absurd (both_ways _ w h) }
-
-      split : (t : Bool) → Good L D None None None new (record {
-        after = Some (record s { codes = codes; current = None });
-        stays = None;
-        opens = cond t None (Some (data_to L reg codes));
-        sent = cond t [] (send reg.vlr (SentBegin new SubscriberDataMngt (inserts (Some L.imsi) s.msisdn codes)));
-      })
-      split true = record {
-        known = sym (ap (λ o. is_some o) r);
-        sound = λ f u e. subst (λ v. SoundRecord D L.imsi v) (some_inj _ _ _ refl e) (sound_changed D);
-        stays = λ d e. no_opens d _ e;
-        opens = λ d e. no_opens d _ e;
-        alone = λ d j e. no_opens d _ e;
-        holds = λ v. ap (λ o. serving o v) r;
-        others = λ y b h v e. refl;
-      }
-      split false = record {
-        known = sym (ap (λ o. is_some o) r);
-        sound = λ f u e. subst (λ v. SoundRecord (put D new (Some (data_to L reg codes))) L.imsi v) (some_inj _ _ _ refl e) (sound_changed _);
-        stays = λ d e. no_opens d _ e;
-        opens = λ d e. (let P : Dialogue → Type 0 = λ v. Like L.imsi None v in subst P (some_inj _ _ _ refl e) (record { subscriber = refl; has_sent = refl; vlr_is = refl; rising = rising_inserts L.clock codes }), ap (λ o. is_some o) r);
-        alone = λ d j e i. absurd (none_some j None refl i);
-        holds = λ v. no_cancel L.imsi (is_some L.record_of) None (serving L.record_of) v ∙ ap (λ o. serving o v) r;
-        others = λ y b h v e. no_cancel y false b h v;
-      }
-        where
-          no_cancel : Quiet (send reg.vlr (SentBegin new SubscriberDataMngt (inserts (Some L.imsi) s.msisdn codes)))
-          no_cancel y is_y b h v = rw (any_map (is_cancel_of y) (λ k. Insert (pos (k + 2)) (Some L.imsi) None (take 8 (drop (8 * (k + 1)) codes))) (λ k. refl) (below (further codes))) refl
-
-  good_withdraw : (s : Subscriber) (g : Option Register) → L.record_of ≡ Some s → s.register ≡ g → Good L D None None None new (withdraw_from L s new g)
-  good_withdraw s None r g = record {
-    known = sym (ap (λ o. is_some o) r);
-    sound = λ f u e. subst (λ v. SoundRecord D L.imsi v) (some_inj _ _ _ refl e) (record { mark = tt; purged = λ n. refl; withdrawn = λ h. (refl, refl) });
-    stays = λ d e. no_opens d _ e;
-    opens = λ d e. no_opens d _ e;
-    alone = λ d j e. no_opens d _ e;
-    holds = λ v. ap (λ o. serving o v) r ∙ ap (λ o. served_by o v) g;
-    others = λ y b h v e. refl;
-  }
-  good_withdraw s (Some reg) r g = record {
-    known = sym (ap (λ o. is_some o) r);
-    sound = λ f u e. subst (λ v. SoundRecord (put D new (Some (cancel L reg.vlr 1 SubscriptionWithdraw))) L.imsi v) (some_inj _ _ _ refl e) (record { mark = tt; purged = λ n. refl; withdrawn = λ h. (refl, refl) });
-    stays = λ d e. no_opens d _ e;
-    opens = λ d e. (let P : Dialogue → Type 0 = λ v. Like L.imsi None v in subst P (some_inj _ _ _ refl e) (record { subscriber = refl; has_sent = refl; vlr_is = refl; rising = (tt, tt) }), ap (λ o. is_some o) r);
-    alone = λ d j e i. absurd (none_some j None refl i);
-    holds = λ v. rw (same_refl L.imsi) (ap (λ o. removed reg.vlr (serving o) v) r ∙ ap (λ o. removed reg.vlr (served_by o) v) g ∙ nobody_left (same reg.vlr v));
-    others = λ y b h v o. let e : same L.imsi y ≡ false = other_is L y (ap (λ q. is_some q) r) o in rw e;
-  }
-    where
-      nobody_left : (t : Bool) → cond t false t ≡ false
-      nobody_left true = refl
-      nobody_left false = refl
-
-  good_change_to : (s : Subscriber) (c : Change) → L.record_of ≡ Some s → s.withdrawn ≡ false → Good L D None None None new (change_to L s c new)
-  good_change_to s (Codes codes) r w = good_codes s codes s.register r refl w
-  good_change_to s Withdraw r w = good_withdraw s s.register r refl
-
-  pub good_changes : (c : Change) (R : Option Subscriber) → L.record_of ≡ R → Good L D None None None new (changes L c R new)
-  good_changes c None r = good_unchanged L D None None new before [] (λ y is_y b h w. refl)
-  good_changes c (Some s) r = go s.withdrawn refl
-    where
-      go : (t : Bool) → s.withdrawn ≡ t → Good L D None None None new (cond t (unchanged L []) (change_to L s c new))
-      go true w = good_unchanged L D None None new before [] (λ y is_y b h w. refl)
-      go false w = good_change_to s c r w

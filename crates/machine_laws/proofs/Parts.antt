@@ -2,7 +2,7 @@
 use Rattle.std.proofs.Common.{◌≡◌, ◌^◌, min, max, ◌≤◌, ℕ, ℤ, List, [], Bool, true, false, cond, refl, sym, ap, ◌∙◌, subst, ◌⊎◌, inl, inr, Option, Some, None}
 use Rattle.std.proofs.lemmas.Bool.{cases_eq}
 use Rattle.machine.specs.Received.{Abort, Begin, Continue, Discard, End, Message, Read, Refuse, Verdict}
-use Rattle.machine.specs.Step.{Answer, Full, Step, Taken, if_known, moved, outcome_in, seen, subject_of, ticked}
+use Rattle.machine.specs.Step.{Answer, Full, Step, Taken, if_known, known_in, moved, outcome_in, seen, ticked}
 use Rattle.machine.specs.Events.{Clock, Event, Expire, Frame, Operator}
 use Rattle.machine.specs.State.{Dialogue, Invocation, IsFull, State, if_of, local_of, local_of_nobody}
 use Rattle.machine.specs.Turns.{Expiry, IsDue, IsLeast, NoneDue, OneDue, Turn, TurnsTo, close_at, concern, continue_at, named, turn_of_message, turn_of_verdict}
@@ -15,6 +15,7 @@ use Rattle.machine_laws.proofs.Counting.{every_to}
 use Rattle.machine_laws.proofs.Views.{View, view, Idly, Ticking, Beginning, Continuing, Closing, Expiring, Changing}
 use Rattle.machine_laws.proofs.Steps.{Facts, facts, shard_small, state_of, state_none, outcome_of, step_sound}
 use Rattle.machine_laws.proofs.Transfer.{Alike, transfer, transfer_full, step_after, same_out, put_alike, put_at_alike, dialogues_alike}
+use Rattle.machine_laws.proofs.Subjects.{subject_alike}
 
 -- two states have the same of shard n
 pub record AgreeOn (n : ℕ) (S T : State) : Type 0 where
@@ -112,7 +113,7 @@ agree_alike n S T e turn sound sound' h r c = record {
   same_route = routes;
   same_concern = concerns;
   same_seen = seen_same (concern S.directory turn) refl;
-  same_subject = ap (λ o. subject_of T o) concerns ∙ subject_same (concern S.directory turn) refl;
+  same_subject = subject_alike S T turn (ap (λ o. known_in T o) concerns ∙ subject_same (concern S.directory turn) refl);
   fresh = λ new id none. h.dialogues new (id.shard ∙ r) ∙ none;
   room = λ full. subst (λ m. IsFull S m) (sym r) (open_alike n S T h (subst (λ m. IsFull T m) (routes ∙ r) full));
 }
@@ -134,11 +135,11 @@ agree_alike n S T e turn sound sound' h r c = record {
         ∙ local_is S T (route T.directory e) (route S.directory e) x routes (h.records x in_shard) (of_alike n S T x sound sound' h in_shard) clocks_same h.hlr
         ∙ ap (λ o. seen S (route S.directory e) o) (sym q)
 
-    subject_same : (o : Option (List ℕ)) → concern S.directory turn ≡ o → subject_of T (concern S.directory turn) ≡ subject_of S (concern S.directory turn)
-    subject_same None q = ap (λ o. subject_of T o) q ∙ ap (λ o. subject_of S o) (sym q)
+    subject_same : (o : Option (List ℕ)) → concern S.directory turn ≡ o → known_in T (concern S.directory turn) ≡ known_in S (concern S.directory turn)
+    subject_same None q = ap (λ o. known_in T o) q ∙ ap (λ o. known_in S o) (sym q)
     subject_same (Some x) q =
         let in_shard : shard_of x ≡ n = concern_shard S e turn x sound (view S e turn c) q ∙ r in
-        ap (λ o. subject_of T o) q ∙ ap (λ o. if_known x o) (h.records x in_shard) ∙ ap (λ o. subject_of S o) (sym q)
+        ap (λ o. known_in T o) q ∙ ap (λ o. if_known x o) (h.records x in_shard) ∙ ap (λ o. known_in S o) (sym q)
 
 -- the same moves keep the agreement
 agree_moved : (n : ℕ) (S T : State) (c i : Option (List ℕ)) (new : List ℕ) (o : Outcome) → AgreeOn n S T → AgreeOn n (moved S c i new o) (moved T c i new o)

@@ -13,9 +13,9 @@ use Rattle.machine.specs.Received.{Component}
 use Rattle.machine.specs.Keys.{Every, IsIn, IsNotIn, shard_of, shard_of_id}
 use Rattle.machine.specs.Sound.{Sound}
 use Rattle.machine.specs.Numbers.{no_resources}
-use Rattle.machine_laws.specs.Worked.{one}
 use Rattle.machine.specs.Routing.{route}
 use Rattle.machine.specs.Outcome.{send}
+use Rattle.machine_laws.specs.Worked.{one}
 use Rattle.machine_laws.specs.Worked.{one}
 use Rattle.machine_laws.proofs.Keys.{none_some, some_inj, cases_same}
 use Rattle.machine_laws.proofs.Rising.{int_is}
@@ -389,7 +389,7 @@ Goes S e = ((T : State) × (a : Answer) × Step S e T a) ⊎ HasNoRoom S e
 taken_step : (S : State) (e : Event) (turn : Turn) (new : List ℕ) → TurnsTo S e turn → (IsTrue (is_some (outcome_in S (route S.directory e) turn new).opens) → IsNewId S (route S.directory e) new) → (WouldOverflow S (route S.directory e) turn (outcome_in S (route S.directory e) turn new) → ⊥) → Goes S e
 taken_step S e turn new turns opens room = inl (
   ticked turn (moved S (concern S.directory turn) (named turn) new (outcome_in S (route S.directory e) turn new)),
-  record { id = taken new (outcome_in S (route S.directory e) turn new).opens; subject = subject_of S (concern S.directory turn); sent = (outcome_in S (route S.directory e) turn new).sent },
+  record { id = taken new (outcome_in S (route S.directory e) turn new).opens; subject = subject_of S turn; sent = (outcome_in S (route S.directory e) turn new).sent },
   Taken turn new turns (record { opens = opens; room = room; state = refl; id = refl; subject = refl; sent = refl }),
 )
 
@@ -409,7 +409,7 @@ overflows S e turn new v turns w x c = by turn refl
     away : (from r : List ℕ) (p : Option (List ℕ)) (cs : List Component) → turn ≡ Begins from r p cs → Goes S e
     away from r p cs is = inl (
       S,
-      record { id = None; subject = subject_of S (concern S.directory turn); sent = send from (SentAbort r (Cause no_resources)) },
+      record { id = None; subject = subject_of S turn; sent = send from (SentAbort r (Cause no_resources)) },
       Full turn new turns (record { from = from; origin = r; name = p; components = cs; begins = is; overflows = w; state = refl; id = refl; subject = refl; sent = refl }),
     )
 

@@ -1,7 +1,7 @@
 -- What is refused in a full shard: an operator's change has no step, an update is turned away and tells it.
 use Rattle.std.proofs.Common.{◌≡◌, ℕ, ℤ, List, [], ◌∷◌, Bool, true, false, cond, refl, sym, ap, ◌∙◌, subst, Option, Some, None, is_some, IsTrue}
 use Rattle.std.proofs.lemmas.Bool.{both_ways}
-use Rattle.machine.specs.Step.{Answer, Full, HasNoRoom, Moves, Step, Taken, TurnedAway, if_known, outcome_in, seen, subject_of}
+use Rattle.machine.specs.Step.{Answer, Full, HasNoRoom, Moves, Step, Taken, TurnedAway, known_in, outcome_in, seen, subject_of}
 use Rattle.machine.specs.Received.{Argument, BadValue, Begin, Component, Purge, Read, Register, Route, Update}
 use Rattle.machine.specs.Begins.{Asker, answered, begins, begins_in, begins_named, begun, first_argument, procedure, purge, purge_at, update_begins}
 use Rattle.machine.specs.Turns.{Begins, Changes, Turn, TurnsTo, concern}
@@ -16,6 +16,7 @@ use Rattle.machine.specs.Keys.{same, shard_of}
 use Rattle.machine_laws.proofs.Keys.{some_inj}
 use Rattle.machine_laws.proofs.Views.{View, view, Idly, Ticking, Beginning, Continuing, Closing, Expiring, Changing}
 use Rattle.machine_laws.proofs.Determined.{free}
+use Rattle.machine_laws.proofs.Subjects.{known_is}
 
 -- an operator's change that would overflow the shard has no step
 no_step : (S : State) (imsi : List ℕ) (change : Change) (T : State) (a : Answer) → HasNoRoom S (Operator imsi change) → Step S (Operator imsi change) T a → ⊥
@@ -108,10 +109,6 @@ record_known : (S : State) (n : ℕ) (x : List ℕ) → IsTrue (is_some (local_o
 unfolding local_of
 record_known S n x h = h
 
-pub known_is : (x : List ℕ) (r : Option Subscriber) → IsTrue (is_some r) → if_known x r ≡ Some x
-known_is x None h = absurd (both_ways false refl h)
-known_is x (Some s) h = refl
-
 pub away_is : (S : State) (e : Event) (turn : Turn) (new : List ℕ) (T : State) (a : Answer) → TurnsTo S e turn → TurnedAway S (route S.directory e) turn (outcome_in S (route S.directory e) turn new) T a → (x : List ℕ) × MetFullShard S e T a x × (is_turned_away a.sent ≡ true)
 away_is S e turn new T a turns t = go (asked S.directory t.components) refl
   where
@@ -139,7 +136,7 @@ away_is S e turn new T a turns t = go (asked S.directory t.components) refl
             register = one.register;
             event = begin_event S e turn t.from t.origin t.name t.components (view S e turn turns) t.begins;
             argument = one.argument ∙ ap (λ (y : List ℕ). Some (Update y one.register)) is_x;
-            subject = t.subject ∙ ap (λ p. subject_of S p) (concern_is ∙ q) ∙ known_is x (S.records x) (record_known S (route S.directory e) x one.known);
+            subject = t.subject ∙ ap (λ k. subject_of S k) t.begins ∙ ap (λ p. known_in S p) q ∙ known_is x (S.records x) (record_known S (route S.directory e) x one.known);
             full = t.overflows.full;
             unchanged = t.state;
           },

@@ -12,7 +12,8 @@ use Rattle.machine.specs.Holders.{vlr_of, vlr_of_kind}
 use Rattle.machine.specs.Routing.{route, shard_asked, shard_named}
 use Rattle.machine.specs.Keys.{shard_of, shard_of_id}
 use Rattle.machine_laws.proofs.Keys.{none_some, some_inj}
-use Rattle.machine_laws.proofs.Outcomes.{At, Good, SoundBefore, good_begins, good_continues, good_closes, good_expires, good_changes}
+use Rattle.machine_laws.proofs.ChangeOutcomes.{good_changes}
+use Rattle.machine_laws.proofs.Outcomes.{At, Good, SoundBefore, good_begins, good_continues, good_closes, good_expires}
 use Rattle.machine_laws.proofs.Views.{View, view, Idly, Ticking, Beginning, Continuing, Closing, Expiring, Changing}
 use Rattle.machine_laws.proofs.Soundness.{NamesOf, moved_sound}
 

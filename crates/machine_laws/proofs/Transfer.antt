@@ -50,7 +50,7 @@ pub record Alike (S T : State) (e : Event) (turn : Turn) : Type 0 where
   pub same_route : route T.directory e ≡ route S.directory e
   pub same_concern : concern T.directory turn ≡ concern S.directory turn
   pub same_seen : seen T (route T.directory e) (concern T.directory turn) ≡ seen S (route S.directory e) (concern S.directory turn)
-  pub same_subject : subject_of T (concern T.directory turn) ≡ subject_of S (concern S.directory turn)
+  pub same_subject : subject_of T turn ≡ subject_of S turn
   pub fresh : (new : List ℕ) → IsIdOf (route S.directory e) new → S.dialogues new ≡ None → T.dialogues new ≡ None
   pub room : IsFull T (route T.directory e) → IsFull S (route S.directory e)
 

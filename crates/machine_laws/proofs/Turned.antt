@@ -1,7 +1,7 @@
 -- An entry with a subject sends an Abort with cause 4 only where an update met a full shard.
 use Rattle.std.proofs.Common.{◌≡◌, ℕ, ℤ, List, [], ◌∷◌, ◌++◌, Bool, true, false, cond, ◌&&◌, refl, sym, ap, ◌∙◌, subst, Option, Some, None}
 use Rattle.std.proofs.lemmas.Bool.{both_ways, and_parts}
-use Rattle.machine.specs.Step.{Answer, Full, Step, Taken, outcome, seen, subject_of}
+use Rattle.machine.specs.Step.{Answer, Full, Step, Taken, outcome, seen}
 use Rattle.machine.specs.Received.{Argument, BadValue, Component, Purge, Register, Route, Update}
 use Rattle.machine.specs.Begins.{Asker, answered, begins, begins_in, begins_named, begun, is_allowed, procedure, purge, purge_at, update_begins, update_opened}
 use Rattle.machine.specs.Turns.{Begins, Changes, Closes, Continues, Dismissed, Expires, Ticks, Turn, concern}
@@ -21,6 +21,7 @@ use Rattle.machine.specs.Routing.{route}
 use Rattle.machine.specs.Keys.{same}
 use Rattle.machine_laws.proofs.Keys.{none_some, same_is}
 use Rattle.machine_laws.proofs.Refusing.{away_is}
+use Rattle.machine_laws.proofs.Subjects.{subject_concern}
 
 -- either way of a test
 either : (P : Outcome → Type 0) (b : Bool) (o p : Outcome) → P o → P p → P (cond b o p)
@@ -148,16 +149,12 @@ module _ (L : Local) (new : List ℕ) where
   still directory (Expires i d j was) x c = still_expires i d j was
   still directory (Changes y k) x c = still_changes k L.record_of
 
-concerned : (S : State) (x : List ℕ) (c : Option (List ℕ)) → is_subject x (subject_of S c) ≡ true → (y : List ℕ) × (c ≡ Some y)
-concerned S x None h = absurd (both_ways false refl h)
-concerned S x (Some y) h = (y, refl)
-
 -- an answer that says so is that of an update of its subject in a full shard
 pub turned_exact : (S : State) (e : Event) (T : State) (a : Answer) (x : List ℕ) → Step S e T a → is_subject x a.subject && is_turned_away a.sent ≡ true → MetFullShard S e T a x
 turned_exact S e T a x (Taken turn new c m) h =
     let p : (is_subject x a.subject ≡ true) × (is_turned_away a.sent ≡ true) = and_parts _ _ h in
-    let y : (z : List ℕ) × (concern S.directory turn ≡ Some z) = concerned S x (concern S.directory turn) (sym (ap (λ o. is_subject x o) m.subject) ∙ p.0) in
-    absurd (both_ways _ (ap (λ o. is_turned_away o) m.sent ∙ still (seen S (route S.directory e) (concern S.directory turn)) new S.directory turn y.0 y.1) p.1)
+    let y : concern S.directory turn ≡ Some x = subject_concern S x turn (sym (ap (λ o. is_subject x o) m.subject) ∙ p.0) in
+    absurd (both_ways _ (ap (λ o. is_turned_away o) m.sent ∙ still (seen S (route S.directory e) (concern S.directory turn)) new S.directory turn x y) p.1)
 turned_exact S e T a x (Full turn new c t) h =
     let away : (y : List ℕ) × MetFullShard S e T a y × (is_turned_away a.sent ≡ true) = away_is S e turn new T a c t in
     let same_one : away.0 ≡ x = same_is away.0 x (sym (ap (λ o. is_subject x o) away.1.subject) ∙ (and_parts _ _ h).0) in

@@ -9,16 +9,18 @@ use Rattle.machine.specs.Keys.{shard_of, shard_of_id}
 use Rattle.machine.specs.Turns.{Turn, Dismissed, Ticks, Expires, Changes, turn_of_message, invocation_of, concern, named}
 use Rattle.machine.specs.Step.{Answer, outcome_in, moved, ticked, taken, subject_of}
 
+-- a state and the answer that leads to it
 pub record Played : Type 0 where
   pub state : State
   pub answer : Answer
 
+-- the turn in this shard
 abbrev pub play : State → (shard : ℕ) → Turn → (new : List ℕ) → Played
 play S shard turn new = record {
   state = ticked turn (moved S (concern S.directory turn) (named turn) new (outcome_in S shard turn new));
   answer = record {
     id = taken new (outcome_in S shard turn new).opens;
-    subject = subject_of S (concern S.directory turn);
+    subject = subject_of S turn;
     sent = (outcome_in S shard turn new).sent;
   };
 }
@@ -31,10 +33,12 @@ receives S from message new = play S (route_message S.directory message) (turn_o
 abbrev pub waits : State → (shard now : ℕ) → State
 waits S shard now = (play S shard (Ticks shard now) []).state
 
+-- the expiry of this invocation, where it is there
 abbrev pub expiry_of : List ℕ → Dialogue → ℤ → Option Invocation → Turn
 expiry_of id d invoke None = Dismissed []
 expiry_of id d invoke (Some v) = Expires id d invoke v.was
 
+-- and of this dialogue, where it is open
 abbrev pub expiry_at : List ℕ → Option Dialogue → ℤ → Turn
 expiry_at id None invoke = Dismissed []
 expiry_at id (Some d) invoke = expiry_of id d invoke (invocation_of invoke d.invocations)

@@ -4,8 +4,9 @@
 ghost use Rattle.std.specs.Prelude.{◌≡◌, ℕ, pos, List, Option, Some, None, [], ◌∷◌, true, false};
 ghost use Rattle.machine.specs.Received.{Bad, BadValue, Begin, Component, Continue, Discard, End, General, Ignored, Invoke, Mistyped, Number, OfError, OfInvoke, OfResult, Read, Refuse, Reject, ResultNotLast, ReturnError, Route, Typed, Update};
 ghost use Rattle.machine.specs.Sent.{Cancel, Cause, Insert, LocationCancellation, MsPurging, NetworkLocUp, NoCause, PurgeResult, Refusing, Rejection, RouteResult, SentAbort, SentBegin, SentComponent, SentContinue, SentEnd, SentError, ShortMsgGateway, SubscriberDataMngt, SubscriptionWithdraw, UpdateProcedure, UpdateResult, Why};
-ghost use Rattle.machine.specs.State.{Cancels, OperationSent};
-ghost use Rattle.machine.specs.Events.{Codes, Frame, Withdraw};
+ghost use Rattle.machine.specs.State.{Cancels, IsFull, OperationSent, State};
+ghost use Rattle.machine.specs.Step.{Answer, HasNoRoom, Step};
+ghost use Rattle.machine.specs.Events.{Codes, Frame, Operator, Withdraw};
 ghost use Rattle.machine.specs.Turns.{Dismissed, turn_of_verdict};
 ghost use Rattle.machine.specs.SmRoute.{RouteTo, sm_route};
 ghost use Rattle.machine_laws.specs.Worked.{at_a, at_b, at_c, begin_in, continue_to, directory, fifth_imsi, first_imsi, first_msisdn, first_record, fourth_msisdn, gateway, hlr, id_a, id_b, id_c, id_d, one, purge_of, result_of, route_of, second_imsi, second_msisdn, second_record, start, subscriber, theirs, third_imsi, update_of, vlr_a, vlr_b, vlr_c};
@@ -105,6 +106,18 @@ pub fn purged_register_cancelled()
         (done.answer.sent ≡ record { to = vlr_b; message = SentEnd theirs None [] (UpdateResult (pos 1) hlr ∷ []) }
         ∷ record { to = vlr_a; message = SentBegin id_b LocationCancellation (Cancel (pos 1) first_imsi UpdateProcedure ∷ []) } ∷ [])
         × (done.state.records first_imsi ≡ Some (record first_record { register = Some at_b })) }
+{}
+
+/// An update from the register that serves already: its End, and no cancel. The MSC number is the new one, and the purged flag
+/// is cleared.
+pub fn update_from_the_serving_register()
+    ensures { let purged = receives start vlr_a (begin_in MsPurging (purge_of first_imsi (Some vlr_a) ∷ [])) id_a in
+        let register = record at_a { msc = at_b.msc } in
+        let begun = receives purged.state vlr_a (begin_in NetworkLocUp (update_of first_imsi register ∷ [])) id_a in
+        let done = receives begun.state vlr_a (continue_to id_a (result_of (pos 1) ∷ [])) id_b in
+        (done.answer.sent ≡ one vlr_a (SentEnd theirs None [] (UpdateResult (pos 1) hlr ∷ [])))
+        × (done.answer.id ≡ None)
+        × (done.state.records first_imsi ≡ Some (record first_record { register = Some register })) }
 {}
 
 /// The error of an insert ends the update with systemFailure, and the register stays. So does its expiry.
@@ -325,4 +338,22 @@ pub fn withdrawn_during_update()
         let late = receives gone.state vlr_b (continue_to id_a (result_of (pos 1) ∷ [])) id_c in
         (late.answer.sent ≡ one vlr_b (SentEnd theirs None [] (SentError (pos 1) 34 ∷ [])))
         × (late.state.records first_imsi ≡ Some (record first_record { register = None; withdrawn = true })) }
+{}
+
+// A full shard
+
+/// Where as many dialogues are open as may be, an update is aborted for want of resources and changes nothing. An SM route is
+/// answered as ever.
+pub fn full_shard()
+    ensures update { (S : State) → IsFull S 1 → S.records first_imsi ≡ Some first_record
+        → Step S (Frame vlr_b (Read (begin_in NetworkLocUp (update_of first_imsi at_b ∷ [])))) S
+        (record { id = None; subject = Some first_imsi; sent = one vlr_b (SentAbort theirs (Cause 4)) }) }
+    ensures route_asked { (S : State) → IsFull S 1 → S.records first_imsi ≡ Some first_record → S.directory first_msisdn ≡ Some first_imsi
+        → (T : State) × (a : Answer) × Step S (Frame gateway (Read (begin_in ShortMsgGateway (route_of first_msisdn ∷ [])))) T a
+        × (a.sent ≡ one gateway (SentEnd theirs (Some ShortMsgGateway) [] (RouteResult (pos 1) first_imsi at_a.msc None ∷ []))) }
+{}
+
+/// There a withdrawal of a subscriber whom a register serves has no room.
+pub fn change_in_full_shard()
+    ensures { (S : State) → IsFull S 1 → S.records first_imsi ≡ Some first_record → HasNoRoom S (Operator first_imsi Withdraw) }
 {}

@@ -7,7 +7,7 @@ pub mod examples;
 ghost use Rattle.std.specs.Prelude.{◌≡◌, ℕ, ℤ, Option, None, ◌<◌, ◌≤◌, List, [], ◌∷◌, ◌++◌, ◌&&◌, ◌||◌, ◌⊎◌, true, false, length};
 ghost use Rattle.machine.specs.Received.{Abort, Component, ComponentOf, Continue, End, Read, Register, Response};
 ghost use Rattle.machine.specs.Isolation.{AgreeOf, MetFullShard, NoneTurnedAway, SameAfter, SameOf, is_of, is_turned_away, only_of, own};
-ghost use Rattle.machine.specs.Step.{Answer, HasNoRoom, IsNewId, Step, TurnedAway, outcome_in, subject_of};
+ghost use Rattle.machine.specs.Step.{Answer, HasNoRoom, IsNewId, Step, TurnedAway, outcome_in, known_in};
 ghost use Rattle.machine.specs.Bounds.{AnswerInBounds, AreDigits, ComponentsInBounds, EventInBounds, RecordInBounds, StartsOfOperation, StateInBounds};
 ghost use Rattle.machine.specs.Opening.{AreLoaded, opening};
 ghost use Rattle.machine.specs.Effect.{AreRising, Offer, any_failed, effect, in_sent, invocations_after, open_at, reject_of, rejects_after, starts};
@@ -77,10 +77,10 @@ pub fn opened_dialogues_are_new()
         → Step S e T a → a.id ≡ Some i → IsNewId S (route S.directory e) i }
 {}
 
-/// In a sound state the subscriber of an open dialogue has a record, so it is the subject of each step of the dialogue.
+/// In a sound state the subscriber of an open dialogue, who is the subject of its steps, has a record.
 pub fn dialogues_have_subjects()
     ensures { (S : State) (i : List ℕ) (d : Dialogue)
-        → Sound S → S.dialogues i ≡ Some d → subject_of S (Some d.subscriber) ≡ Some d.subscriber }
+        → Sound S → S.dialogues i ≡ Some d → known_in S (Some d.subscriber) ≡ Some d.subscriber }
 {}
 
 /// In a sound state each event has a step, but for an operator's change that would overflow its shard.

@@ -9,7 +9,7 @@ pub enum Code {
     Other,
 }
 
-/// Which kind of component a Reject's problem is of (Q.773, problem code).
+/// Which kind of component a Reject's problem is of (Q.773).
 #[derive(Clone, Copy, Debug, PartialEq, Eq)]
 pub enum Side {
     General,

@@ -1,4 +1,4 @@
-//! The components of a TCAP message (ITU-T Q.773, 3.2): read from the nodes of a tree, and written as trees.
+//! The components of a TCAP message (ITU-T Q.773): read from the nodes of a tree, and written as trees.
 //!
 //! A reader takes no memory but for the list of what it read. What a component's parameter is, is not looked at here.
 #![tactic(auto)]

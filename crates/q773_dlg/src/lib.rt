@@ -1,4 +1,4 @@
-//! The dialogue portion of a TCAP message (ITU-T Q.773, 3.3): read from the nodes of a tree, and written as trees.
+//! The dialogue portion of a TCAP message (ITU-T Q.773): read from the nodes of a tree, and written as trees.
 //!
 //! The reader takes no memory. The application context's name that it gives is a part of the octets that were read.
 #![tactic(auto)]

@@ -1,4 +1,4 @@
-use Rattle.machine_laws.proofs.Refusing.{known_is}
+use Rattle.machine_laws.proofs.Subjects.{known_is}
 use Rattle.machine_laws.proofs.dialogues_have_subjects.Goals as goal
 
 pub returns : goal.returns

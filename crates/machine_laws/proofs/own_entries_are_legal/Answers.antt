@@ -1,4 +1,4 @@
-use Rattle.machine_laws.proofs.Isolation.{isolation}
+use Rattle.machine_laws.proofs.OwnJournals.{isolation}
 use Rattle.machine_laws.proofs.own_entries_are_legal.Goals as goal
 
 pub returns : goal.returns
