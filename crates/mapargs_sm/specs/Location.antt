@@ -1,5 +1,5 @@
 -- A part of the result that is sent.
-use Rattle.std.specs.Prelude.{ℕ, List, [], ◌∷◌, Option, option_map, option_to_list}
+use Rattle.std.specs.Prelude.{ℕ, List, ◌∷◌, Option, option_map, option_to_list}
 use Rattle.x690.specs.Tree.{Tree, Primitive, element}
 use Rattle.hlr_types.specs.Identities.{address_octets}
 use Rattle.frames.specs.declared.tags.TheConstants.{LOCATION_INFO, NETWORK_NODE_NUMBER, OCTET_STRING}

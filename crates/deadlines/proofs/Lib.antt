@@ -1,0 +1,4 @@
+pub mod Views
+pub mod KeyLemmas
+pub mod IndexLemmas
+pub mod ViewLemmas

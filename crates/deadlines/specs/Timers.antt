@@ -1,0 +1,55 @@
+-- Deadlines of own invocations, as a finite map, and which is the least that is due.
+use Rattle.std.specs.Prelude.{◌≡◌, ◌≢◌, ◌≤◌, ◌<◌, ℕ, ℤ, List, [], ◌∷◌, Some, refl}
+use Rattle.std.specs.declared.cmp.Ordering.{Ordering}
+use Rattle.std.specs.declared.cmp.Ordering.TheVariants.{Less}
+use Rattle.std.specs.Ordering.{nat_cmp, int_cmp, ordering_then}
+use Rattle.std.specs.FinMap as map
+use Rattle.std.specs.Coded.{Coded, code_by, coded×, coded_ℕ, coded_ℤ, coded_list}
+use Rattle.hlr_types.specs.Orders.{octets_cmp}
+use Rattle.deadlines.specs.declared.timer.Invocation.{Invocation}
+use Rattle.deadlines.specs.declared.timer.Timer.{Timer}
+
+-- The invocation of this id in the dialogue of this local transaction id.
+abbrev pub invocation_of : List ℕ → ℤ → Invocation
+invocation_of id invoke = record { id = id; invoke = invoke }
+
+-- A deadline of an invocation.
+abbrev pub timer_of : ℕ → List ℕ → ℤ → Timer
+timer_of deadline id invoke = record { deadline = deadline; invocation = invocation_of id invoke }
+
+-- Invocations are ordered by the octets of the local id, and then by the invoke id as a signed number.
+abbrev pub invocation_cmp : Invocation → Invocation → Ordering
+invocation_cmp a b = ordering_then (octets_cmp a.id b.id) (int_cmp a.invoke b.invoke)
+
+-- Deadlines are ordered by time, and at one time by invocation.
+abbrev pub timer_cmp : Timer → Timer → Ordering
+timer_cmp a b = ordering_then (nat_cmp a.deadline b.deadline) (invocation_cmp a.invocation b.invocation)
+
+-- The deadlines: a finite map of invocation to time.
+abbrev pub DeadlineMap : Type 0
+DeadlineMap = map.FinMap invocation_cmp ℕ
+
+abbrev pub coded_invocation : Coded Invocation
+coded_invocation = code_by (List ℕ × ℤ) (coded× (coded_list coded_ℕ) coded_ℤ) (λ i. (i.id, i.invoke)) (λ p. record { id = p.0; invoke = p.1 }) (λ _. refl)
+
+abbrev pub deadline_map_code : Coded DeadlineMap
+deadline_map_code = map.code coded_invocation coded_ℕ
+
+-- Each of these set in turn, in place of the deadline that the invocation had.
+abbrev pub set_all : DeadlineMap → List Timer → DeadlineMap
+set_all m [] = m
+set_all m (t ∷ ts) = set_all (map.insert m t.invocation t.deadline) ts
+
+-- The deadline stands in the map.
+abbrev pub IsSet : DeadlineMap → Timer → Type 0
+IsSet m t = map.get m t.invocation ≡ Some t.deadline
+
+-- This deadline stands in the map and has come, and no other that stands there is before it.
+pub record IsLeastDue (m : DeadlineMap) (now : ℕ) (due : Timer) : Type 0 where
+  pub set : IsSet m due
+  pub come : due.deadline ≤ now
+  pub least : (t : Timer) → IsSet m t → timer_cmp t due ≢ Less
+
+-- No deadline has come.
+abbrev pub NoneDue : DeadlineMap → ℕ → Type 0
+NoneDue m now = (t : Timer) → IsSet m t → now < t.deadline

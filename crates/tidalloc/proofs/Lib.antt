@@ -1,0 +1,5 @@
+pub mod Places
+pub mod IdLemmas
+pub mod SlotLemmas
+pub mod NextLemmas
+pub mod StepLemmas

@@ -1,0 +1,129 @@
+-- The slot that is used next, and its next id.
+use Rattle.std.proofs.Common.{◌≡◌, ℕ, zero, suc, ◌-◌, ◌<◌, ◌≤◌, Bool, true, false, cond, ◌&&◌, List, [], ◌∷◌, ◌++◌, length, Option, Some, None, IfSome, refl, sym, ap, ◌∙◌, arith, get_or, ltb, subst, ◌⊎◌, inl, inr}
+use Rattle.std.proofs.Math.ListN.{length-append}
+use Rattle.std.proofs.Math.Seq.{get_or-append_seam}
+use Rattle.std.proofs.lemmas.Bool.{lt-ltb, ltb-true, ltb-false}
+use Rattle.std.proofs.lemmas.Option.{slice_get_past}
+use Rattle.std.specs.List.{slice_get}
+use Rattle.std.specs.Ordering.{eq_by_cmp}
+use Rattle.std.specs.FinSet as set
+use Rattle.hlr_types.specs.Orders.{octets_cmp}
+use Rattle.hlr_types.proofs.OrderLemmas.{same_octets}
+use Rattle.tidalloc.proofs.IdLemmas.{slot_of-id_at, id_at-generation, IsIdOf-id_at, next_generation-is}
+use Rattle.tidalloc.proofs.SlotLemmas.{contains-live_of, within_free}
+use Rattle.tidalloc.specs.declared.slot.Slot.{Slot}
+use Rattle.tidalloc.specs.LiveIds.{id_at, slot_of, next_generation, MayBeTaken}
+use Rattle.tidalloc.specs.Slots.{live_of, ids_of, is_at, was_at, is_free, generation_in, next_slot, next_in, AreSlots}
+
+-- no id of the slot is live
+pub is_unused : Option Slot → Bool
+is_unused None = true
+is_unused (Some s) = cond s.is_live false true
+
+pub unused_free : (o : Option Slot) → is_free o ≡ true → is_unused o ≡ true
+unfolding is_unused
+unused_free None e = refl
+unused_free (Some s) e = e
+
+pub unused_past : (slots : List Slot) → is_unused (slice_get slots (length slots)) ≡ true
+unfolding is_unused
+unused_past slots = ap is_unused (slice_get_past slots (length slots) (omega arith))
+
+none_at_unused : (shard : ℕ) (q : List ℕ) (o : Option Slot) → is_unused o ≡ true → is_at shard q o ≡ false
+unfolding is_unused
+none_at_unused shard q None e = refl
+none_at_unused shard q (Some s) e = elim s.is_live as (λ b. cond b false true ≡ true → (b && eq_by_cmp octets_cmp q (id_at shard (slot_of q) s.generation)) ≡ false) [ true ↦ λ e. cc | false ↦ λ e. refl ] e
+
+-- an unused slot whose id was given back last has that id's generation
+own_unused : (shard k : ℕ) (id : List ℕ) (o : Option Slot) → is_unused o ≡ true → was_at shard id o ≡ true → slot_of id ≡ k → id ≡ id_at shard k (generation_in o)
+unfolding is_unused
+own_unused shard k id None free was here = cc
+own_unused shard k id (Some s) free was here =
+    elim s.is_live as (λ b. cond b false true ≡ true → cond b true (eq_by_cmp octets_cmp id (id_at shard (slot_of id) s.generation)) ≡ true → id ≡ id_at shard k s.generation) [
+      | true ↦ λ f w. cc
+      | false ↦ λ f w. same_octets id _ w ∙ ap (λ n. id_at shard n s.generation) here
+    ] free was
+
+module _ (shard : ℕ) (slots : List Slot) (free : List ℕ) (freed : Option (List ℕ)) (room : ℕ) (a : AreSlots shard slots free freed room) where
+  -- the next id of an unused slot may be taken
+  module _ (k : ℕ) (small : k < 4096) (unused : is_unused (slice_get slots k) ≡ true) where
+    another : (id : List ℕ) → freed ≡ Some id → id ≡ id_at shard k (next_generation (generation_in (slice_get slots k))) → ⊥
+    another id e same =
+        let g = generation_in (slice_get slots k) in
+        let here : slot_of id ≡ k = ap slot_of same ∙ slot_of-id_at shard k (next_generation g) small in
+        let was : was_at shard id (slice_get slots k) ≡ true = ap (λ n. was_at shard id (slice_get slots n)) (sym here) ∙ (a.freed id e).own in
+        let own = own_unused shard k id (slice_get slots k) unused was here in
+        (next_generation-is g (a.generations k)).2 (id_at-generation shard k (next_generation g) g (sym same ∙ own))
+
+    pub may_take : MayBeTaken (ids_of shard slots free freed) (id_at shard k (next_generation (generation_in (slice_get slots k))))
+    may_take =
+        let g = generation_in (slice_get slots k) in
+        let h = next_generation g in
+        let is = next_generation-is g (a.generations k) in
+        record {
+          of_shard = IsIdOf-id_at shard k h a.in_range small is.0 is.1;
+          not_live = contains-live_of shard (id_at shard k h) slots a.few ∙ ap (λ n. is_at shard (id_at shard k h) (slice_get slots n)) (slot_of-id_at shard k h small)
+              ∙ none_at_unused shard (id_at shard k h) (slice_get slots k) unused;
+          not_freed_last = λ e. another (id_at shard k h) e refl;
+        }
+
+pub next_slot-push : (slots : List Slot) (free : List ℕ) (k : ℕ) → next_slot slots (free ++ k ∷ []) ≡ k
+next_slot-push slots free k =
+    let last : length (free ++ k ∷ []) - 1 ≡ length free = omega (arith, length-append free (k ∷ [])) in
+    ap (λ i. get_or (free ++ k ∷ []) i (length slots)) last ∙ get_or-append_seam free k [] (length slots)
+
+pub next_in-small : (shard : ℕ) (slots : List Slot) (k : ℕ) → k < 4096 → next_in shard slots k ≡ Some (id_at shard k (next_generation (generation_in (slice_get slots k))))
+next_in-small shard slots k small = ap (λ b. cond b (Some (id_at shard k (next_generation (generation_in (slice_get slots k))))) None) (lt-ltb k 4096 small)
+
+get_or-default : (xs : List ℕ) (i d e : ℕ) → i < length xs → get_or xs i d ≡ get_or xs i e
+get_or-default [] i d e h = absurd (omega arith)
+get_or-default (x ∷ xs) zero d e h = refl
+get_or-default (x ∷ xs) (suc i) d e h = get_or-default xs i d e (omega arith)
+
+-- the slot that is used next is unused
+pub unused_next : (shard : ℕ) (slots : List Slot) (free : List ℕ) (freed : Option (List ℕ)) (room : ℕ) → AreSlots shard slots free freed room → is_unused (slice_get slots (next_slot slots free)) ≡ true
+unused_next shard slots [] freed room a = unused_past slots
+unused_next shard slots (f ∷ fs) freed room a =
+    let last : length (f ∷ fs) - 1 < length (f ∷ fs) = omega arith in
+    ap (λ n. is_unused (slice_get slots n)) (get_or-default (f ∷ fs) (length (f ∷ fs) - 1) (length slots) 0 last)
+    ∙ unused_free _ (a.free_ones (length (f ∷ fs) - 1) last)
+
+-- there is a slot to be used next where not all are live, and then alone
+pub next_small : (shard : ℕ) (slots : List Slot) (free : List ℕ) (freed : Option (List ℕ)) (room : ℕ) → AreSlots shard slots free freed room
+    → ((next_slot slots free < 4096) × (set.len (live_of shard slots) ≡ 4096 → ⊥)) ⊎ ((next_slot slots free ≡ 4096) × (set.len (live_of shard slots) ≡ 4096))
+next_small shard slots [] freed room a = by_room (ltb (length slots) 4096) refl
+  where
+    by_room : (b : Bool) → ltb (length slots) 4096 ≡ b → ((length slots < 4096) × (set.len (live_of shard slots) ≡ 4096 → ⊥)) ⊎ ((length slots ≡ 4096) × (set.len (live_of shard slots) ≡ 4096))
+    by_room true e = let few = ltb-true _ _ e in inl (few, λ all. omega (arith, a.counted, few, all))
+    by_room false e =
+        let most : 4096 ≤ length slots = ltb-false _ _ e in
+        inr (omega (arith, a.few, most), omega (arith, a.few, most, a.counted))
+next_small shard slots (f ∷ fs) freed room a =
+    let last : length (f ∷ fs) - 1 < length (f ∷ fs) = omega arith in
+    let at = get_or-default (f ∷ fs) (length (f ∷ fs) - 1) (length slots) 0 last in
+    let within = within_free slots (get_or (f ∷ fs) (length (f ∷ fs) - 1) 0) (a.free_ones (length (f ∷ fs) - 1) last) in
+    inl (omega (arith, at, within, a.few), λ all. omega (arith, a.counted, a.few, all))
+
+-- the next id, if there is one, may be taken
+pub next_may : (shard : ℕ) (slots : List Slot) (free : List ℕ) (freed : Option (List ℕ)) (room : ℕ) → AreSlots shard slots free freed room → (id : List ℕ)
+    → next_in shard slots (next_slot slots free) ≡ Some id → MayBeTaken (ids_of shard slots free freed) id
+next_may shard slots free freed room a id e = elim (next_small shard slots free freed room a) [
+  | inl few ↦
+      let is = next_in-small shard slots (next_slot slots free) few.0 in
+      let same : id_at shard (next_slot slots free) (next_generation (generation_in (slice_get slots (next_slot slots free)))) ≡ id = cc in
+      subst (MayBeTaken (ids_of shard slots free freed)) same (may_take shard slots free freed room a (next_slot slots free) few.0 (unused_next shard slots free freed room a))
+  | inr full ↦ absurd (none full.0)
+]
+  where
+    none : next_slot slots free ≡ 4096 → ⊥
+    none all =
+        let n : next_in shard slots (next_slot slots free) ≡ None = ap (next_in shard slots) all in
+        cc
+
+pub next_all_may : (shard : ℕ) (slots : List Slot) (free : List ℕ) (freed : Option (List ℕ)) (room : ℕ) → AreSlots shard slots free freed room
+    → IfSome (next_in shard slots (next_slot slots free)) (MayBeTaken (ids_of shard slots free freed))
+next_all_may shard slots free freed room a = each (next_in shard slots (next_slot slots free)) refl
+  where
+    each : (o : Option (List ℕ)) → next_in shard slots (next_slot slots free) ≡ o → IfSome o (MayBeTaken (ids_of shard slots free freed))
+    each None e = tt
+    each (Some id) e = next_may shard slots free freed room a id e

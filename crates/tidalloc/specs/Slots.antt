@@ -1,0 +1,69 @@
+-- The table of slots behind the ids.
+use Rattle.std.specs.Prelude.{◌≡◌, ◌≢◌, ℕ, ◌+◌, ◌-◌, ◌<◌, ◌≤◌, nat_lt, List, [], ◌∷◌, Bool, true, false, cond, ◌&&◌, Option, Some, None, length, slice_get, slice_index, slice_index_or, if◌then◌else◌}
+use Rattle.std.specs.Ordering.{eq_by_cmp}
+use Rattle.std.specs.FinSet as set
+use Rattle.hlr_types.specs.Orders.{octets_cmp}
+use Rattle.tidalloc.specs.declared.slot.Slot.{Slot}
+use Rattle.tidalloc.specs.LiveIds.{LiveIds, id_at, slot_of, next_generation}
+
+-- The live ids of these slots, the first of which has this number.
+abbrev pub ids_from : ℕ → ℕ → List Slot → List (List ℕ)
+ids_from shard number [] = []
+ids_from shard number (s ∷ slots) = cond s.is_live (id_at shard number s.generation ∷ ids_from shard (number + 1) slots) (ids_from shard (number + 1) slots)
+
+-- The live ids of all slots.
+abbrev pub live_of : ℕ → List Slot → set.FinSet octets_cmp
+live_of shard slots = set.from_list (ids_from shard 0 slots)
+
+-- The generation of a slot, 0 where it was never used.
+abbrev pub generation_in : Option Slot → ℕ
+generation_in None = 0
+generation_in (Some s) = s.generation
+
+-- The slot that is used next: the one that was freed last, else a new one.
+abbrev pub next_slot : List Slot → List ℕ → ℕ
+next_slot slots free = slice_index_or free (length free - 1) (length slots)
+
+-- The next id of a slot.
+abbrev pub next_in : ℕ → List Slot → ℕ → Option (List ℕ)
+next_in shard slots slot = if nat_lt slot 4096 then Some (id_at shard slot (next_generation (generation_in (slice_get slots slot)))) else None
+
+-- The ids that these slots stand for.
+abbrev pub ids_of : ℕ → List Slot → List ℕ → Option (List ℕ) → LiveIds
+ids_of shard slots free freed_last = record {
+  shard = shard;
+  live = live_of shard slots;
+  freed_last = freed_last;
+  next = next_in shard slots (next_slot slots free);
+  room = length free;
+}
+
+-- Whether the slot is live, and this is its id.
+abbrev pub is_at : ℕ → List ℕ → Option Slot → Bool
+is_at shard id None = false
+is_at shard id (Some s) = s.is_live && eq_by_cmp octets_cmp id (id_at shard (slot_of id) s.generation)
+
+-- The slot has this id, or is live.
+abbrev pub was_at : ℕ → List ℕ → Option Slot → Bool
+was_at shard id None = false
+was_at shard id (Some s) = cond s.is_live true (eq_by_cmp octets_cmp id (id_at shard (slot_of id) s.generation))
+
+abbrev pub is_free : Option Slot → Bool
+is_free None = false
+is_free (Some s) = cond s.is_live false true
+
+-- The id given back last is not live, and where its slot was not used again it is that slot's id.
+pub record WasFreed (shard : ℕ) (slots : List Slot) (id : List ℕ) : Type 0 where
+  pub not_live : is_at shard id (slice_get slots (slot_of id)) ≡ false
+  pub own : was_at shard id (slice_get slots (slot_of id)) ≡ true
+
+-- The slots, the numbers of those that are free, the id given back last, and the room for free numbers.
+pub record AreSlots (shard : ℕ) (slots : List Slot) (free : List ℕ) (freed_last : Option (List ℕ)) (room : ℕ) : Type 0 where
+  pub in_range : shard < 16
+  pub few : length slots ≤ 4096
+  pub room_for_all : 4096 ≤ room
+  pub counted : length free + set.len (live_of shard slots) ≡ length slots
+  pub generations : (k : ℕ) → generation_in (slice_get slots k) < 4096
+  pub free_ones : (i : ℕ) → i < length free → is_free (slice_get slots (slice_index free i)) ≡ true
+  pub different : (i j : ℕ) → i < j → j < length free → slice_index free i ≢ slice_index free j
+  pub freed : (id : List ℕ) → freed_last ≡ Some id → WasFreed shard slots id

@@ -1,0 +1,61 @@
+//! Slots with generations, and the ids that they stand for.
+
+ghost use Rattle.std.specs.Prelude.{◌≡◌, ◌<◌};
+ghost use Rattle.tidalloc.specs.LiveIds.{id_at, slot_of, generation_of, next_generation, next_use};
+
+use hlr_types::Tid;
+
+/// A place for one id at a time. A slot that was never used has generation 0.
+#[derive(Clone, Copy)]
+pub(crate) struct Slot {
+    pub(crate) generation: u16,
+    pub(crate) is_live: bool,
+}
+
+/// The generation after 4,095 is 1.
+const LAST_GENERATION: u16 = 4095;
+
+/// The generation of a slot at its next use.
+pub(crate) fn next_generation(generation: u16) -> u16
+    requires { generation < 4096 }
+    ensures value { result ≡ next_generation generation }
+    ensures small { result < 4096 }
+{
+    if generation == LAST_GENERATION {
+        1
+    } else {
+        generation + 1
+    }
+}
+
+/// The id of a slot at a generation: the shard, then generation times 4,096 plus slot in three octets.
+pub(crate) fn id_at(shard: u8, slot: usize, generation: u16) -> Tid
+    requires slot { slot < 4096 }
+    requires generation { generation < 4096 }
+    ensures { result ≡ id_at shard slot generation }
+{
+    Tid::new(shard, u32::from(generation) * 4096 + slot as u32)
+}
+
+/// The slot of an id: its last twelve bits.
+pub(crate) fn slot_of(id: Tid) -> usize
+    ensures value { result ≡ slot_of id }
+    ensures small { result < 4096 }
+{
+    (id.number() % 4096) as usize
+}
+
+/// The id that the slot of this one has at the use after it.
+pub(crate) fn next_use(id: Tid) -> Tid
+    ensures { result ≡ next_use id }
+{
+    id_at(id.shard(), slot_of(id), next_generation(generation_of(id)))
+}
+
+/// The generation of an id: the twelve bits before those of the slot.
+fn generation_of(id: Tid) -> u16
+    ensures value { result ≡ generation_of id }
+    ensures small { result < 4096 }
+{
+    (id.number() / 4096) as u16
+}
