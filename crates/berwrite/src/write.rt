@@ -1,5 +1,5 @@
 //! The writer: one pass over the tree, from front to end.
-ghost use Rattle.std.specs.Prelude.{◌≡◌, ◌+◌, ◌-◌, ◌^◌, ◌<◌, ◌++◌, length, take, drop, IfOk, OnOk};
+ghost use Rattle.std.specs.Prelude.{◌≡◌, ◌+◌, ◌-◌, ◌^◌, ◌<◌, ◌++◌, [], length, take, drop, IfOk, OnOk};
 ghost use Rattle.x690.specs.Length.{length_octets};
 ghost use Rattle.x690.specs.Spelling.{Spells, enc};
 ghost use Rattle.x690.specs.Tree.{HasTags};
@@ -33,19 +33,26 @@ fn put(tree: &OwnTree, out: &mut Vec<u8>) -> Result<(), AllocError>
     }
 }
 
+/// Room for the octets of a tree, where these are fewer than 2^32.
+fn room_for(alloc: Global, tree: &OwnTree) -> Result<Vec<u8>, AllocError>
+    ensures { IfOk result (λ octets. octets.items ≡ []) }
+{
+    match tree.octets_len() {
+        Some(length) => Vec::with_capacity(alloc, length as usize),
+        None => Ok(Vec::new(alloc)),
+    }
+}
+
 /// The octets that are sent for a tree, in one allocation of their size.
 ///
-/// No condition is asked: a tree whose octets would be 2^32 or more, for whose lengths four octets are too few, is
-/// answered as one for which there is no memory.
+/// No condition is asked. Of 2^32 octets or more the lengths do not fit four octets: such octets are no spelling that is
+/// read, and are not made in one allocation.
 pub fn write_tree(alloc: Global, tree: &OwnTree) -> Result<Vec<u8>, Memory>
     ensures octets { IfOk result (λ octets. octets.items ≡ enc (own tree.now)) }
-    ensures short { IfOk result (λ octets. length octets.items < 2 ^ 32) }
-    ensures spelling { IfOk result (λ octets. HasTags (own tree.now) → Spells octets.items (own tree.now)) }
+    ensures spelling { IfOk result (λ octets. length octets.items < 2 ^ 32 → HasTags (own tree.now)
+        → Spells octets.items (own tree.now)) }
 {
-    let Some(length) = tree.octets_len() else {
-        return Err(Memory);
-    };
-    let mut octets = Vec::with_capacity(alloc, length as usize)?;
+    let mut octets = room_for(alloc, tree)?;
     put(tree, &mut octets)?;
     Ok(octets)
 }

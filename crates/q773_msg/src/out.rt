@@ -1,6 +1,6 @@
 //! What a message that is sent is, and its octets.
 
-ghost use Rattle.std.specs.Prelude.{◌≡◌, ◌^◌, ◌<◌, length, IfOk, option_map};
+ghost use Rattle.std.specs.Prelude.{◌≡◌, IfOk, option_map};
 ghost use Rattle.x690.specs.Spelling.{enc};
 ghost use Rattle.berwrite.specs.OwnTrees.{own, owns};
 ghost use Rattle.frames.specs.SentTrees.{begin_tree, continue_tree, end_tree, abort_tree, cause_tree};
@@ -99,11 +99,9 @@ pub fn abort_cause(alloc: Global, cause: u8) -> Result<OwnTree, Memory>
     OwnTree::primitive(alloc, ABORT_CAUSE, &[cause])
 }
 
-/// The octets that are sent for a message: definite lengths, in the fewest octets. No condition is asked: octets are
-/// refused to grow past 2^32 - 1, since of a longer message the length could not be spelled.
+/// The octets that are sent for a message: definite lengths, in the fewest octets. No condition is asked.
 pub fn write_message(alloc: Global, message: &OutMessage) -> Result<Vec<u8>, Memory>
-    ensures octets { IfOk result (λ octets. octets.items ≡ enc (message_tree message.now)) }
-    ensures short { IfOk result (λ octets. length octets.items < 2 ^ 32) }
+    ensures { IfOk result (λ octets. octets.items ≡ enc (message_tree message.now)) }
 {
     write_tree(alloc, &message.tree)
 }
