@@ -1,0 +1,17 @@
+pub mod MapLemmas
+pub mod PartLemmas
+pub mod OctetLemmas
+pub mod PartsLemmas
+pub mod LinesLemmas
+pub mod FieldLaws
+pub mod LineLaws
+pub mod AgainFields
+pub mod AgainLines
+pub mod Facts
+pub mod FileLaws
+pub mod AgainFiles
+pub mod AgainFaults
+pub mod LoadLemmas
+pub mod Readings
+pub mod WrittenLemmas
+pub mod SavedLaws

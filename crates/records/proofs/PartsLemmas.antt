@@ -1,0 +1,57 @@
+-- Where a text is cut.
+use Rattle.std.proofs.Common.{◌≡◌, ℕ, zero, suc, ◌+◌, ◌<◌, true, List, [], ◌∷◌, length, get_or, take, drop, refl, sym, ap, ◌∙◌, arith, add-one}
+use Rattle.std.specs.Prelude.{◌==◌}
+use Rattle.std.specs.List.{onto_first, count_by, list_any}
+use Rattle.std.proofs.lemmas.Bool.{eq-eqb, ne_eqb}
+use Rattle.std.proofs.lemmas.List.Splits.{slice_split-cons_yes, slice_split-cons_no, length-slice_split}
+use Rattle.std.specs.Prelude.{None, Some, Option}
+use Rattle.records.specs.declared.version.Version.TheVariants.{One, Two}
+use Rattle.records.specs.File.{parts}
+use Rattle.records.specs.Reading.{register_of, record_of, octet_in, codes_after}
+
+at_first : (at : ℕ) (text : List ℕ) (i : ℕ) → i < length text → ((k : ℕ) → k < i → get_or text k 0 ≡ at → ⊥) → get_or text i 0 ≡ at → parts at text ≡ take i text ∷ parts at (drop (suc i) text)
+at_first at [] i lt before here = absurd (omega arith)
+at_first at (x ∷ xs) zero lt before here = slice_split-cons_yes (λ b. b == at) x xs (eq-eqb x at here)
+at_first at (x ∷ xs) (suc i) lt before here =
+    let rest = at_first at xs i (omega arith) (λ k l. before (suc k) (omega arith)) here in
+    slice_split-cons_no (λ b. b == at) x xs (ne_eqb x at (before 0 (omega arith))) ∙ ap (onto_first x) rest
+
+-- up to the first separator, and after it
+pub parts_at : (at : ℕ) (text : List ℕ) (i : ℕ) → i < length text → ((k : ℕ) → k < i → get_or text k 0 ≡ at → ⊥) → get_or text i 0 ≡ at → parts at text ≡ take i text ∷ parts at (drop (i + 1) text)
+parts_at at text i lt before here = rw add-one (at_first at text i lt before here)
+
+-- a text with no separator is its one part
+pub parts_none : (at : ℕ) (text : List ℕ) → ((k : ℕ) → k < length text → get_or text k 0 ≡ at → ⊥) → parts at text ≡ text ∷ []
+parts_none at [] none = refl
+parts_none at (x ∷ xs) none =
+    slice_split-cons_no (λ b. b == at) x xs (ne_eqb x at (none 0 (omega arith))) ∙ ap (onto_first x) (parts_none at xs (λ k l. none (suc k) (omega arith)))
+
+-- there is always a part
+pub parts_cons : (at : ℕ) (text : List ℕ) → (x : List ℕ) × (xs : List (List ℕ)) × (parts at text ≡ x ∷ xs)
+parts_cons at text =
+    let long = length-slice_split (λ b. b == at) text in
+    elim (parts at text) as (λ ps. length ps ≡ count_by (λ b. b == at) text + 1 → (x : List ℕ) × (xs : List (List ℕ)) × (ps ≡ x ∷ xs)) [
+      | [] ↦ λ e. absurd (omega arith)
+      | x ∷ xs ↦ λ e. (x, xs, refl)
+    ] long
+
+-- more fields than a line may have
+pub register_of_five : (a b c d text : List ℕ) → register_of (a ∷ b ∷ c ∷ d ∷ parts 44 text) ≡ None
+unfolding register_of
+register_of_five a b c d text = let p = parts_cons 44 text in rw p.2 refl
+
+pub record_of_seven : (a b c d e f text : List ℕ) → record_of Two (a ∷ b ∷ c ∷ d ∷ e ∷ f ∷ parts 32 text) ≡ None
+unfolding record_of
+record_of_seven a b c d e f text = let p = parts_cons 32 text in rw p.2 refl
+
+pub record_of_six : (a b c d e text : List ℕ) → record_of One (a ∷ b ∷ c ∷ d ∷ e ∷ parts 32 text) ≡ None
+unfolding record_of
+record_of_six a b c d e text = let p = parts_cons 32 text in rw p.2 refl
+
+-- a code that stands twice
+pub codes_after-repeated : (found : List ℕ) (part : List ℕ) (more : List (List ℕ)) (code : ℕ) (total : Option (List ℕ)) → octet_in part ≡ Some code → list_any (λ c. c == code) found ≡ true
+    → codes_after found (part ∷ more) ≡ total → None ≡ total
+unfolding codes_after
+codes_after-repeated found part more code total is has so_far =
+    let one : codes_after found (part ∷ more) ≡ None = rw (is, has) refl in
+    sym one ∙ so_far

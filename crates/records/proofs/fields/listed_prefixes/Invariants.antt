@@ -1,0 +1,11 @@
+use Rattle.std.proofs.Common.{◌≡◌, ◌+◌, length, [], unwrap_or}
+use Rattle.std.specs.Prelude.{option_map}
+use Rattle.records.specs.File.{parts}
+use Rattle.records.specs.Reading.{prefixes_after, parts_left}
+use Rattle.records.proofs.fields.listed_prefixes.Given as goal
+
+abbrev pub invariant-loop-rest : goal.invariant-loop-rest
+invariant-loop-rest l = prefixes_after l.prefixes.items (parts_left 44 (option_map (λ r. r.now) l.rest)) ≡ prefixes_after [] (parts 44 l.fn.field)
+
+abbrev pub decreases-loop-rest : goal.decreases-loop-rest
+decreases-loop-rest l = unwrap_or (option_map (λ r. length r.now + 1) l.rest) 0

@@ -1,0 +1,9 @@
+pub mod Subscriber
+pub mod Roam
+pub mod Seen
+pub mod Maps
+pub mod Spelling
+pub mod File
+pub mod Loaded
+pub mod Reading
+pub mod Written

@@ -1,0 +1,9 @@
+-- Where a subscriber may roam, as a value.
+use Rattle.std.specs.Prelude.{ℕ, List, Option, Some, None}
+use Rattle.records.specs.declared.roam.Roam.{Roam}
+use Rattle.records.specs.declared.roam.Roam.TheVariants.{Everywhere, Within}
+
+-- The prefixes of the VLR numbers that are allowed, `None` where all are.
+abbrev pub prefixes_of : Roam → Option (List (List ℕ))
+prefixes_of Everywhere = None
+prefixes_of (Within prefixes) = Some prefixes.items

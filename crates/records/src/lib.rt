@@ -1,0 +1,36 @@
+//! Subscribers: their records, the file that these are read from, the map that a shard has of them, and the lines that
+//! they are written as.
+//!
+//! Contracts see a `Record` as a `Subscriber` of `specs`, `Records` and the `Directory` as finite maps from digits.
+#![tactic(auto)]
+
+mod codes;
+mod cut;
+mod directory;
+mod fault;
+mod fields;
+mod line;
+mod load;
+mod loaded;
+mod numbers;
+mod push;
+mod record;
+mod records;
+mod roam;
+mod shard;
+mod version;
+mod write;
+
+pub use codes::read_codes;
+pub use directory::Directory;
+pub use fault::RecordsFault;
+pub use load::read_records;
+pub use loaded::Loaded;
+pub use record::Record;
+pub use records::Records;
+pub use roam::Roam;
+pub use version::Version;
+pub use write::{law_saved_is_read, save, write_line};
+
+#[cfg(test)]
+mod tests;

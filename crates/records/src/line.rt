@@ -1,0 +1,140 @@
+//! One line of a records file.
+
+ghost use Rattle.std.specs.Prelude.{◌≡◌, ◌&&◌, is_some, IfOk};
+ghost use Rattle.records.specs.File.{parts};
+ghost use Rattle.records.specs.Reading.{record_of, subscriber_of, version_in, header_in};
+
+use crate::codes::codes_field;
+use crate::cut::cut;
+use crate::fields::{imsi_field, register_field, roam_field, withdrawn_field};
+use crate::numbers::{are_octets, register_numbers};
+use crate::record::Record;
+use crate::version::Version;
+use hlr_types::{Digits, IsdnAddress, Register};
+use std::alloc::{AllocError, Global};
+
+/// The number of octets of `HLR1 `.
+const MARK_LEN: usize = 5;
+
+/// The version of the file, and the number of the register.
+#[tactic(auto, unfolding(crate::specs::Reading::header_in))]
+pub fn read_header(line: &[u8]) -> Option<(Version, IsdnAddress)>
+    ensures { result ≡ header_in line.now }
+{
+    if line.len() < MARK_LEN {
+        return None;
+    }
+    let (mark, number) = line.split_at(MARK_LEN);
+    let version = version_of(mark)?;
+    let hlr = Digits::from_text(number)?;
+    Some((version, IsdnAddress::new(hlr)))
+}
+
+fn version_of(mark: &[u8]) -> Option<Version>
+    ensures { result ≡ version_in mark.now }
+{
+    if mark == b"HLR1 ".as_slice() {
+        return Some(Version::One);
+    }
+    if mark == b"HLR2 ".as_slice() {
+        return Some(Version::Two);
+    }
+    None
+}
+
+/// The fields that each version has.
+#[derive(Clone, Copy)]
+struct Fields<'a> {
+    imsi: &'a [u8],
+    msisdn: &'a [u8],
+    codes: &'a [u8],
+    roam: &'a [u8],
+    register: &'a [u8],
+}
+
+/// The record of a line, or none where the line is not of its version's form.
+#[tactic(auto, using(crate::proofs::PartsLemmas::record_of_six, crate::proofs::PartsLemmas::record_of_seven), unfolding(crate::specs::Reading::record_of))]
+pub fn read_record(
+    alloc: Global,
+    version: Version,
+    line: &[u8],
+) -> Result<Option<Record>, AllocError>
+    ensures { IfOk result (λ read. read ≡ record_of version (parts 32 line.now)) }
+{
+    let (imsi, Some(rest)) = cut(line, b' ') else {
+        return Ok(None);
+    };
+    let (msisdn, Some(rest)) = cut(rest, b' ') else {
+        return Ok(None);
+    };
+    let (codes, Some(rest)) = cut(rest, b' ') else {
+        return Ok(None);
+    };
+    let (roam, Some(rest)) = cut(rest, b' ') else {
+        return Ok(None);
+    };
+    let (register, rest) = cut(rest, b' ');
+    let fields = Fields {
+        imsi,
+        msisdn,
+        codes,
+        roam,
+        register,
+    };
+    match (version, rest) {
+        (Version::One, None) => record_from(alloc, fields, false),
+        (Version::Two, Some(rest)) => {
+            let (mark, None) = cut(rest, b' ') else {
+                return Ok(None);
+            };
+            let Some(withdrawn) = withdrawn_field(mark) else {
+                return Ok(None);
+            };
+            record_from(alloc, fields, withdrawn)
+        }
+        _ => Ok(None),
+    }
+}
+
+#[tactic(auto, unfolding(crate::specs::Reading::subscriber_of))]
+fn record_from(alloc: Global, fields: Fields, withdrawn: bool) -> Result<Option<Record>, AllocError>
+    ensures { IfOk result (λ read. read ≡ subscriber_of fields.entry.imsi.now fields.entry.msisdn.now fields.entry.codes.now fields.entry.roam.now fields.entry.register.now withdrawn) }
+{
+    let Some(imsi) = imsi_field(fields.imsi) else {
+        return Ok(None);
+    };
+    let Some(msisdn) = Digits::from_text(fields.msisdn) else {
+        return Ok(None);
+    };
+    let Some(codes) = codes_field(alloc, fields.codes)? else {
+        return Ok(None);
+    };
+    let Some(roam) = roam_field(alloc, fields.roam)? else {
+        return Ok(None);
+    };
+    let Some((register, purged)) = register_field(fields.register) else {
+        return Ok(None);
+    };
+    if has_stayed(withdrawn, &register) {
+        return Ok(None);
+    }
+    are_octets(&codes);
+    register_numbers(&register);
+    Ok(Some(Record {
+        imsi,
+        msisdn: IsdnAddress::new(msisdn),
+        codes,
+        roam,
+        register,
+        purged,
+        current: None,
+        withdrawn,
+    }))
+}
+
+/// Whether the subscriber is withdrawn and yet has a register.
+fn has_stayed(withdrawn: bool, register: &Option<Register>) -> bool
+    ensures { result ≡ (withdrawn && is_some register.now) }
+{
+    withdrawn && register.is_some()
+}

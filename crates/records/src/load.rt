@@ -1,0 +1,92 @@
+//! The reading of a records file.
+
+ghost use Rattle.std.specs.Prelude.{◌≡◌, ◌⊎◌, ℕ, ◌<◌, ◌+◌, ◌^◌, length, IfOk, MatchResult};
+ghost use Rattle.records.specs.File.{lines, Contents, File, IsBadLine, IsTwice};
+ghost use Rattle.records.specs.Loaded.{loaded_from};
+ghost use Rattle.records.specs.Reading.{contents_of, below_header, Answers};
+
+use crate::cut::first_line;
+use crate::fault::RecordsFault;
+use crate::line::{read_header, read_record};
+use crate::loaded::Loaded;
+use crate::version::Version;
+use hlr_types::IsdnAddress;
+use std::alloc::Global;
+
+/// Reads a records file of version 1 or 2: ASCII lines, each ended by a line feed, which the last may lack. The first line
+/// is `HLR1 ` or `HLR2 ` and the digits of the register's own number. Every other line is a record, its fields with one
+/// space between them: `<imsi> <msisdn> <codes> <roam> <register>`, in version 2 also `<a or w>`.
+///
+/// - codes: `-`, or 1 to 32 different octets of two hexadecimal digits, with commas.
+/// - roam: `*`, or 1 to 8 prefixes of 1 to 16 digits, with commas.
+/// - register: `-`, or `<vlr>,<msc>,<lmsi or ->,<s or p>`; the LMSI has eight hexadecimal digits, `p` means purged.
+/// - `w` where the subscriber is withdrawn, whose register must be `-`, else `a`.
+///
+/// A line that is not of its form is `BadLine`, also the first line of an empty file; a line whose IMSI or MSISDN stands
+/// on an earlier line is `Twice`. The first line with a fault decides.
+pub fn read_records(alloc: Global, text: &[u8]) -> Result<Loaded, RecordsFault>
+    // What is read is a records file, and what was loaded is what it says.
+    ensures found { IfOk result (λ loaded. (contents : Contents)
+        × File text.now contents × (loaded ≡ loaded_from contents)) }
+
+    // A records file is read, unless memory runs out.
+    ensures only { (contents : Contents) → File text.now contents
+        → MatchResult result (λ loaded. loaded ≡ loaded_from contents) (λ fault. fault ≡ RecordsFault.Memory) }
+
+    // A fault is that of the first line with one.
+    ensures bad_line { (n : ℕ) → result ≡ Err (RecordsFault.BadLine n) → IsBadLine text.now n }
+    ensures twice { (n : ℕ) → result ≡ Err (RecordsFault.Twice n) → IsTwice text.now n }
+
+    // The first line with a fault is answered, unless memory runs out.
+    ensures at_bad_line { (n : ℕ) → IsBadLine text.now n
+        → MatchResult result (λ _. ⊥) (λ fault. (fault ≡ RecordsFault.BadLine n) ⊎ (fault ≡ RecordsFault.Memory)) }
+    ensures at_twice { (n : ℕ) → IsTwice text.now n
+        → MatchResult result (λ _. ⊥) (λ fault. (fault ≡ RecordsFault.Twice n) ⊎ (fault ≡ RecordsFault.Memory)) }
+{
+    load(alloc, text)
+}
+
+#[tactic(auto, using(crate::proofs::LinesLemmas::lines_nil), unfolding(crate::specs::Reading::contents_of))]
+fn load(alloc: Global, text: &[u8]) -> Result<Loaded, RecordsFault>
+    ensures { Answers result (contents_of (lines text.now)) }
+{
+    if text.len() == 0 {
+        return Err(RecordsFault::BadLine(1));
+    }
+    let (header, below) = first_line(text);
+    let Some((version, hlr)) = read_header(header) else {
+        return Err(RecordsFault::BadLine(1));
+    };
+    load_lines(alloc, version, hlr, below)
+}
+
+fn load_lines(
+    alloc: Global,
+    version: Version,
+    hlr: IsdnAddress,
+    text: &[u8],
+) -> Result<Loaded, RecordsFault>
+    requires { length text.now + 1 < 2 ^ 64 }
+    ensures { Answers result (below_header version hlr (lines text.now)) }
+{
+    let mut loaded = Loaded::new(alloc, hlr);
+    let mut before = 1;
+    let mut rest = text;
+    while !rest.is_empty() {
+        let number = before + 1;
+        let (line, after) = first_line(rest);
+        let Some(subscriber) = read_record(alloc, version, line)? else {
+            return Err(RecordsFault::BadLine(number));
+        };
+        if loaded.has_imsi_of(&subscriber) {
+            return Err(RecordsFault::Twice(number));
+        }
+        if loaded.has_msisdn_of(&subscriber) {
+            return Err(RecordsFault::Twice(number));
+        }
+        loaded.add(subscriber)?;
+        before = number;
+        rest = after;
+    }
+    Ok(loaded)
+}

@@ -1,0 +1,87 @@
+//! What a records file says.
+
+ghost use Rattle.std.specs.Prelude.{◌≡◌, ◌<◌, IfOk, OnOk, is_some};
+ghost use Rattle.std.specs.FinMap as map;
+
+use crate::directory::Directory;
+use crate::record::Record;
+use crate::records::Records;
+use hlr_types::IsdnAddress;
+use std::alloc::{AllocError, Global};
+use std::marker::Model;
+
+/// What a records file says: the number of the register, the records, and the directory.
+#[derive(Drop)]
+pub struct Loaded {
+    hlr: IsdnAddress,
+    records: Records,
+    directory: Directory,
+}
+
+impl Model for Loaded {
+    ghost use Rattle.records.specs.Loaded.{Subscribers, subscribers_code};
+
+    ghost Value = { Subscribers };
+
+    ghost coded = { subscribers_code };
+
+    ghost view = { λ l. record { hlr = l.hlr; records = l.records; directory = l.directory } };
+}
+
+impl Loaded {
+    ghost use Rattle.records.specs.Maps.{part_of};
+    ghost use Rattle.records.specs.Loaded.{with_record, nobody};
+
+    /// The number of the register, and no record.
+    pub(crate) fn new(alloc: Global, hlr: IsdnAddress) -> Loaded
+        ensures { result ≡ nobody hlr }
+    {
+        Loaded {
+            hlr,
+            records: Records::new(alloc),
+            directory: Directory::new(alloc),
+        }
+    }
+
+    pub(crate) fn has_imsi_of(&self, subscriber: &Record) -> bool
+        ensures { result ≡ is_some (map.get self.now.records subscriber.now.imsi) }
+    {
+        self.records.get(&subscriber.imsi).is_some()
+    }
+
+    pub(crate) fn has_msisdn_of(&self, subscriber: &Record) -> bool
+        ensures { result ≡ is_some (map.get self.now.directory subscriber.now.msisdn) }
+    {
+        self.directory.find(&subscriber.msisdn).is_some()
+    }
+
+    /// Puts one record more. Where memory is refused the value is of no use.
+    pub(crate) fn add(&mut self, subscriber: Record) -> Result<(), AllocError>
+        ensures { OnOk result (self.new ≡ with_record self.old subscriber) }
+    {
+        self.directory.add(subscriber.msisdn, subscriber.imsi)?;
+        self.records.add(subscriber)
+    }
+
+    /// The number of the register.
+    pub fn hlr(&self) -> &IsdnAddress
+        ensures { result.now ≡ self.now.hlr }
+    {
+        &self.hlr
+    }
+
+    /// Each subscriber's IMSI by MSISDN.
+    pub fn directory(&self) -> &Directory
+        ensures { result.now ≡ self.now.directory }
+    {
+        &self.directory
+    }
+
+    /// The records of a shard.
+    pub fn part(&self, shard: u8) -> Result<Records, AllocError>
+        requires { shard < 16 }
+        ensures { IfOk result (λ part. part ≡ part_of self.now.records shard) }
+    {
+        self.records.part(shard)
+    }
+}

@@ -1,0 +1,89 @@
+//! A subscriber's record.
+
+use crate::numbers::register_numbers;
+use crate::roam::Roam;
+use hlr_types::{Imsi, IsdnAddress, Register, Tid};
+use std::alloc::AllocError;
+use std::marker::Model;
+
+/// A subscriber's record (TS 23.012): who the subscriber is, the data that a serving register is given, and which
+/// register that is.
+///
+/// Every record keeps these facts: 1 to 32 different codes or none, 1 to 8 roaming prefixes or every VLR, no purged flag
+/// without a register, and of a withdrawn subscriber neither a register nor a current update.
+#[derive(Drop)]
+pub struct Record {
+    pub imsi: Imsi,
+    pub msisdn: IsdnAddress,
+    /// The teleservice codes (TS 29.002, TeleserviceCode), in the order of the file.
+    pub codes: Vec<u8>,
+    pub roam: Roam,
+    /// The serving register.
+    pub register: Option<Register>,
+    /// Whether the serving register has purged the subscriber.
+    pub purged: bool,
+    /// The local id of the update that counts.
+    pub current: Option<Tid>,
+    /// Whether the operator has withdrawn the subscriber.
+    pub withdrawn: bool,
+}
+
+impl Model for Record {
+    ghost use Rattle.records.specs.Subscriber.{Subscriber, subscriber_code, IsRecord};
+
+    ghost Value = { Subscriber };
+
+    ghost coded = { subscriber_code };
+
+    ghost use Rattle.records.specs.Seen.{seen};
+
+    ghost view = { seen };
+
+    ghost invariant = { λ r. IsRecord (seen r) };
+}
+
+/// A clone is an equal record.
+impl Clone for Record {
+    ghost use Rattle.std.specs.Prelude.{◌≡◌};
+
+    ghost is_clone = { λ source copy. copy ≡ source };
+
+    fn clone(&self) -> Result<Record, AllocError> {
+        Ok(Record {
+            imsi: self.imsi,
+            msisdn: self.msisdn,
+            codes: self.codes.clone()?,
+            roam: self.roam.clone()?,
+            register: self.register,
+            purged: self.purged,
+            current: self.current,
+            withdrawn: self.withdrawn,
+        })
+    }
+}
+
+impl Record {
+    ghost use Rattle.std.specs.Prelude.{◌≡◌};
+    ghost use Rattle.records.specs.Subscriber.{IsPlace, AreAllowed, placed, allowed};
+
+    /// Changes the serving register, the purged flag and the current update.
+    pub(crate) fn place(&mut self, register: Option<Register>, purged: bool, current: Option<Tid>)
+        requires { IsPlace self.old.withdrawn register purged current }
+        ensures { self.new ≡ placed self.old register purged current }
+    {
+        register_numbers(&register);
+        self.register = register;
+        self.purged = purged;
+        self.current = current;
+    }
+
+    /// Changes the codes, and whether the subscriber is withdrawn.
+    pub(crate) fn allow(&mut self, codes: Vec<u8>, withdrawn: bool)
+        requires codes { AreAllowed codes.items }
+        requires place { IsPlace withdrawn self.old.register self.old.purged self.old.current }
+        ensures { self.new ≡ allowed self.old codes.items withdrawn }
+    {
+        self.codes = codes;
+        self.withdrawn = withdrawn;
+    }
+}

@@ -1,0 +1,16 @@
+//! The shard of a subscriber.
+
+ghost use Rattle.std.specs.Prelude.{◌≡◌};
+ghost use Rattle.records.specs.Maps.{shard_of};
+
+use hlr_types::Imsi;
+
+/// The number made of the last two digits, modulo 16.
+#[tactic(auto, unfolding(crate::specs::Maps::shard_of))]
+pub fn shard_of(imsi: &Imsi) -> u8
+    ensures { result ≡ shard_of imsi.now }
+{
+    let digits = imsi.digits().as_slice();
+    let count = digits.len();
+    (10 * digits[count - 2] + digits[count - 1]) % 16
+}
