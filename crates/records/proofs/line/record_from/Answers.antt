@@ -11,7 +11,7 @@ pub invariant_of-result : goal.invariant_of-result
 invariant_of-result c =
     let f = c.args.fields in
     let imsi : imsi_in f.imsi.now ≡ Some c.in-Some.imsi = sym c.in-Some.ensures in
-    let msisdn : digits_in f.msisdn.now ≡ Some c.in-Some-from_text.msisdn = sym c.in-Some-from_text.ensures in
+    let msisdn : digits_in f.msisdn.now ≡ Some c.in-Some-from_text.msisdn = sym c.in-Some-from_text.ensures.exact in
     let codes : codes_in f.codes.now ≡ Some c.in-Some-2.codes.items = sym c.in_ok-codes.ensures ∙ ap (option_map (λ v. v.items)) c.in-Some-2.is in
     let roam : roam_in f.roam.now ≡ Some (prefixes_of c.in-Some-3.roam) = sym c.in_ok-roam.ensures ∙ ap (option_map prefixes_of) c.in-Some-3.is in
     let register : register_in f.register.now ≡ Some (c.in-Some-register_field.register, c.in-Some-register_field.purged) = sym c.in-Some-register_field.ensures in
