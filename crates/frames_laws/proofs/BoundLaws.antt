@@ -1,5 +1,5 @@
 -- What octets read to is within the bounds of the machine.
-use Rattle.std.proofs.Common.{◌≡◌, ℕ, ℤ, ◌<◌, ◌≤◌, List, [], ◌∷◌, ◌++◌, length, refl, sym, subst, inl, inr, arith}
+use Rattle.std.proofs.Common.{◌≡◌, ℕ, ℤ, ◌<◌, ◌≤◌, List, [], ◌∷◌, ◌++◌, length, refl, sym, subst, inl, inr, arith, lit<}
 use Rattle.std.specs.Prelude.{Option, Some, None, option_to_list}
 use Rattle.std.specs.Int.{w8}
 use Rattle.std.specs.List.{AllByRecursion}
@@ -15,7 +15,7 @@ use Rattle.hlr_types.specs.Digits.{AreSomeDigits}
 use Rattle.hlr_types.specs.Identities.{IsImsi, IsAddress, IsLmsi}
 use Rattle.machine.specs.Keys.{Every}
 use Rattle.machine.specs.Received.{Argument, BadValue, Update, Purge, Route, Parameter, Mistyped, Typed, Code, Number, Other, Component, Invoke, ResultLast, ResultNotLast, ReturnError, Reject, Bad, Ignored, Aarq, Message, Begin, Continue, End, Abort, Verdict}
-use Rattle.machine.specs.Bounds.{IfThere, AreDigits, AreOctets, IsTransactionId, IsInvokeId, IsName, IsOfOperation, ArgumentInBounds, ParameterInBounds, ComponentInBounds, MessageInBounds, VerdictInBounds}
+use Rattle.machine.specs.Bounds.{IfThere, AreDigits, AreOctets, IsOctet, IsTransactionId, IsInvokeId, IsName, IsOfOperation, ArgumentInBounds, ParameterInBounds, ComponentInBounds, MessageInBounds, VerdictInBounds}
 use Rattle.frames.specs.declared.numbers.TheConstants.{MAX_COMPONENTS}
 use Rattle.frames.specs.declared.tags.TheConstants.{INTEGER, UPDATE_LMSI}
 use Rattle.frames.specs.Messages as tc
@@ -25,7 +25,7 @@ use Rattle.frames.specs.DialogueForms.{IsDialogue}
 use Rattle.frames.specs.ComponentForms.{IsId, IsWellFormed, HasIdTag, BeginsWithId}
 use Rattle.frames.specs.ArgumentForms.{optional_element, AreIfThere, Arg, IsParameter}
 use Rattle.frames.specs.Heard.{IsHeard, AreHeard}
-use Rattle.frames.specs.Points.{HasOrigin, Point, points, IsAnswer, cause_of, IsSaidFirst, NoneFits}
+use Rattle.frames.specs.Points.{HasOrigin, Point, IsUnidirectional, IsAnotherMessage, LacksOrigin, LacksDestination, BreaksItsForm, HasUnreadablePortion, HasTooManyComponents, points, IsAnswer, cause_of, IsSaidFirst, NoneFits}
 use Rattle.frames.specs.Verdicts.{verdict_on}
 use Rattle.frames.specs.Frames.{IsPortion, Reads, IsJudged, IsVerdict}
 
@@ -138,6 +138,12 @@ front_id t ts id h (inr (inl is)) (i, rest, is_id, e) = invoke_id i id (subst Li
 front_id t ts id h (inr (inr (inl is))) (i, rest, is_id, e) = invoke_id i id (subst ListOctets e (subst HasOctets is h)).0 is_id
 front_id t ts id h (inr (inr (inr is))) (i, rest, is_id, e) = invoke_id i id (subst ListOctets e (subst HasOctets is h)).0 is_id
 
+-- the problem of an ill-formed component
+bad_problem : (t : Tree) (id : Option ℤ) (problem : ℕ) → IsHeard t (Bad id problem) → IsOctet problem
+bad_problem t None problem (inl another) = subst IsOctet (sym another.0) (lit< tt)
+bad_problem t None problem (inr mistyped) = subst IsOctet (sym mistyped.0) (lit< tt)
+bad_problem t (Some id) problem mistyped = subst IsOctet (sym mistyped.0) (lit< tt)
+
 component_within : (t : Tree) (c : Component) → HasOctets t → IsHeard t c → ComponentInBounds c
 component_within t (Invoke id linked code None) h is = ((invoke_parts t id linked code None h is).0, tt)
 component_within t (Invoke id linked code (Some parameter)) h (p, is, reads) =
@@ -147,8 +153,8 @@ component_within t (ResultLast id) h (i, is_id, ts, are, is) = invoke_id i id (s
 component_within t (ResultNotLast id) h (i, is_id, ts, are, is) = invoke_id i id (subst HasOctets is h).0 is_id
 component_within t (ReturnError id code) h (i, is_id, cs, p, are, is) = invoke_id i id (subst HasOctets is h).0 is_id
 component_within t (Reject id side problem) h is = tt
-component_within t (Bad None problem) h is = tt
-component_within t (Bad (Some id) problem) h (e, ts, has, front, ill) = front_id t ts id h has front
+component_within t (Bad None problem) h is = (tt, bad_problem t None problem is)
+component_within t (Bad (Some id) problem) h is = (front_id t is.1 id h is.2 is.3, bad_problem t (Some id) problem is)
 component_within t Ignored h is = tt
 
 components_within : (ts : List Tree) (cs : List Component) → ListOctets ts → AreHeard ts cs → Every ComponentInBounds cs × (length cs ≡ length ts)
@@ -225,14 +231,23 @@ children_octets (Constructed tag ts) h origin has = (subst ListOctets has.spelle
 abbrev UnreadWithin : Unread → Type 0
 UnreadWithin u = VerdictInBounds (verdict_on u)
 
-answer_within : (t : Tree) (cause : Option ℕ) (u : Unread) → HasOctets t → IsAnswer t cause u → UnreadWithin u
-answer_within t None u h e = subst UnreadWithin (sym e) tt
-answer_within t (Some cause) u h (inl (origin, may, e)) = subst UnreadWithin (sym e) (transaction_id origin (children_octets t h origin may.0) may.0.fits)
-answer_within t (Some cause) u h (inr (none, e)) = subst UnreadWithin (sym e) tt
+cause_within : (p : Point) → IfThere IsOctet (cause_of p)
+cause_within IsUnidirectional = tt
+cause_within IsAnotherMessage = lit< tt
+cause_within LacksOrigin = tt
+cause_within LacksDestination = lit< tt
+cause_within BreaksItsForm = lit< tt
+cause_within HasUnreadablePortion = lit< tt
+cause_within HasTooManyComponents = lit< tt
+
+answer_within : (t : Tree) (cause : Option ℕ) (u : Unread) → HasOctets t → IfThere IsOctet cause → IsAnswer t cause u → UnreadWithin u
+answer_within t None u h c e = subst UnreadWithin (sym e) tt
+answer_within t (Some cause) u h c (inl (origin, may, e)) = subst UnreadWithin (sym e) (transaction_id origin (children_octets t h origin may.0) may.0.fits, c)
+answer_within t (Some cause) u h c (inr (none, e)) = subst UnreadWithin (sym e) tt
 
 said_within : (ps : List Point) (t : Tree) (u : Unread) → HasOctets t → IsSaidFirst ps t u → UnreadWithin u
 said_within [] t u h said = absurd said
-said_within (p ∷ ps) t u h (inl a) = answer_within t (cause_of p) u h a.1
+said_within (p ∷ ps) t u h (inl a) = answer_within t (cause_of p) u h (cause_within p) a.1
 said_within (p ∷ ps) t u h (inr a) = said_within ps t u h a.1
 
 judged_within : (t : Tree) (v : Verdict) → HasOctets t → IsJudged t v → VerdictInBounds v

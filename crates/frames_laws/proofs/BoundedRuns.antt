@@ -9,11 +9,14 @@ use Rattle.machine.specs.Legal.{Entry, events_of, answers_of}
 use Rattle.machine.specs.Bounds.{AreDigits, ChangeInBounds, EventInBounds, OutInBounds, AnswerInBounds}
 use Rattle.machine_laws.proofs.Within.{run_within}
 use Rattle.frames.specs.declared.numbers.TheConstants.{MAX_OCTETS}
+use Rattle.frames.specs.Sane.{Sane}
+use Rattle.frames.specs.OctetJournals.{SaneEntries}
 use Rattle.frames.specs.Octets.{RawEvent, RawFrame, RawClock, RawExpire, RawChange, RawOut, RawEntry, IsEvent, spelled_out, SpellsJournal}
 use Rattle.frames_laws.specs.JournalLaws.{RawInBounds, RunsStayInBounds}
 use Rattle.frames_laws.proofs.BoundLaws.{verdict_within}
 use Rattle.frames_laws.proofs.OctetLaws.{run_found}
 use Rattle.frames_laws.proofs.SizeLaws.{sent_size}
+use Rattle.frames_laws.proofs.SaneLaws.{sent_sane}
 
 event_within : (raw : RawEvent) (e : Event) → RawInBounds raw → IsEvent raw e → EventInBounds e
 event_within (RawFrame from octets) (Frame source v) h is = (subst AreDigits (sym is.0) h, verdict_within octets v is.1)
@@ -51,8 +54,20 @@ entries_short [] js spells h = tt
 entries_short (r ∷ rs) [] spells h = absurd spells
 entries_short (r ∷ rs) (j ∷ js) spells h = (subst (Every IsShort) (sym spells.0.outs) (outs_short j.answer.sent h.0), entries_short rs js spells.1 h.1)
 
+outs_sane : (outs : List Out) → Every OutInBounds outs → Every (λ out. Sane out.message) outs
+outs_sane [] h = tt
+outs_sane (out ∷ outs) h = ((sent_sane out.message h.0.1).0, outs_sane outs h.1)
+
+entries_sane : (js : List Entry) → Every AnswerInBounds (answers_of js) → SaneEntries js
+entries_sane [] h = tt
+entries_sane (j ∷ js) h = (outs_sane j.answer.sent h.0, entries_sane js h.1)
+
 pub runs_stay_in_bounds : RunsStayInBounds
-runs_stay_in_bounds S T raws within events run =
-    let (js, spells, goes) = run_found raws S T run in
-    let after = run_within (events_of js) S T (answers_of js) within (events_within raws js events spells) goes in
-    (after.0, entries_short raws js spells after.1)
+runs_stay_in_bounds = record {
+  within = λ S T raws bounds events run.
+      let (js, spells, goes) = run_found raws S T run in
+      let after = run_within (events_of js) S T (answers_of js) bounds (events_within raws js events spells) goes in
+      (after.0, entries_short raws js spells after.1);
+  sane = λ S T raws js bounds events spells run.
+      entries_sane js (run_within (events_of js) S T (answers_of js) bounds (events_within raws js events spells) run).1;
+}

@@ -17,6 +17,7 @@ pub mod Computed
 pub mod Hostile
 pub mod BoundLaws
 pub mod SizeLaws
+pub mod SaneLaws
 pub mod BoundedRuns
 pub mod Amongs
 pub mod AccountedEntries

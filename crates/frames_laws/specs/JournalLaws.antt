@@ -3,7 +3,8 @@ use Rattle.std.specs.Prelude.{◌≡◌, ℕ, ◌<◌, ◌≤◌, List, [], ◌�
 use Rattle.machine.specs.Numbers.{shards}
 use Rattle.machine.specs.State.{State}
 use Rattle.machine.specs.Parts.{union}
-use Rattle.machine.specs.Legal.{Entry}
+use Rattle.machine.specs.Run.{Run}
+use Rattle.machine.specs.Legal.{Entry, events_of, answers_of}
 use Rattle.machine.specs.Holders.{Holding, serving}
 use Rattle.machine.specs.Isolation.{own, SameOf}
 use Rattle.machine.specs.Keys.{Every}
@@ -59,8 +60,10 @@ RawInBounds (RawClock shard now) = shard < shards
 RawInBounds (RawExpire shard) = shard < shards
 RawInBounds (RawChange imsi change) = ChangeInBounds change
 
--- Runs of octets stay within bounds, whatever the octets of the frames are, and all that they send is short frames.
-abbrev pub RunsStayInBounds : Type 0
-RunsStayInBounds =
-    (S T : State) (raws : List RawEntry) → StateInBounds S → Every (λ raw. RawInBounds raw.event) raws → RunOctets S raws T
-    → StateInBounds T × Every (λ raw. Every (λ out. length out.octets ≤ MAX_OCTETS) raw.outs) raws
+-- Runs of octets stay within bounds, whatever the octets of the frames are. All that they send is short frames, and each
+-- message that it spells is one of which the laws of what is sent speak.
+pub record RunsStayInBounds : Type 0 where
+  pub within : (S T : State) (raws : List RawEntry) → StateInBounds S → Every (λ raw. RawInBounds raw.event) raws → RunOctets S raws T
+      → StateInBounds T × Every (λ raw. Every (λ out. length out.octets ≤ MAX_OCTETS) raw.outs) raws
+  pub sane : (S T : State) (raws : List RawEntry) (js : List Entry) → StateInBounds S → Every (λ raw. RawInBounds raw.event) raws
+      → SpellsJournal raws js → Run S (events_of js) T (answers_of js) → SaneEntries js

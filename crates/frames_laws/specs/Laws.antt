@@ -80,6 +80,10 @@ pub record SentPortionsHaveForms : Type 0 where
 abbrev pub SentIsMeant : Type 0
 SentIsMeant = (m : SentMessage) → SaneContent m → HasIds m → Reads (tree_of m) (message_heard m)
 
+-- What the machine sends within its bounds may be sent: the laws of what is sent speak of it.
+abbrev pub SentIsSane : Type 0
+SentIsSane = (m : SentMessage) → SentInBounds m → Sane m × HasIds m
+
 -- What is sent is octets.
 abbrev pub SentIsOctets : Type 0
 SentIsOctets = (m : SentMessage) → SaneContent m → AreOctets (octets_of_sent m)

@@ -33,7 +33,8 @@ pub fn merges_are_runs()
     ensures { MergesAreRuns }
 {}
 
-/// Runs of octets stay within bounds, whatever the octets of the frames are, and send short frames alone.
+/// Runs of octets stay within bounds, whatever the octets of the frames are, and send only short frames, of which the laws
+/// of what is sent speak.
 pub fn runs_stay_in_bounds()
     ensures { RunsStayInBounds }
 {}

@@ -4,7 +4,7 @@
 pub mod examples;
 pub mod journals;
 
-ghost use Rattle.frames_laws.specs.Laws.{MessagesAreRead, DialoguesAreRead, ComponentsAreRead, ParametersAreRead, ComponentsAreHeard, TreesAreJudged, OneMessage, OneVerdict, VerdictsAreWithinBounds, SentComponentsHaveForms, SentPortionsHaveForms, SentIsMeant, SentIsOctets, SentIsShallow, SentIsShort, OctetsTell, SentIsRead, NumbersAgree};
+ghost use Rattle.frames_laws.specs.Laws.{MessagesAreRead, DialoguesAreRead, ComponentsAreRead, ParametersAreRead, ComponentsAreHeard, TreesAreJudged, OneMessage, OneVerdict, VerdictsAreWithinBounds, SentComponentsHaveForms, SentPortionsHaveForms, SentIsMeant, SentIsOctets, SentIsSane, SentIsShallow, SentIsShort, OctetsTell, SentIsRead, NumbersAgree};
 
 /// Up to its portions a tree is read as a message exactly where it has the message's form, and otherwise as what the first
 /// point says that fits.
@@ -65,6 +65,11 @@ pub fn sent_portions_have_forms()
 /// The tree that is sent is the message that is meant.
 pub fn sent_is_meant()
     ensures { SentIsMeant }
+{}
+
+/// What the machine sends within its bounds may be sent: the laws of what is sent speak of it.
+pub fn sent_is_sane()
+    ensures { SentIsSane }
 {}
 
 /// What is sent is octets.

@@ -5,7 +5,7 @@ use Rattle.std.specs.Int.{w8}
 use Rattle.machine.specs.Keys.{Every}
 use Rattle.machine.specs.Numbers.{update_location, purge_ms, send_routing_info_for_sm, shards, most_attempts, codes_in_insert, latest_clock}
 use Rattle.machine.specs.Received.{Register, Argument, BadValue, Update, Purge, Route, Parameter, Typed, Code, Number, Component, Invoke, ResultLast, ResultNotLast, ReturnError, Bad, Message, Begin, Continue, Verdict, Discard, Refuse, Read}
-use Rattle.machine.specs.Sent.{Context, Rejection, SentComponent, Insert, Cancel, UpdateResult, PurgeResult, RouteResult, SentError, Why, Refusing, SentMessage, SentBegin, SentContinue, SentEnd, SentAbort, Out}
+use Rattle.machine.specs.Sent.{Context, Rejection, SentComponent, Insert, Cancel, UpdateResult, PurgeResult, RouteResult, SentError, Why, NoCause, Cause, Refusing, SentMessage, SentBegin, SentContinue, SentEnd, SentAbort, Out}
 use Rattle.machine.specs.Events.{Change, Codes, Withdraw, Event, Frame, Clock, Expire, Operator}
 use Rattle.machine.specs.State.{Subscriber, Transaction, Invocation, Kind, Updates, Cancels, Data, Dialogue, State}
 use Rattle.machine.specs.Contexts.{operation_of}
@@ -26,6 +26,10 @@ AreDigits digits = Every (λ d. d < 10) digits × (length digits ≤ 16)
 -- each is an octet
 abbrev pub AreOctets : List ℕ → Type 0
 AreOctets octets = Every (λ o. o < 256) octets
+
+-- one octet
+abbrev pub IsOctet : ℕ → Type 0
+IsOctet n = n < 256
 
 -- one to four octets
 pub record IsTransactionId (id : List ℕ) : Type 0 where
@@ -111,13 +115,13 @@ abbrev pub ParameterInBounds : Code → Option Parameter → Type 0
 ParameterInBounds operation (Some (Typed argument)) = ArgumentInBounds argument × IsOfOperation operation argument
 ParameterInBounds operation _ = Unit {0}
 
--- the ids of a received component
+-- the ids of a received component, and the problem that is answered
 abbrev pub ComponentInBounds : Component → Type 0
 ComponentInBounds (Invoke id linked operation parameter) = IsInvokeId id × ParameterInBounds operation parameter
 ComponentInBounds (ResultLast id) = IsInvokeId id
 ComponentInBounds (ResultNotLast id) = IsInvokeId id
 ComponentInBounds (ReturnError id error) = IsInvokeId id
-ComponentInBounds (Bad id problem) = IfThere IsInvokeId id
+ComponentInBounds (Bad id problem) = IfThere IsInvokeId id × IsOctet problem
 ComponentInBounds _ = Unit {0}
 
 -- at most sixteen components
@@ -134,7 +138,7 @@ MessageInBounds _ = Unit {0}
 -- what a frame reads to
 abbrev pub VerdictInBounds : Verdict → Type 0
 VerdictInBounds Discard = Unit {0}
-VerdictInBounds (Refuse origin cause) = IsTransactionId origin
+VerdictInBounds (Refuse origin cause) = IsTransactionId origin × IsOctet cause
 VerdictInBounds (Read message) = MessageInBounds message
 
 -- an operator's change
@@ -160,20 +164,25 @@ SentComponentInBounds (UpdateResult id hlr) = IsInvokeId id × AreDigits hlr
 SentComponentInBounds (PurgeResult id freeze) = IsInvokeId id
 SentComponentInBounds (RouteResult id imsi msc lmsi) =
     IsInvokeId id × AreDigits imsi × AreDigits msc × IfThere (λ lmsi. AreOctets lmsi × (length lmsi ≡ 4)) lmsi
-SentComponentInBounds (SentError id code) = IsInvokeId id
+SentComponentInBounds (SentError id code) = IsInvokeId id × IsOctet code
 
 -- at most four of a procedure's own components, and at most sixteen Rejects
 abbrev pub OwnInBounds : List SentComponent → Type 0
 OwnInBounds components = Every SentComponentInBounds components × (length components ≤ 4)
 
+-- a Reject's id, if any, and its problem
+abbrev pub RejectInBounds : Rejection → Type 0
+RejectInBounds r = IfThere IsInvokeId r.id × IsOctet r.problem
+
 -- at most sixteen Rejects
 abbrev pub RejectsInBounds : List Rejection → Type 0
-RejectsInBounds rejects = Every (λ (r : Rejection). IfThere IsInvokeId r.id) rejects × (length rejects ≤ 16)
+RejectsInBounds rejects = Every RejectInBounds rejects × (length rejects ≤ 16)
 
--- the name in an Abort that refuses
+-- the cause of an Abort, or the name that it refuses
 abbrev pub WhyInBounds : Why → Type 0
+WhyInBounds NoCause = Unit {0}
+WhyInBounds (Cause cause) = IsOctet cause
 WhyInBounds (Refusing name) = IsName name
-WhyInBounds _ = Unit {0}
 
 -- what a message that is sent has
 abbrev pub SentInBounds : SentMessage → Type 0

@@ -1,23 +1,23 @@
 -- Steps keep the bounds of values, and their answers are within them.
-use Rattle.std.proofs.Common.{◌≡◌, ◌+◌, ◌*◌, ◌<◌, ◌≤◌, min, ℕ, zero, suc, ℤ, pos, List, [], ◌∷◌, ◌++◌, map, take, drop, length, Bool, true, false, cond, refl, subst, Option, Some, None, is_some, IsTrue, arith, lit<, length-take, ltb-true}
+use Rattle.std.proofs.Common.{◌≡◌, ◌+◌, ◌*◌, ◌<◌, ◌≤◌, min, ℕ, zero, suc, ℤ, pos, List, [], ◌∷◌, ◌++◌, ◌&&◌, map, take, drop, length, Bool, true, false, cond, refl, subst, Option, Some, None, is_some, IsTrue, arith, lit<, length-take, ltb-true}
 use Rattle.std.specs.Int.{w8}
 use Rattle.std.proofs.lemmas.Int.{fits_signed_from_abs}
 use Rattle.std.proofs.lemmas.List.{length-map}
 use Rattle.std.proofs.lemmas.Bool.{both_ways, and_parts}
-use Rattle.machine.specs.Bounds.{AreCodes, AreDigits, ArgumentInBounds, ChangeInBounds, ComponentInBounds, ComponentsInBounds, DialogueInBounds, IfThere, IsInvokeId, IsName, IsRegister, IsTransactionId, KindInBounds, OutInBounds, OwnInBounds, RecordInBounds, RejectsInBounds, SentComponentInBounds, WhyInBounds}
-use Rattle.machine.specs.Received.{Argument, Bad, BadValue, Component, Ignored, Invoke, Mistyped, OfError, OfResult, Parameter, Purge, Register, Reject, ResultLast, ResultNotLast, ReturnError, Route, Side, Typed, Update}
+use Rattle.machine.specs.Bounds.{AreCodes, AreDigits, ArgumentInBounds, ChangeInBounds, ComponentInBounds, ComponentsInBounds, DialogueInBounds, IfThere, IsInvokeId, IsName, IsOctet, IsRegister, IsTransactionId, KindInBounds, OutInBounds, OwnInBounds, RecordInBounds, RejectInBounds, RejectsInBounds, SentComponentInBounds, WhyInBounds}
+use Rattle.machine.specs.Received.{Argument, Bad, BadValue, Code, Component, Ignored, Invoke, Mistyped, OfError, OfResult, Parameter, Purge, Register, Reject, ResultLast, ResultNotLast, ReturnError, Route, Side, Typed, Update}
 use Rattle.machine.specs.Begins.{Asker, answered, begins, begins_in, begins_named, begun, first_argument, is_allowed, offer_in, procedure, purge, purge_at, route_component, update_begins, update_opened}
 use Rattle.machine.specs.Sent.{CancellationType, Context, Insert, LocationCancellation, MsPurging, NetworkLocUp, NoCause, Out, PurgeResult, Refusing, Rejection, SentAbort, SentBegin, SentComponent, SentError, ShortMsgGateway, SubscriberDataMngt, UpdateProcedure, UpdateResult, Why}
 use Rattle.machine.specs.State.{Cancels, Data, Dialogue, Invocation, Kind, Local, OperationSent, Subscriber, Updates, WaitForReject, Was}
 use Rattle.machine.specs.Events.{Change, Codes, Withdraw}
-use Rattle.machine.specs.Effect.{Conclusion, Effect, GoesOn, HasFailed, HasSucceeded, Offer, effect, is_id, linked_to, problem_of, reject_answer, reject_invoke, reject_of, rejects_after}
+use Rattle.machine.specs.Effect.{Conclusion, Effect, GoesOn, HasFailed, HasSucceeded, Offer, effect, is_empty, is_id, is_open_id, is_operation, linked_to, problem_of, reject_answer, reject_invoke, reject_of, rejects_after}
 use Rattle.machine.specs.Keys.{Every, same}
 use Rattle.machine.specs.Contexts.{Known, Named, OtherVersion, Unknown, accepted, context_of, name_of, refused_as, refused_name}
 use Rattle.machine.specs.SmRoute.{NoRoute, has_short_messages, route_by, sm_route}
 use Rattle.machine.specs.Outcome.{Outcome, below, cancel, cancel_begin, continued, ended, further, inserts, inserts_invoked, invoked, is_marked, send, unchanged, unmarked}
 use Rattle.machine.specs.Changes.{change_to, changes, codes_to, data_to, withdraw_from}
 use Rattle.machine.specs.Dialogues.{closes, continues, continues_as, ends, goes_on, offer_to, other_continues, update_completes, update_continues, update_done, update_fails}
-use Rattle.machine.specs.Numbers.{data_missing, roaming_not_allowed, system_failure, teleservice_not_provisioned, unexpected_data_value, unknown_subscriber}
+use Rattle.machine.specs.Numbers.{data_missing, mistyped_parameter, resource_limitation, roaming_not_allowed, system_failure, teleservice_not_provisioned, unexpected_data_value, unknown_subscriber, unrecognized_operation}
 use Rattle.machine.specs.Expiries.{expires, is_repeated, sent_expires}
 use Rattle.machine_laws.proofs.Keys.{none_some, some_inj}
 use Rattle.machine_laws.proofs.Rising.{every_after, every_without}
@@ -86,19 +86,32 @@ inserts_bounded imsi msisdn codes x m h = (
 
 -- the Rejects of components
 
-abbrev RejectIds : List Rejection → Type 0
-RejectIds rs = Every (λ (r : Rejection). IfThere IsInvokeId r.id) rs
+-- the problems of an Invoke are octets
+problem_small : (offer : Offer) (is_open : Bool) (linked : Option Bool) (code : Code) (is_first : Bool) → IfThere IsOctet (problem_of offer is_open linked code is_first)
+problem_small offer true linked code is_first = lit< tt
+problem_small offer false (Some true) code is_first = lit< tt
+problem_small offer false (Some false) code is_first = lit< tt
+problem_small offer false None code is_first = by (is_operation offer.operation code) (is_first && offer.may_start) offer.typed
+  where
+    by : (b f t : Bool) → IfThere IsOctet (cond b (cond f (cond t None (Some mistyped_parameter)) (Some resource_limitation)) (Some unrecognized_operation))
+    by true true true = tt
+    by true true false = lit< tt
+    by true false t = lit< tt
+    by false f t = lit< tt
 
-invoke_rejected : (id : ℤ) (p : Option ℕ) → IsInvokeId id → RejectIds (reject_invoke id p) × (length (reject_invoke id p) ≤ 1)
-invoke_rejected id None h = (tt, omega arith)
-invoke_rejected id (Some p) h = ((h, tt), omega arith)
+abbrev AreRejects : List Rejection → Type 0
+AreRejects rs = Every RejectInBounds rs
 
-answer_rejected : (id : ℤ) (side : Side) (b : Bool) → IsInvokeId id → RejectIds (reject_answer id side b) × (length (reject_answer id side b) ≤ 1)
+invoke_rejected : (id : ℤ) (p : Option ℕ) → IsInvokeId id → IfThere IsOctet p → AreRejects (reject_invoke id p) × (length (reject_invoke id p) ≤ 1)
+invoke_rejected id None h g = (tt, omega arith)
+invoke_rejected id (Some p) h g = (((h, g), tt), omega arith)
+
+answer_rejected : (id : ℤ) (side : Side) (b : Bool) → IsInvokeId id → AreRejects (reject_answer id side b) × (length (reject_answer id side b) ≤ 1)
 answer_rejected id side true h = (tt, omega arith)
-answer_rejected id side false h = ((h, tt), omega arith)
+answer_rejected id side false h = (((h, lit< tt), tt), omega arith)
 
-one_rejected : (offer : Offer) (vs : List Invocation) (earlier : List Component) (c : Component) → ComponentInBounds c → RejectIds (reject_of offer vs earlier c) × (length (reject_of offer vs earlier c) ≤ 1)
-one_rejected offer vs earlier (Invoke id linked operation parameter) h = invoke_rejected id _ h.0
+one_rejected : (offer : Offer) (vs : List Invocation) (earlier : List Component) (c : Component) → ComponentInBounds c → AreRejects (reject_of offer vs earlier c) × (length (reject_of offer vs earlier c) ≤ 1)
+one_rejected offer vs earlier (Invoke id linked operation parameter) h = invoke_rejected id _ h.0 (problem_small offer (is_open_id offer vs earlier id) (linked_to vs earlier linked) operation (is_empty earlier))
 one_rejected offer vs earlier (ResultLast id) h = answer_rejected id OfResult _ h
 one_rejected offer vs earlier (ResultNotLast id) h = answer_rejected id OfResult _ h
 one_rejected offer vs earlier (ReturnError id error) h = answer_rejected id OfError _ h
@@ -106,20 +119,20 @@ one_rejected offer vs earlier (Reject id side problem) h = (tt, omega arith)
 one_rejected offer vs earlier (Bad id problem) h = ((h, tt), omega arith)
 one_rejected offer vs earlier Ignored h = (tt, omega arith)
 
-all_rejected : (offer : Offer) (vs : List Invocation) (earlier cs : List Component) → Every ComponentInBounds cs → RejectIds (rejects_after offer vs earlier cs) × (length (rejects_after offer vs earlier cs) ≤ length cs)
+all_rejected : (offer : Offer) (vs : List Invocation) (earlier cs : List Component) → Every ComponentInBounds cs → AreRejects (rejects_after offer vs earlier cs) × (length (rejects_after offer vs earlier cs) ≤ length cs)
 all_rejected offer vs earlier [] h = (tt, omega arith)
 all_rejected offer vs earlier (c ∷ cs) h =
-    let one : RejectIds (reject_of offer vs earlier c) × (length (reject_of offer vs earlier c) ≤ 1) = one_rejected offer vs earlier c h.0 in
-    let rest : RejectIds (rejects_after offer vs (earlier ++ c ∷ []) cs) × (length (rejects_after offer vs (earlier ++ c ∷ []) cs) ≤ length cs) = all_rejected offer vs (earlier ++ c ∷ []) cs h.1 in
+    let one : AreRejects (reject_of offer vs earlier c) × (length (reject_of offer vs earlier c) ≤ 1) = one_rejected offer vs earlier c h.0 in
+    let rest : AreRejects (rejects_after offer vs (earlier ++ c ∷ []) cs) × (length (rejects_after offer vs (earlier ++ c ∷ []) cs) ≤ length cs) = all_rejected offer vs (earlier ++ c ∷ []) cs h.1 in
     let both : length (reject_of offer vs earlier c ++ rejects_after offer vs (earlier ++ c ∷ []) cs) ≡ length (reject_of offer vs earlier c) + length (rejects_after offer vs (earlier ++ c ∷ []) cs) = length_append (reject_of offer vs earlier c) (rejects_after offer vs (earlier ++ c ∷ []) cs) in
     let few_here : length (reject_of offer vs earlier c) ≤ 1 = one.1 in
     let few_more : length (rejects_after offer vs (earlier ++ c ∷ []) cs) ≤ length cs = rest.1 in
-    (every_append (λ (r : Rejection). IfThere IsInvokeId r.id) (reject_of offer vs earlier c) (rejects_after offer vs (earlier ++ c ∷ []) cs) one.0 rest.0, omega arith)
+    (every_append RejectInBounds (reject_of offer vs earlier c) (rejects_after offer vs (earlier ++ c ∷ []) cs) one.0 rest.0, omega arith)
 
 pub effect_rejects : (now : ℕ) (offer : Offer) (vs : List Invocation) (cs : List Component) → ComponentsInBounds cs → RejectsInBounds (effect now offer vs cs).rejects
 unfolding effect
 effect_rejects now offer vs cs h =
-    let all : RejectIds (rejects_after offer vs [] cs) × (length (rejects_after offer vs [] cs) ≤ length cs) = all_rejected offer vs [] cs h.0 in
+    let all : AreRejects (rejects_after offer vs [] cs) × (length (rejects_after offer vs [] cs) ≤ length cs) = all_rejected offer vs [] cs h.0 in
     let most : length (rejects_after offer vs [] cs) ≤ length cs = all.1 in
     let few : length cs ≤ 16 = h.1 in
     (all.0, omega arith)
@@ -209,18 +222,18 @@ module _ (L : Local) (new : List ℕ) (here : LocalInBounds L) where
   }
 
   bounded_update : (asker : Asker) (k : ℤ) (register : Register) (R : Option Subscriber) → AskerInBounds asker → IsInvokeId k → IsRegister register → L.record_of ≡ R → Bounded L new (update_begins L asker k register R new)
-  bounded_update asker k register None a i g r = bounded_unchanged _ (answer_in asker (SentError k unknown_subscriber) a i)
+  bounded_update asker k register None a i g r = bounded_unchanged _ (answer_in asker (SentError k unknown_subscriber) a (i, lit< tt))
   bounded_update asker k register (Some s) a i g r = by s.withdrawn (is_allowed s.roam register.vlr)
     where
       by : (w t : Bool) → Bounded L new
           (cond w (unchanged L (answered asker (SentError k unknown_subscriber ∷ []))) (cond t (update_opened L asker k register s new) (unchanged L (answered asker (SentError k roaming_not_allowed ∷ [])))))
-      by true t = bounded_unchanged _ (answer_in asker (SentError k unknown_subscriber) a i)
+      by true t = bounded_unchanged _ (answer_in asker (SentError k unknown_subscriber) a (i, lit< tt))
       by false true = bounded_opened asker k register s a i g r
-      by false false = bounded_unchanged _ (answer_in asker (SentError k roaming_not_allowed) a i)
+      by false false = bounded_unchanged _ (answer_in asker (SentError k roaming_not_allowed) a (i, lit< tt))
 
   bounded_purge : (asker : Asker) (k : ℤ) (vlr : Option (List ℕ)) (R : Option Subscriber) → AskerInBounds asker → IsInvokeId k → L.record_of ≡ R → Bounded L new (purge L asker k vlr R)
-  bounded_purge asker k None R a i r = bounded_unchanged _ (answer_in asker (SentError k data_missing) a i)
-  bounded_purge asker k (Some vlr) None a i r = bounded_unchanged _ (answer_in asker (SentError k unknown_subscriber) a i)
+  bounded_purge asker k None R a i r = bounded_unchanged _ (answer_in asker (SentError k data_missing) a (i, lit< tt))
+  bounded_purge asker k (Some vlr) None a i r = bounded_unchanged _ (answer_in asker (SentError k unknown_subscriber) a (i, lit< tt))
   bounded_purge asker k (Some vlr) (Some s) a i r = by s.withdrawn
     where
       digits : (b : Bool) → Bounded L new (cond b (record { after = Some (record s { purged = true }); stays = None; opens = None; sent = answered asker (PurgeResult k true ∷ []) }) (unchanged L (answered asker (PurgeResult k false ∷ []))))
@@ -232,25 +245,25 @@ module _ (L : Local) (new : List ℕ) (here : LocalInBounds L) where
       at_register (Some g) = digits (same g.vlr vlr)
 
       by : (b : Bool) → Bounded L new (cond b (unchanged L (answered asker (SentError k unknown_subscriber ∷ []))) (purge_at L asker k s vlr s.register))
-      by true = bounded_unchanged _ (answer_in asker (SentError k unknown_subscriber) a i)
+      by true = bounded_unchanged _ (answer_in asker (SentError k unknown_subscriber) a (i, lit< tt))
       by false = at_register s.register
 
   route_bounded : (k : ℤ) (R : Option Subscriber) → IsInvokeId k → L.record_of ≡ R → SentComponentInBounds (route_component k (sm_route L.imsi R))
-  route_bounded k None i r = i
+  route_bounded k None i r = (i, lit< tt)
   route_bounded k (Some s) i r = by s.withdrawn (has_short_messages s.codes)
     where
       at_register : (g : Option Register) → IfThere IsRegister g → (purged : Bool) → SentComponentInBounds (route_component k (route_by L.imsi purged g))
-      at_register None h purged = i
-      at_register (Some g) h true = i
+      at_register None h purged = (i, lit< tt)
+      at_register (Some g) h true = (i, lit< tt)
       at_register (Some g) h false = (i, (here.known s r).0, h.msc, h.lmsi)
 
       by : (w t : Bool) → SentComponentInBounds (route_component k (cond w (NoRoute unknown_subscriber) (cond t (route_by L.imsi s.purged s.register) (NoRoute teleservice_not_provisioned))))
-      by true t = i
+      by true t = (i, lit< tt)
       by false true = at_register s.register (here.known s r).1.register s.purged
-      by false false = i
+      by false false = (i, lit< tt)
 
   bounded_procedure : (asker : Asker) (k : ℤ) (p : Argument) → AskerInBounds asker → IsInvokeId k → ArgumentInBounds p → Bounded L new (procedure L asker k p new)
-  bounded_procedure asker k BadValue a i h = bounded_unchanged _ (answer_in asker (SentError k unexpected_data_value) a i)
+  bounded_procedure asker k BadValue a i h = bounded_unchanged _ (answer_in asker (SentError k unexpected_data_value) a (i, lit< tt))
   bounded_procedure asker k (Update imsi register) a i h = bounded_update asker k register L.record_of a i h.1 refl
   bounded_procedure asker k (Purge imsi vlr) a i h = bounded_purge asker k vlr L.record_of a i refl
   bounded_procedure asker k (Route msisdn) a i h = bounded_unchanged _ (answer_in asker (route_component k (sm_route L.imsi L.record_of)) a (route_bounded k L.record_of i refl))
@@ -339,7 +352,7 @@ module _ (L : Local) (new : List ℕ) (here : LocalInBounds L) where
     bounded_ends out h = record { after = unmarked_in; stays = no_dialogue; opens = no_dialogue; sent = λ t. h }
 
     bounded_fails : (k : ℤ) (rejects : List Rejection) → IsInvokeId k → RejectsInBounds rejects → Bounded L new (update_fails L i d k rejects)
-    bounded_fails k rejects j h = bounded_ends _ (ended_in d.transaction.remote rejects (SentError k system_failure ∷ []) bounds.remote h ((j, tt), few_one))
+    bounded_fails k rejects j h = bounded_ends _ (ended_in d.transaction.remote rejects (SentError k system_failure ∷ []) bounds.remote h (((j, lit< tt), tt), few_one))
 
     cancel_in : (vlr : List ℕ) (attempt : ℕ) (cause : CancellationType) → AreDigits L.imsi → AreDigits vlr → 0 < attempt → attempt ≤ 3 → DialogueInBounds (cancel L vlr attempt cause)
     cancel_in vlr attempt cause x v some most = record { subscriber = x; peer = v; remote = tt; invocations = (id_small 1 (lit< tt), tt); kind = (v, some, most) }

@@ -3,7 +3,7 @@ use Rattle.std.proofs.Common.{◌≡◌, min, max, ◌<◌, ◌≤◌, ℕ, List
 use Rattle.std.proofs.lemmas.Bool.{cases_eq, cases_lt}
 use Rattle.machine.specs.Received.{Abort, Begin, Component, Continue, Discard, End, Read, Refuse, Verdict}
 use Rattle.machine.specs.Step.{Answer, Full, Step, Taken, moved, outcome_in, seen, ticked}
-use Rattle.machine.specs.Bounds.{AnswerInBounds, AreDigits, ChangeInBounds, ComponentsInBounds, DialogueInBounds, EventInBounds, IfThere, IsName, IsTransactionId, KindInBounds, OutInBounds, RecordInBounds, StateInBounds, VerdictInBounds}
+use Rattle.machine.specs.Bounds.{AnswerInBounds, AreDigits, ChangeInBounds, ComponentsInBounds, DialogueInBounds, EventInBounds, IfThere, IsName, IsOctet, IsTransactionId, KindInBounds, OutInBounds, RecordInBounds, StateInBounds, VerdictInBounds}
 use Rattle.machine.specs.Turns.{Begins, Changes, Closes, Continues, Dismissed, Expires, Expiry, NoneDue, OneDue, Ticks, Turn, TurnsTo, close_at, concern, continue_at, continue_for, for_it, named, turn_of_verdict}
 use Rattle.machine.specs.State.{Cancels, Data, Dialogue, IsIdOf, Kind, State, Subscriber, Updates, local_of, local_of_nobody}
 use Rattle.machine.specs.Sent.{Cause, SentAbort}
@@ -37,11 +37,11 @@ TurnInBounds (Expires i d j was) = IsTransactionId i × DialogueInBounds d
 TurnInBounds (Changes imsi change) = ChangeInBounds change
 
 module _ (S : State) (bounds : StateInBounds S) where
-  unassigned : (from r : List ℕ) (c : ℕ) → AreDigits from → IsTransactionId r → Every OutInBounds (send from (SentAbort r (Cause c)))
-  unassigned from r c f t = ((f, (t, tt)), tt)
+  unassigned : (from r : List ℕ) (c : ℕ) → AreDigits from → IsTransactionId r → IsOctet c → Every OutInBounds (send from (SentAbort r (Cause c)))
+  unassigned from r c f t o = ((f, (t, o)), tt)
 
   continue_in : (from r i : List ℕ) (cs : List Component) → AreDigits from → IsTransactionId r → ComponentsInBounds cs → (o : Option Dialogue) → S.dialogues i ≡ o → TurnInBounds (continue_at from r i cs o)
-  continue_in from r i cs f t h None q = unassigned from r 1 f t
+  continue_in from r i cs f t h None q = unassigned from r 1 f t (lit< tt)
   continue_in from r i cs f t h (Some d) q = at_remote d.transaction.remote refl
     where
       b : IsTransactionId i × DialogueInBounds d
@@ -54,7 +54,7 @@ module _ (S : State) (bounds : StateInBounds S) where
 
       matches : (known : List ℕ) (z : Bool) → TurnInBounds (continue_for from r i cs d (for_it (cond z (row (Some d.transaction) ForIt) (row (Some d.transaction) Unassigned))))
       matches known true = (b.0, record { subscriber = b.1.subscriber; peer = b.1.peer; remote = b.1.remote; invocations = b.1.invocations; kind = b.1.kind }, h)
-      matches known false = unassigned from r 1 f t
+      matches known false = unassigned from r 1 f t (lit< tt)
 
       at_remote : (o : Option (List ℕ)) → d.transaction.remote ≡ o → TurnInBounds (continue_for from r i cs d (for_it (continue_row d.transaction o from r)))
       at_remote None p = (b.0, record { subscriber = b.1.subscriber; peer = f; remote = t; invocations = b.1.invocations; kind = met d.kind b.1.kind }, h)
@@ -66,7 +66,7 @@ module _ (S : State) (bounds : StateInBounds S) where
 
   verdict_in : (from : List ℕ) (v : Verdict) → AreDigits from → VerdictInBounds v → TurnInBounds (turn_of_verdict S.dialogues from v)
   verdict_in from Discard f h = tt
-  verdict_in from (Refuse origin cause) f h = unassigned from origin cause f h
+  verdict_in from (Refuse origin cause) f h = unassigned from origin cause f h.0 h.1
   verdict_in from (Read (Begin origin name cs)) f h = (f, h.0, h.1, h.2)
   verdict_in from (Read (Continue origin i portion cs)) f h = continue_in from origin i cs f h.0 h.1 (S.dialogues i) refl
   verdict_in from (Read (End i portion cs)) f h = close_in i (S.dialogues i) refl
@@ -170,7 +170,7 @@ step_within S e T a b h (Taken turn new turns m) =
 step_within S e T a b h (Full turn new turns t) =
     let w : TurnInBounds turn = turn_in S b e turn h turns in
     let begins_in : TurnInBounds (Begins t.from t.origin t.name t.components) = subst (λ k. TurnInBounds k) t.begins w in
-    (subst (λ U. StateInBounds U) (sym t.state) b, subst (λ out. Every OutInBounds out) (sym t.sent) (unassigned S b t.from t.origin 4 begins_in.0 begins_in.1))
+    (subst (λ U. StateInBounds U) (sym t.state) b, subst (λ out. Every OutInBounds out) (sym t.sent) (unassigned S b t.from t.origin 4 begins_in.0 begins_in.1 (lit< tt)))
 
 pub run_within : (es : List Event) (S T : State) (answers : List Answer) → StateInBounds S → Every EventInBounds es → Run S es T answers → StateInBounds T × Every AnswerInBounds answers
 run_within [] S T [] b h run = (subst (λ U. StateInBounds U) (sym run) b, tt)
