@@ -5,8 +5,11 @@
 #![tactic(auto)]
 
 mod answer;
+mod judging;
 mod reading;
 mod request;
+mod stepping;
+mod tables;
 mod writing;
 
 use anyhow::{Context, Result, bail};
@@ -18,28 +21,58 @@ use std::time::Instant;
 #[derive(Clone, Copy, PartialEq, Eq)]
 enum Layer {
     Read,
+    JudgeRoute,
+    JudgeUpdate,
+    Step,
     Write,
+    Ids,
+    Deadlines,
 }
 
 fn layer_of(name: &str) -> Option<Layer> {
     match name {
         "read" => Some(Layer::Read),
+        "judge-route" => Some(Layer::JudgeRoute),
+        "judge-update" => Some(Layer::JudgeUpdate),
+        "step" => Some(Layer::Step),
         "write" => Some(Layer::Write),
+        "ids" => Some(Layer::Ids),
+        "deadlines" => Some(Layer::Deadlines),
         _ => None,
     }
 }
 
-/// Runs so many rounds, and counts what they did: elements that were read, or octets that were written.
+/// Runs so many rounds, and counts what they did: elements that were read, components that were heard, octets that were
+/// sent or written, ids that were taken, or deadlines that were found.
 fn run(alloc: Global, layer: Layer, rounds: u64) -> Result<u64> {
     match layer {
         Layer::Read => reading::run(alloc, &request::FIRST_ROUTE, rounds),
+        Layer::JudgeRoute => judging::run(alloc, &request::FIRST_ROUTE, rounds),
+        Layer::JudgeUpdate => judging::run(alloc, &request::FIRST_UPDATE, rounds),
+        Layer::Step => stepping::run(alloc, &request::FIRST_ROUTE, rounds),
         Layer::Write => writing::run(alloc, &answer::first_answer(alloc)?, rounds),
+        Layer::Ids => tables::take_ids(alloc, rounds),
+        Layer::Deadlines => tables::move_deadlines(alloc, rounds),
     }
 }
 
 fn count(rt: &HostRuntime) -> Result<()> {
     println!(rt; "read: {} elements", run(rt.alloc(), Layer::Read, 1)?)?;
+    println!(rt;
+        "judge-route: {} components",
+        run(rt.alloc(), Layer::JudgeRoute, 1)?
+    )?;
+    println!(rt;
+        "judge-update: {} components",
+        run(rt.alloc(), Layer::JudgeUpdate, 1)?
+    )?;
+    println!(rt; "step: {} octets", run(rt.alloc(), Layer::Step, 1)?)?;
     println!(rt; "write: {} octets", run(rt.alloc(), Layer::Write, 1)?)?;
+    println!(rt; "ids: {} taken", run(rt.alloc(), Layer::Ids, 1)?)?;
+    println!(rt;
+        "deadlines: {} found",
+        run(rt.alloc(), Layer::Deadlines, 1)?
+    )?;
     Ok(())
 }
 

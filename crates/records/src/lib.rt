@@ -29,6 +29,7 @@ pub use loaded::Loaded;
 pub use record::Record;
 pub use records::Records;
 pub use roam::Roam;
+pub use shard::shard_of;
 pub use version::Version;
 pub use write::{law_saved_is_read, save, write_line};
 

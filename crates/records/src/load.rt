@@ -8,7 +8,7 @@ ghost use Rattle.records.specs.Reading.{contents_of, below_header, Answers};
 use crate::cut::first_line;
 use crate::fault::RecordsFault;
 use crate::line::{read_header, read_record};
-use crate::loaded::Loaded;
+use crate::loaded::{Loaded, Loading};
 use crate::version::Version;
 use hlr_types::IsdnAddress;
 use std::alloc::Global;
@@ -69,7 +69,7 @@ fn load_lines(
     requires { length text.now + 1 < 2 ^ 64 }
     ensures { Answers result (below_header version hlr (lines text.now)) }
 {
-    let mut loaded = Loaded::new(alloc, hlr);
+    let mut loading = Loading::new(alloc, hlr);
     let mut before = 1;
     let mut rest = text;
     while !rest.is_empty() {
@@ -78,15 +78,15 @@ fn load_lines(
         let Some(subscriber) = read_record(alloc, version, line)? else {
             return Err(RecordsFault::BadLine(number));
         };
-        if loaded.has_imsi_of(&subscriber) {
+        if loading.has_imsi_of(&subscriber) {
             return Err(RecordsFault::Twice(number));
         }
-        if loaded.has_msisdn_of(&subscriber) {
+        if loading.has_msisdn_of(&subscriber) {
             return Err(RecordsFault::Twice(number));
         }
-        loaded.add(subscriber)?;
+        loading.add(subscriber)?;
         before = number;
         rest = after;
     }
-    Ok(loaded)
+    Ok(loading.finish(alloc)?)
 }

@@ -2,6 +2,7 @@
 
 ghost use Rattle.std.specs.Prelude.{◌≡◌, ◌<◌, IfOk, OnOk, is_some};
 ghost use Rattle.std.specs.FinMap as map;
+ghost use Rattle.std.specs.Arc.{arc_value};
 
 use crate::directory::Directory;
 use crate::record::Record;
@@ -9,16 +10,69 @@ use crate::records::Records;
 use hlr_types::IsdnAddress;
 use std::alloc::{AllocError, Global};
 use std::marker::Model;
+use std::sync::Arc;
 
-/// What a records file says: the number of the register, the records, and the directory.
+/// What a records file says: the number of the register, the records, and the directory, which all shards share.
 #[derive(Drop)]
 pub struct Loaded {
+    hlr: IsdnAddress,
+    records: Records,
+    directory: Arc<Directory>,
+}
+
+impl Model for Loaded {
+    ghost use Rattle.records.specs.Loaded.{Subscribers, subscribers_code};
+    ghost use Rattle.std.specs.Arc.{arc_value};
+
+    ghost Value = { Subscribers };
+
+    ghost coded = { subscribers_code };
+
+    ghost view = { λ l. record { hlr = l.hlr; records = l.records; directory = arc_value l.directory } };
+}
+
+impl Loaded {
+    ghost use Rattle.records.specs.Maps.{part_of};
+
+    /// The number of the register.
+    pub fn hlr(&self) -> &IsdnAddress
+        ensures { result.now ≡ self.now.hlr }
+    {
+        &self.hlr
+    }
+
+    /// Each subscriber's IMSI by MSISDN.
+    pub fn directory(&self) -> &Directory
+        ensures { result.now ≡ self.now.directory }
+    {
+        &self.directory
+    }
+
+    /// The directory, for a shard to keep. It is not copied.
+    pub fn shared_directory(&self) -> Result<Arc<Directory>, AllocError>
+        ensures { IfOk result (λ shared. arc_value shared ≡ self.now.directory) }
+    {
+        Arc::try_clone(&self.directory)
+    }
+
+    /// The records of a shard.
+    pub fn part(&self, shard: u8) -> Result<Records, AllocError>
+        requires { shard < 16 }
+        ensures { IfOk result (λ part. part ≡ part_of self.now.records shard) }
+    {
+        self.records.part(shard)
+    }
+}
+
+/// What the lines read so far say.
+#[derive(Drop)]
+pub(crate) struct Loading {
     hlr: IsdnAddress,
     records: Records,
     directory: Directory,
 }
 
-impl Model for Loaded {
+impl Model for Loading {
     ghost use Rattle.records.specs.Loaded.{Subscribers, subscribers_code};
 
     ghost Value = { Subscribers };
@@ -28,15 +82,14 @@ impl Model for Loaded {
     ghost view = { λ l. record { hlr = l.hlr; records = l.records; directory = l.directory } };
 }
 
-impl Loaded {
-    ghost use Rattle.records.specs.Maps.{part_of};
+impl Loading {
     ghost use Rattle.records.specs.Loaded.{with_record, nobody};
 
     /// The number of the register, and no record.
-    pub(crate) fn new(alloc: Global, hlr: IsdnAddress) -> Loaded
+    pub(crate) fn new(alloc: Global, hlr: IsdnAddress) -> Loading
         ensures { result ≡ nobody hlr }
     {
-        Loaded {
+        Loading {
             hlr,
             records: Records::new(alloc),
             directory: Directory::new(alloc),
@@ -63,25 +116,14 @@ impl Loaded {
         self.records.add(subscriber)
     }
 
-    /// The number of the register.
-    pub fn hlr(&self) -> &IsdnAddress
-        ensures { result.now ≡ self.now.hlr }
+    /// All of it, with the directory as it can be shared.
+    pub(crate) fn finish(self, alloc: Global) -> Result<Loaded, AllocError>
+        ensures { IfOk result (λ loaded. loaded ≡ self) }
     {
-        &self.hlr
-    }
-
-    /// Each subscriber's IMSI by MSISDN.
-    pub fn directory(&self) -> &Directory
-        ensures { result.now ≡ self.now.directory }
-    {
-        &self.directory
-    }
-
-    /// The records of a shard.
-    pub fn part(&self, shard: u8) -> Result<Records, AllocError>
-        requires { shard < 16 }
-        ensures { IfOk result (λ part. part ≡ part_of self.now.records shard) }
-    {
-        self.records.part(shard)
+        Ok(Loaded {
+            hlr: self.hlr,
+            records: self.records,
+            directory: Arc::new(alloc, self.directory)?,
+        })
     }
 }

@@ -1,6 +1,6 @@
 //! The shard of a subscriber.
 
-ghost use Rattle.std.specs.Prelude.{◌≡◌};
+ghost use Rattle.std.specs.Prelude.{◌≡◌, ◌<◌};
 ghost use Rattle.records.specs.Maps.{shard_of};
 
 use hlr_types::Imsi;
@@ -8,7 +8,8 @@ use hlr_types::Imsi;
 /// The number made of the last two digits, modulo 16.
 #[tactic(auto, unfolding(crate::specs::Maps::shard_of))]
 pub fn shard_of(imsi: &Imsi) -> u8
-    ensures { result ≡ shard_of imsi.now }
+    ensures value { result ≡ shard_of imsi.now }
+    ensures small { result < 16 }
 {
     let digits = imsi.digits().as_slice();
     let count = digits.len();

@@ -7,7 +7,7 @@ use Rattle.records.proofs.LoadLemmas.{begins, line_is_bad, imsi_stands_twice, ms
 use Rattle.records.proofs.load.load_lines.Goals as goal
 
 pub loop-rest-init : goal.loop-rest-init
-loop-rest-init c = (begins _ _ _ _ c.new-loaded.ensures, omega arith)
+loop-rest-init c = (begins _ _ _ _ c.new-loading.ensures, omega arith)
 
 pub returns-in_default : goal.returns-in_default
 returns-in_default c = line_is_bad _ _ _ _ _ _ c.loop-rest.invariant.0 _ _ c.first_line.ensures.lines (sym c.in_ok-subscriber.ensures ∙ c.in_default.is)
@@ -31,4 +31,5 @@ loop-rest-preserved c = (
 pub returns : goal.returns
 returns c =
     let none : c.loop-rest.rest.now ≡ [] = nil_from_length c.loop-rest.rest.now (grind (arith, common_steps)) in
-    lines_end _ _ _ _ _ _ c.loop-rest.invariant.0 (ap lines none ∙ lines_nil)
+    let (contents, reads, same) = lines_end _ _ _ _ _ _ c.loop-rest.invariant.0 (ap lines none ∙ lines_nil) in
+    (contents, reads, c.in_ok-finish.ensures ∙ same)

@@ -12,14 +12,14 @@ loop-imsi-init c = part_begins _ c.self.inside.by_imsi.entries _ _ c.iter-entrie
 
 pub loop-imsi-preserved-in_ok-add : goal.loop-imsi-preserved-in_ok-add
 loop-imsi-preserved-in_ok-add c =
-    let here : shard_of c.in-Some.imsi.now ≡ c.args.shard = sym c.shard_of.ensures ∙ c.if-shard_of-shard.true in
+    let here : shard_of c.in-Some.imsi.now ≡ c.args.shard = sym c.shard_of.ensures.value ∙ c.if-shard_of-shard.true in
     part_takes _ _ _ _ c.loop-imsi.invariant _ _ c.in-Some.found.now c.in-Some.ensures.steps (eq-eqb _ _ here) _
     (c.in_ok-add.ensures.ok ∙ ap (λ (s : Subscriber). map.insert c.loop-imsi.part s.imsi s) c.in_ok-clone.ensures.cases)
 
 pub loop-imsi-preserved : goal.loop-imsi-preserved
 loop-imsi-preserved c =
     part_passes _ _ _ _ c.loop-imsi.invariant _ _ c.in-Some.found.now c.in-Some.ensures.steps
-    (ne_eqb _ _ (λ here. c.if-shard_of-shard.false (c.shard_of.ensures ∙ here)))
+    (ne_eqb _ _ (λ here. c.if-shard_of-shard.false (c.shard_of.ensures.value ∙ here)))
 
 pub returns : goal.returns
 returns c =

@@ -1,0 +1,34 @@
+//! The whole verdict on a frame, in and out of an arena.
+
+use anyhow::{Result, bail};
+use bumpalo::Bump;
+use hlr_types::{Digits, Peer};
+use msgarena::{Message, Round, Verdict};
+use std::alloc::Global;
+
+/// Takes the octets in each round, all in one arena; counts the components of what they read to.
+pub fn run(alloc: Global, octets: &[u8], rounds: u64) -> Result<u64> {
+    let Some(digits) = Digits::from_text(b"447700909999") else {
+        bail!("no digits");
+    };
+    let peer = Peer::new(digits);
+    let mut bump = Bump::new(alloc);
+    let mut components = 0u64;
+    for _ in 0..rounds {
+        let indication = Round::take(alloc, &mut bump, peer, octets)?;
+        components = components.saturating_add(count(indication.verdict()));
+    }
+    Ok(components)
+}
+
+/// How many components a verdict has.
+fn count(verdict: &Verdict) -> u64 {
+    match verdict {
+        Verdict::Read(
+            Message::Begin { components, .. }
+            | Message::Continue { components, .. }
+            | Message::End { components, .. },
+        ) => components.len() as u64,
+        Verdict::Read(Message::Abort { .. }) | Verdict::Discard | Verdict::Refuse(..) => 0,
+    }
+}

@@ -1,0 +1,9 @@
+pub mod Places
+pub mod Concluding
+pub mod Hearing
+pub mod Putting
+pub mod Clearing
+pub mod Replacing
+pub mod Invoking
+pub mod Expiry
+pub mod Parameters

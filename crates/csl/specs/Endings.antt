@@ -1,0 +1,32 @@
+-- How a component concludes an invocation in Operation Sent (Q.774).
+use Rattle.std.specs.Prelude.{ℕ, ◌+◌, ℤ, List, [], ◌∷◌, Bool, true, false, cond, Option, Some, None}
+use Rattle.std.specs.Ordering.{int_eq}
+use Rattle.machine.specs.Numbers.{reject_timer}
+use Rattle.machine.specs.Received.{ComponentOf, ResultLast, ReturnError, Reject}
+use Rattle.machine.specs.Invocations.{ends_it}
+use Rattle.machine.specs.State.{Invocation, WaitForReject}
+use Rattle.csl.specs.declared.ending.How.{How}
+use Rattle.csl.specs.declared.ending.How.TheVariants.{Succeeds, Fails, IsRejected}
+use Rattle.csl.specs.declared.ending.Ending.{Ending}
+
+-- Whether an invocation has this id.
+abbrev pub has_id : ℤ → Invocation → Bool
+has_id id v = int_eq v.id id
+
+-- The ending that a component is to the invocation with its id.
+abbrev pub ending : {P : Type 0} → ComponentOf P → Option Ending
+ending (ResultLast id) = Some (record { id = id; how = Succeeds })
+ending (ReturnError id error) = Some (record { id = id; how = Fails })
+ending (Reject (Some id) side problem) = cond (ends_it side) (Some (record { id = id; how = IsRejected })) None
+ending _ = None
+
+-- An invocation that ends so: answered, it waits for a Reject; rejected, it is Idle.
+abbrev pub ended : ℕ → How → Invocation → List Invocation
+ended now IsRejected v = []
+ended now Fails v = record { id = v.id; was = WaitForReject; deadline = now + reject_timer } ∷ []
+ended now Succeeds v = record { id = v.id; was = WaitForReject; deadline = now + reject_timer } ∷ []
+
+abbrev pub is_failing : How → Bool
+is_failing Succeeds = false
+is_failing Fails = true
+is_failing IsRejected = true

@@ -1,0 +1,5 @@
+pub mod Seen
+pub mod Endings
+pub mod Effects
+pub mod Tables
+pub mod Expiring

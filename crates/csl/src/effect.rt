@@ -1,0 +1,94 @@
+//! What received components do to the own invocations of one dialogue.
+
+ghost use Rattle.std.specs.Prelude.{◌≡◌, ◌≤◌, ◌^◌, ◌++◌, map, [], IfOk, OnOk, option_to_list};
+ghost use Rattle.machine.specs.Effect.{AreRising, conclusion_of, effect, invocations_after};
+ghost use Rattle.csl.specs.Seen.{heard};
+ghost use Rattle.csl.specs.Effects.{IsEffect, concluded, offered};
+
+use crate::invocation::Invocation;
+use crate::list::{any_sent, conclude};
+use crate::offer::{Conclusion, Effect, Offer};
+use crate::problems::{rejection_of, started_by};
+use q773_comp::{Component, Rejection};
+use std::alloc::{AllocError, Global};
+
+/// How invocations stand: whether one has failed, and whether one waits for its answer.
+#[tactic(auto, unfolding(machine::specs::Effect::conclusion_of))]
+fn conclusion_of(has_failed: bool, still_sent: bool) -> Conclusion
+    ensures { concluded result ≡ conclusion_of has_failed still_sent }
+{
+    if has_failed {
+        Conclusion::HasFailed
+    } else if still_sent {
+        Conclusion::GoesOn
+    } else {
+        Conclusion::HasSucceeded
+    }
+}
+
+/// Puts a Reject behind the others, if there is one.
+fn push_rejection(
+    rejects: &mut Vec<Rejection>,
+    rejection: Option<Rejection>,
+) -> Result<(), AllocError>
+    ensures { OnOk result (rejects.new.items ≡ rejects.old.items ++ option_to_list rejection) }
+{
+    if let Some(rejection) = rejection {
+        rejects.push(rejection)?;
+    }
+    Ok(())
+}
+
+/// Moves the invocations through the components, one by one, and tells their effect. Where a growth is refused, some may
+/// have moved.
+pub(crate) fn receive_each<P>(
+    alloc: Global,
+    offer: &Offer,
+    list: &mut Vec<Invocation>,
+    components: &[Component<P>],
+    now: u64,
+) -> Result<Effect, AllocError>
+    requires rising { AreRising list.old.items }
+    requires early { now ≤ 2 ^ 62 }
+    ensures effect { IfOk result (λ answer. IsEffect answer (effect now (offered offer.now) list.old.items (map heard components.now))) }
+    ensures after { OnOk result (list.new.items ≡ (effect now (offered offer.now) list.old.items (map heard components.now)).invocations) }
+{
+    let started = started_by(offer, list, components);
+    let mut rejects = Vec::new(alloc);
+    let mut has_failed = false;
+    for (place, component) in components.iter().enumerate() {
+        let rejection = rejection_of(offer, list, started, place == 0, component);
+        push_rejection(&mut rejects, rejection)?;
+        has_failed |= conclude(list, component, now);
+    }
+    let still_sent = any_sent(list);
+    Ok(Effect {
+        rejects,
+        started,
+        conclusion: conclusion_of(has_failed, still_sent),
+    })
+}
+
+/// Moves the invocations through the components, one by one. Takes no memory.
+pub(crate) fn conclude_each<P>(list: &mut Vec<Invocation>, components: &[Component<P>], now: u64)
+    requires rising { AreRising list.old.items }
+    requires early { now ≤ 2 ^ 62 }
+    ensures { list.new.items ≡ invocations_after now (map heard components.now) list.old.items }
+{
+    for component in components {
+        conclude(list, component, now);
+    }
+}
+
+/// What the components of a Begin do, whose dialogue has no invocations yet.
+pub fn effect_of_begin<P>(
+    alloc: Global,
+    offer: &Offer,
+    components: &[Component<P>],
+    now: u64,
+) -> Result<Effect, AllocError>
+    requires { now ≤ 2 ^ 62 }
+    ensures { IfOk result (λ answer. IsEffect answer (effect now (offered offer.now) [] (map heard components.now))) }
+{
+    receive_each(alloc, offer, &mut Vec::new(alloc), components, now)
+}

@@ -1,0 +1,105 @@
+//! One own invocation.
+
+ghost use Rattle.std.specs.Prelude.{◌≡◌, ◌≤◌, ◌^◌, ◌+◌, FitsSigned};
+ghost use Rattle.std.specs.Int.{w8};
+ghost use Rattle.machine.specs.Numbers.{reject_timer};
+ghost use Rattle.machine.specs.State.{is_sent, WaitForReject};
+ghost use Rattle.machine.specs.Outcome.{invoked};
+ghost use Rattle.csl.specs.Seen.{told_of, was};
+ghost use Rattle.csl.specs.Tables.{timer_at};
+
+use crate::was::Was;
+use deadlines::Timer;
+use hlr_types::Tid;
+use std::marker::Model;
+
+/// How long an answer is waited for, in ticks of the shard's clock (profile).
+const INVOCATION_TIMER: u64 = 20;
+
+/// How long a Reject of the answer is waited for (profile).
+const REJECT_TIMER: u64 = 5;
+
+/// An own invocation in Operation Sent or Wait for Reject, with the time at which its timer runs out.
+#[derive(Clone, Copy)]
+pub(crate) struct Invocation {
+    id: i8,
+    was: Was,
+    deadline: u64,
+}
+
+impl Model for Invocation {
+    ghost use Rattle.std.specs.Prelude.{◌≡◌};
+    ghost use Rattle.machine.specs.State as state;
+    ghost use Rattle.csl.specs.Seen.{invocation_of, was_back, was_returns};
+
+    ghost Value = { state.Invocation };
+
+    ghost view = { λ v. invocation_of v.id v.was v.deadline };
+
+    ghost inverse = { λ v. record { id = v.id; was = was_back v.was; deadline = v.deadline } };
+
+    ghost inverse_ok = { λ a h i. record { id = a.id; was = was_returns a.was i; deadline = a.deadline } };
+}
+
+impl Invocation {
+    /// An invocation that is invoked now.
+    pub(crate) fn sent(id: i8, now: u64) -> Self
+        requires { now ≤ 2 ^ 62 }
+        ensures { result ≡ invoked now id }
+    {
+        Invocation {
+            id,
+            was: Was::Sent,
+            deadline: now + INVOCATION_TIMER,
+        }
+    }
+
+    pub(crate) fn id(&self) -> i8
+        ensures value { result ≡ self.now.id }
+        // A caller that looks for the id needs its range.
+        ensures fits { FitsSigned w8 result }
+    {
+        self.id
+    }
+
+    pub(crate) fn was(&self) -> Was
+        ensures { was result ≡ self.now.was }
+    {
+        self.was
+    }
+
+    pub(crate) fn is_sent(&self) -> bool
+        ensures { result ≡ is_sent self.now.was }
+    {
+        self.was == Was::Sent
+    }
+
+    /// Answered now, it waits for a Reject of its answer.
+    pub(crate) fn wait(&mut self, now: u64)
+        requires { now ≤ 2 ^ 62 }
+        ensures { self.new ≡ record { id = self.old.id; was = WaitForReject; deadline = now + reject_timer } }
+    {
+        self.was = Was::Waiting;
+        self.deadline = now + REJECT_TIMER;
+    }
+
+    /// Its timer, in the dialogue of this id.
+    pub(crate) fn timer(&self, id: Tid) -> Timer
+        ensures { result ≡ timer_at id self.now }
+    {
+        Timer {
+            deadline: self.deadline,
+            invocation: deadlines::Invocation {
+                id,
+                invoke: self.id,
+            },
+        }
+    }
+
+    /// Its invoke id, its state and its deadline.
+    pub(crate) fn told(&self) -> (i8, Was, u64)
+        ensures { result ≡ told_of self.now }
+    {
+        (self.id, self.was, self.deadline)
+    }
+}

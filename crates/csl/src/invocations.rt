@@ -1,0 +1,232 @@
+//! The invocations of a shard.
+
+ghost use Rattle.std.specs.Prelude.{◌≡◌, ◌<◌, ◌≤◌, ◌^◌, ◌-◌, ◌↔◌, [], map, Some, Err, IsSome, IfOk, IfSome, IfNone, OnOk, OnErr, FitsSigned};
+ghost use Rattle.std.specs.Int.{w8};
+ghost use Rattle.std.specs.FinMap as finite;
+ghost use Rattle.machine.specs.Effect.{AreRising, effect, invocations_after};
+ghost use Rattle.machine.specs.Expiries.{without};
+ghost use Rattle.machine.specs.Outcome.{invoked};
+ghost use Rattle.machine.specs.Turns.{invocation_of};
+ghost use Rattle.csl.specs.Seen.{heard, told_of, was};
+ghost use Rattle.csl.specs.Effects.{IsEffect, offered};
+ghost use Rattle.csl.specs.Expiring.{Expires, IsNext, NoneDue};
+ghost use Rattle.csl.specs.Tables.{first_invoked, invocations_at, put_list, with_one};
+
+use crate::effect::{conclude_each, receive_each};
+use crate::fault::CslFault;
+use crate::invocation::Invocation;
+use crate::list::{first_invoked, place_of, with_one};
+use crate::lists::Lists;
+use crate::offer::{Due, Effect, Offer};
+use crate::timers::{clear_gone, clear_timers, timers_of};
+use crate::was::Was;
+use deadlines::Deadlines;
+use hlr_types::Tid;
+use q773_comp::Component;
+use std::alloc::{AllocError, Global};
+use std::marker::Model;
+
+/// The own invocations of a shard's dialogues.
+#[derive(Drop)]
+pub struct Invocations {
+    alloc: Global,
+    lists: Lists,
+    deadlines: Deadlines,
+}
+
+impl Model for Invocations {
+    ghost use Rattle.csl.specs.Tables.{HaveDeadlines, InvocationLists, lists_code};
+
+    ghost Value = { InvocationLists };
+
+    ghost coded = { lists_code };
+
+    ghost view = { λ a. a.lists };
+
+    ghost invariant = { λ a. HaveDeadlines a.lists a.deadlines };
+}
+
+impl Invocations {
+    /// No invocation.
+    pub fn new(alloc: Global) -> Self
+        ensures { result ≡ finite.empty }
+    {
+        Invocations {
+            alloc,
+            lists: Lists::new(alloc),
+            deadlines: Deadlines::new(alloc),
+        }
+    }
+
+    /// Invokes an operation: its invoke id is then in Operation Sent, with its timer. All operations here are of class 1,
+    /// so it makes no difference which it is (profile). Where it is refused, nothing has changed.
+    pub fn invoke(&mut self, id: Tid, invoke: i8, _operation: u8, now: u64) -> Result<(), CslFault>
+        requires { now ≤ 2 ^ 62 }
+        ensures ok { OnOk result (self.new ≡ put_list self.old id (with_one (invoked now invoke) (invocations_at self.old id))) }
+        ensures in_use { result ≡ Err CslFault.IdInUse ↔ IsSome (invocation_of invoke (invocations_at self.old id)) }
+        ensures err { OnErr result (self.new ≡ self.old) }
+    {
+        let list = self.lists.at(id);
+        if place_of(list, invoke).is_some() {
+            return Err(CslFault::IdInUse);
+        }
+        let own = Invocation::sent(invoke, now);
+        let longer = with_one(self.alloc, list, own)?;
+        self.replace(id, longer)?;
+        Ok(())
+    }
+
+    /// Invokes 1 up to `count` in a dialogue that opens, all of them or none. They are in the place of the invocations
+    /// that the dialogue had, if it had any.
+    pub fn invoke_each(&mut self, id: Tid, count: u8, now: u64) -> Result<(), AllocError>
+        requires some { 0 < count }
+        requires most { count < 128 }
+        requires early { now ≤ 2 ^ 62 }
+        ensures ok { OnOk result (self.new ≡ put_list self.old id (first_invoked now (count - 1))) }
+        ensures err { OnErr result (self.new ≡ self.old) }
+    {
+        let list = first_invoked(self.alloc, count, now)?;
+        self.replace(id, list)
+    }
+
+    /// What received components do to the invocations of a dialogue. Changes nothing.
+    pub fn effect<P>(
+        &self,
+        id: Tid,
+        offer: &Offer,
+        components: &[Component<P>],
+        now: u64,
+    ) -> Result<Effect, AllocError>
+        requires { now ≤ 2 ^ 62 }
+        ensures { IfOk result (λ answer. IsEffect answer (effect now (offered offer.now) (invocations_at self.now id) (map heard components.now))) }
+    {
+        let mut list = self.lists.at(id).to_vec(self.alloc)?;
+        receive_each(self.alloc, offer, &mut list, components, now)
+    }
+
+    /// Moves the invocations of a dialogue through received components, with their timers, and tells the effect. Where a
+    /// growth is refused, nothing has changed.
+    pub fn receive<P>(
+        &mut self,
+        id: Tid,
+        offer: &Offer,
+        components: &[Component<P>],
+        now: u64,
+    ) -> Result<Effect, AllocError>
+        requires { now ≤ 2 ^ 62 }
+        ensures effect { IfOk result (λ answer. IsEffect answer (effect now (offered offer.now) (invocations_at self.old id) (map heard components.now))) }
+        ensures moved { OnOk result (self.new ≡ put_list self.old id (effect now (offered offer.now) (invocations_at self.old id) (map heard components.now)).invocations) }
+        ensures err { OnErr result (self.new ≡ self.old) }
+    {
+        let mut list = self.lists.at(id).to_vec(self.alloc)?;
+        let effect = receive_each(self.alloc, offer, &mut list, components, now)?;
+        self.replace(id, list)?;
+        Ok(effect)
+    }
+
+    /// Moves the invocations of a dialogue as `receive` does, once `effect` has told the effect.
+    pub fn conclude<P>(
+        &mut self,
+        id: Tid,
+        components: &[Component<P>],
+        now: u64,
+    ) -> Result<(), AllocError>
+        requires { now ≤ 2 ^ 62 }
+        ensures ok { OnOk result (self.new ≡ put_list self.old id (invocations_after now (map heard components.now) (invocations_at self.old id))) }
+        ensures err { OnErr result (self.new ≡ self.old) }
+    {
+        let mut list = self.lists.at(id).to_vec(self.alloc)?;
+        conclude_each(&mut list, components, now);
+        self.replace(id, list)
+    }
+
+    /// Of the timers that are not after `now` the least: by time, then by the octets of the local id, then by the invoke
+    /// id as a signed number.
+    pub fn least_due(&self, now: u64) -> Option<Due>
+        ensures due { IfSome result (λ due. IsNext self.now now due.id due.invoke (was due.was)) }
+        ensures none { IfNone result (NoneDue self.now now) }
+        // A caller that passes the invoke id on needs its range.
+        ensures fits { IfSome result (λ due. FitsSigned w8 due.invoke) }
+    {
+        let Some(least) = self.deadlines.least_due(now) else {
+            return None;
+        };
+        let list = self.lists.at(least.1);
+        let place = place_of(list, least.2).unwrap();
+        Some(Due {
+            id: least.1,
+            invoke: least.2,
+            was: list[place].was(),
+        })
+    }
+
+    /// Takes the least timer that is due, and makes its invocation Idle, that one alone. Takes no memory.
+    pub fn expire(&mut self, now: u64) -> Option<(Tid, i8, Was)>
+        ensures due { IfSome result (λ due. Expires self.old self.new now due.0 due.1 (was due.2)) }
+        ensures none { IfNone result (NoneDue self.old now) }
+        ensures unchanged { IfNone result (self.new ≡ self.old) }
+    {
+        let Some(due) = self.least_due(now) else {
+            return None;
+        };
+        self.forget_one(due.id, due.invoke);
+        Some((due.id, due.invoke, due.was))
+    }
+
+    /// Makes all invocations of a dialogue Idle. Takes no memory.
+    pub fn forget(&mut self, id: Tid)
+        ensures { self.new ≡ put_list self.old id [] }
+    {
+        let Some(list) = self.lists.remove(id) else {
+            return;
+        };
+        clear_gone(&mut self.deadlines, id, &list, &[]);
+    }
+
+    /// Makes an invocation Idle, if there is one. Takes no memory.
+    pub fn forget_one(&mut self, id: Tid, invoke: i8)
+        ensures idle { self.new ≡ put_list self.old id (without invoke (invocations_at self.old id)) }
+        ensures rising { AreRising (invocations_at self.old id) }
+    {
+        self.lists.remove_one(id, invoke);
+        self.deadlines.clear(id, invoke);
+    }
+
+    /// The invocations of a dialogue by invoke id: each with its state and its deadline.
+    pub fn list(&self, id: Tid) -> Result<Vec<(i8, Was, u64)>, AllocError>
+        ensures { IfOk result (λ told. told.items ≡ map told_of (invocations_at self.now id)) }
+    {
+        self.lists
+            .at(id)
+            .iter()
+            .map(|own| own.told())
+            .collect(self.alloc)
+    }
+
+    /// An equal value.
+    pub fn try_copy(&self) -> Result<Self, AllocError>
+        ensures { IfOk result (λ invocations. invocations ≡ self.now) }
+    {
+        Ok(Invocations {
+            alloc: self.alloc,
+            lists: self.lists.try_copy()?,
+            deadlines: self.deadlines.try_copy()?,
+        })
+    }
+
+    /// Makes these the invocations of a dialogue, with their timers. Where a growth is refused, nothing has changed.
+    fn replace(&mut self, id: Tid, list: Vec<Invocation>) -> Result<(), AllocError>
+        requires { AreRising list.items }
+        ensures ok { OnOk result (self.new ≡ put_list self.old id list.items) }
+        ensures err { OnErr result (self.new ≡ self.old) }
+    {
+        let timers = timers_of(self.alloc, id, &list)?;
+        self.deadlines.set_each(&timers)?;
+        clear_gone(&mut self.deadlines, id, self.lists.at(id), &list);
+        let Err(refused) = self.lists.put(id, list) else {
+            return Ok(());
+        };
+        clear_timers(&mut self.deadlines, &timers);
+        Err(refused)
+    }
+}

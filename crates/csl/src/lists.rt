@@ -1,0 +1,104 @@
+//! The invocations of each dialogue.
+
+ghost use Rattle.std.specs.Prelude.{◌≡◌, OnOk, OnErr, IfSome, IfNone, IfOk, IsSome, IsOk, []};
+ghost use Rattle.std.specs.FinMap as finite;
+ghost use Rattle.machine.specs.Effect.{AreRising};
+ghost use Rattle.machine.specs.Expiries.{without};
+ghost use Rattle.csl.specs.Tables.{invocations_at, put_list};
+
+use crate::invocation::Invocation;
+use crate::list::place_of;
+use hlr_types::Tid;
+use std::alloc::{AllocError, Global};
+use std::collections::BTreeMap;
+use std::marker::Model;
+
+/// The invocations of each dialogue that has some, by rising invoke id.
+#[derive(Drop)]
+pub(crate) struct Lists {
+    by_dialogue: BTreeMap<Tid, Vec<Invocation>>,
+}
+
+impl Model for Lists {
+    ghost use Rattle.csl.specs.Tables.{InvocationLists, lists_code, lists_of, AreStored};
+
+    ghost Value = { InvocationLists };
+
+    ghost coded = { lists_code };
+
+    ghost view = { λ a. lists_of a.by_dialogue };
+
+    ghost invariant = { λ a. AreStored (lists_of a.by_dialogue) };
+}
+
+impl Lists {
+    /// No dialogue has an invocation.
+    pub(crate) fn new(alloc: Global) -> Self
+        ensures { result ≡ finite.empty }
+    {
+        Lists {
+            by_dialogue: BTreeMap::new(alloc),
+        }
+    }
+
+    /// The invocations of a dialogue.
+    pub(crate) fn at(&self, id: Tid) -> &[Invocation]
+        ensures value { result.now ≡ invocations_at self.now id }
+        ensures rising { AreRising result.now }
+    {
+        match self.by_dialogue.get(&id) {
+            Some(list) => list.as_slice(),
+            None => &[],
+        }
+    }
+
+    /// Makes these the invocations of a dialogue. Where it has some already, this takes no memory.
+    pub(crate) fn put(&mut self, id: Tid, list: Vec<Invocation>) -> Result<(), AllocError>
+        requires { AreRising list.items }
+        ensures ok { OnOk result (self.new ≡ put_list self.old id list.items) }
+        ensures has { IsSome (finite.get self.old id) → IsOk result }
+        ensures err { OnErr result (self.new ≡ self.old) }
+    {
+        if list.is_empty() {
+            self.by_dialogue.remove(&id);
+            return Ok(());
+        }
+        self.by_dialogue.insert(id, list)?;
+        Ok(())
+    }
+
+    /// Takes out the invocations of a dialogue, if it has some.
+    pub(crate) fn remove(&mut self, id: Tid) -> Option<Vec<Invocation>>
+        ensures removed { self.new ≡ put_list self.old id [] }
+        ensures were { IfSome result (λ list. list.items ≡ invocations_at self.old id) }
+        ensures none { IfNone result (invocations_at self.old id ≡ []) }
+    {
+        self.by_dialogue.remove(&id)
+    }
+
+    /// Takes out one invocation, if it is there.
+    pub(crate) fn remove_one(&mut self, id: Tid, invoke: i8)
+        ensures removed { self.new ≡ put_list self.old id (without invoke (invocations_at self.old id)) }
+        ensures rising { AreRising (invocations_at self.old id) }
+    {
+        let Some(list) = self.by_dialogue.get_mut(&id) else {
+            return;
+        };
+        let Some(place) = place_of(list, invoke) else {
+            return;
+        };
+        list.remove(place);
+        if list.is_empty() {
+            self.by_dialogue.remove(&id);
+        }
+    }
+
+    /// An equal value.
+    pub(crate) fn try_copy(&self) -> Result<Self, AllocError>
+        ensures { IfOk result (λ lists. lists ≡ self.now) }
+    {
+        Ok(Lists {
+            by_dialogue: self.by_dialogue.clone()?,
+        })
+    }
+}

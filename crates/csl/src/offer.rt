@@ -1,0 +1,51 @@
+//! What is offered to received components, and what they do.
+
+use crate::was::Was;
+use hlr_types::Tid;
+use q773_comp::Rejection;
+
+/// What the receiver of components offers to the peer.
+#[derive(Clone, Copy, Debug, PartialEq, Eq)]
+pub struct Offer {
+    /// The invoke id that the peer waits for.
+    pub open_id: Option<i8>,
+    /// The code of the operation that the peer may invoke.
+    pub operation: Option<u8>,
+    /// Whether the first component may start it.
+    pub may_start: bool,
+    /// Whether the parameter of the first component is there and of its type.
+    pub typed: bool,
+}
+
+/// How the own invocations of a dialogue stand after received components.
+#[derive(Clone, Copy, Debug, PartialEq, Eq)]
+pub enum Conclusion {
+    /// One was concluded by an error or a Reject.
+    HasFailed,
+    /// None is left in Operation Sent.
+    HasSucceeded,
+    /// One waits for its answer.
+    GoesOn,
+}
+
+/// What received components do to the own invocations of a dialogue.
+#[derive(Debug, Drop)]
+pub struct Effect {
+    /// The Rejects to be sent, in the order of what they reject.
+    pub rejects: Vec<Rejection>,
+    /// The invoke id of what started.
+    pub started: Option<i8>,
+    /// How the invocations then stand.
+    pub conclusion: Conclusion,
+}
+
+/// An own invocation whose timer has run out.
+#[derive(Clone, Copy, Debug, PartialEq, Eq)]
+pub struct Due {
+    /// The local transaction id of its dialogue.
+    pub id: Tid,
+    /// Its invoke id.
+    pub invoke: i8,
+    /// The state that it was in.
+    pub was: Was,
+}

@@ -1,0 +1,163 @@
+//! The Reject of one received component.
+
+ghost use Rattle.std.specs.Prelude.{◌≡◌, map, option_map, option_to_list};
+ghost use Rattle.machine.specs.Effect.{in_sent, is_id, is_operation, problem_of, problem_of_start, reject_answer, starts};
+ghost use Rattle.q773_comp.specs.Seen.{code, rejection, side};
+ghost use Rattle.csl.specs.Seen.{heard};
+ghost use Rattle.csl.specs.Effects.{is_open_now, linked_now, offered, reject_now};
+
+use crate::invocation::Invocation;
+use crate::list::in_sent;
+use crate::offer::Offer;
+use q773_comp::{Code, Component, Rejection, Side};
+
+// Problems of an Invoke (Q.773).
+const DUPLICATE_INVOKE_ID: u8 = 0;
+
+const UNRECOGNIZED_OPERATION: u8 = 1;
+
+const MISTYPED_PARAMETER: u8 = 2;
+
+const RESOURCE_LIMITATION: u8 = 3;
+
+const UNRECOGNIZED_LINKED_ID: u8 = 5;
+
+const LINKED_RESPONSE_UNEXPECTED: u8 = 6;
+
+/// The problem of a result or of an error that answers no invocation (Q.773).
+const UNRECOGNIZED_INVOKE_ID: u8 = 0;
+
+/// Whether this is the id.
+fn is_id(waited: Option<i8>, id: i8) -> bool
+    ensures { result ≡ is_id waited id }
+{
+    match waited {
+        Some(waited) => waited == id,
+        None => false,
+    }
+}
+
+/// Whether the code is that of the operation that may be invoked.
+fn is_operation(offer: &Offer, operation: Code) -> bool
+    ensures { result ≡ is_operation offer.now.operation (code operation) }
+{
+    match (offer.operation, operation) {
+        (Some(offered), Code::Number(number)) => offered == number,
+        _ => false,
+    }
+}
+
+/// The problem of an Invoke of the operation that the peer may invoke.
+fn problem_of_start(offer: &Offer, is_first: bool) -> Option<u8>
+    ensures { result ≡ problem_of_start (offered offer.now) is_first }
+{
+    if !is_first || !offer.may_start {
+        Some(RESOURCE_LIMITATION)
+    } else if offer.typed {
+        None
+    } else {
+        Some(MISTYPED_PARAMETER)
+    }
+}
+
+/// The problem of an Invoke, if any, by the checks in their order (profile).
+fn problem_of(
+    offer: &Offer,
+    is_open: bool,
+    linked: Option<bool>,
+    operation: Code,
+    is_first: bool,
+) -> Option<u8>
+    ensures { result ≡ problem_of (offered offer.now) is_open linked (code operation) is_first }
+{
+    if is_open {
+        return Some(DUPLICATE_INVOKE_ID);
+    }
+    match linked {
+        Some(true) => Some(LINKED_RESPONSE_UNEXPECTED),
+        Some(false) => Some(UNRECOGNIZED_LINKED_ID),
+        None if is_operation(offer, operation) => problem_of_start(offer, is_first),
+        None => Some(UNRECOGNIZED_OPERATION),
+    }
+}
+
+/// Whether the linked id, if there is one, is that of an invocation in Operation Sent.
+fn linked_to(list: &[Invocation], linked: Option<i8>) -> Option<bool>
+    ensures { result ≡ linked_now list.now linked }
+{
+    match linked {
+        Some(id) => Some(in_sent(list, id)),
+        None => None,
+    }
+}
+
+/// The Reject of a result or an error, where it answers nothing.
+fn reject_answer(list: &[Invocation], id: i8, of: Side) -> Option<Rejection>
+    ensures { option_to_list (option_map rejection result) ≡ reject_answer id (side of) (in_sent id list.now) }
+{
+    if in_sent(list, id) {
+        return None;
+    }
+    Some(Rejection {
+        id: Some(id),
+        side: of,
+        problem: UNRECOGNIZED_INVOKE_ID,
+    })
+}
+
+/// The Reject of a component, if any, with the invocations as the components before it leave them. What started is of
+/// no concern to the first. A Reject is never answered.
+pub(crate) fn rejection_of<P>(
+    offer: &Offer,
+    list: &[Invocation],
+    started: Option<i8>,
+    is_first: bool,
+    component: &Component<P>,
+) -> Option<Rejection>
+    ensures { option_to_list (option_map rejection result) ≡ reject_now (offered offer.now) list.now started is_first (heard component.now) }
+{
+    match component {
+        Component::Invoke {
+            id,
+            linked,
+            operation,
+            ..
+        } => {
+            let is_open = is_id(offer.open_id, *id) || (!is_first && is_id(started, *id));
+            let linked = linked_to(list, *linked);
+            let problem = problem_of(offer, is_open, linked, *operation, is_first)?;
+            Some(Rejection {
+                id: Some(*id),
+                side: Side::OfInvoke,
+                problem,
+            })
+        }
+        Component::ResultLast { id } | Component::ResultNotLast { id } => {
+            reject_answer(list, *id, Side::OfResult)
+        }
+        Component::ReturnError { id, .. } => reject_answer(list, *id, Side::OfError),
+        Component::Bad(id, problem) => Some(Rejection {
+            id: *id,
+            side: Side::General,
+            problem: *problem,
+        }),
+        Component::Reject { .. } | Component::Ignored => None,
+    }
+}
+
+/// The invoke id of what starts: the first component, where it is an Invoke without a problem.
+pub(crate) fn started_by<P>(
+    offer: &Offer,
+    list: &[Invocation],
+    components: &[Component<P>],
+) -> Option<i8>
+    ensures { result ≡ starts (offered offer.now) list.now (map heard components.now) }
+{
+    let [Component::Invoke { id, .. }, ..] = components else {
+        return None;
+    };
+    match rejection_of(offer, list, None, true, &components[0]) {
+        Some(_) => None,
+        None => Some(*id),
+    }
+}

@@ -1,0 +1,74 @@
+-- What is checked line by line.
+use Rattle.std.proofs.Common.{◌≡◌, ℕ, ◌+◌, Bool, true, false, List, [], ◌∷◌, ◌++◌, sym, ap, subst, ◌∙◌, inl, inr}
+use Rattle.std.specs.List.{AllByRecursion, list_any, join_with_byte}
+use Rattle.std.proofs.lemmas.Bool.{or_parts, cond-true, cond-false}
+use Rattle.std.specs.Prelude.{◌==◌, codes}
+use Rattle.records.specs.Reading.{is_text}
+use Rattle.hlr_program.specs.Batches.{HasIds, IsFirst, batch_of, behind_batch}
+use Rattle.hlr_program.specs.Script.{Say, Frame, IsLine}
+use Rattle.hlr_program.proofs.OctetLaws.{known_without}
+use Rattle.records.specs.File.{parts}
+use Rattle.records.proofs.FieldLaws.{joined_again}
+
+-- what the lines that are left complete is what the whole gives
+pub record Completes (Good Bad : List ℕ → Type 0) (whole : List (List ℕ)) (start : ℕ) (rest : List (List ℕ)) (before : ℕ) : Type 0 where
+  pub all : AllByRecursion Good rest → AllByRecursion Good whole
+  pub first : (n : ℕ) → IsFirst Good Bad rest before n → IsFirst Good Bad whole start n
+
+pub begins : (Good Bad : List ℕ → Type 0) (whole : List (List ℕ)) (start : ℕ) → Completes Good Bad whole start whole start
+begins Good Bad whole start = record { all = λ h. h; first = λ n h. h }
+
+pub goes_on : (Good Bad : List ℕ → Type 0) (whole : List (List ℕ)) (start : ℕ) (rest : List (List ℕ)) (before : ℕ) (line : List ℕ) (more : List (List ℕ)) (next : ℕ)
+    → Completes Good Bad whole start rest before → rest ≡ line ∷ more → next ≡ before + 1 → Good line → Completes Good Bad whole start more next
+goes_on Good Bad whole start rest before line more next h is count good = record {
+  all = λ a. h.all (subst (AllByRecursion Good) (sym is) (good, a));
+  first = λ n f. h.first n (subst (λ (ls : List (List ℕ)). IsFirst Good Bad ls before n) (sym is) (inr (good, subst (λ (b : ℕ). IsFirst Good Bad more b n) count f)));
+}
+
+pub stops : (Good Bad : List ℕ → Type 0) (whole : List (List ℕ)) (start : ℕ) (rest : List (List ℕ)) (before : ℕ) (line : List ℕ) (more : List (List ℕ)) (number : ℕ)
+    → Completes Good Bad whole start rest before → rest ≡ line ∷ more → number ≡ before + 1 → Bad line → IsFirst Good Bad whole start number
+stops Good Bad whole start rest before line more number h is count bad =
+    h.first number (subst (λ (ls : List (List ℕ)). IsFirst Good Bad ls before number) (sym is) (inl (count, bad)))
+
+pub ends : (Good Bad : List ℕ → Type 0) (whole : List (List ℕ)) (start : ℕ) (rest : List (List ℕ)) (before : ℕ) → Completes Good Bad whole start rest before → rest ≡ [] → AllByRecursion Good whole
+ends Good Bad whole start rest before h is = h.all (subst (AllByRecursion Good) (sym is) tt)
+
+-- ---- batches
+
+pub batch_goes_on : (rest : List (List ℕ)) (line : List ℕ) (more : List (List ℕ)) → rest ≡ line ∷ more → is_text line (codes "W") ≡ false → batch_of rest ≡ line ∷ batch_of more
+batch_goes_on rest line more is no_end = ap batch_of is ∙ cond-false (is_text line (codes "W")) [] (line ∷ batch_of more) no_end
+
+pub batch_ends : (rest : List (List ℕ)) (line : List ℕ) (more : List (List ℕ)) → rest ≡ line ∷ more → is_text line (codes "W") ≡ true → batch_of rest ≡ []
+batch_ends rest line more is end = ap batch_of is ∙ cond-true (is_text line (codes "W")) [] (line ∷ batch_of more) end
+
+pub behind_goes_on : (rest : List (List ℕ)) (line : List ℕ) (more : List (List ℕ)) → rest ≡ line ∷ more → is_text line (codes "W") ≡ false → behind_batch rest ≡ behind_batch more
+behind_goes_on rest line more is no_end = ap behind_batch is ∙ cond-false (is_text line (codes "W")) more (behind_batch more) no_end
+
+pub behind_ends : (rest : List (List ℕ)) (line : List ℕ) (more : List (List ℕ)) → rest ≡ line ∷ more → is_text line (codes "W") ≡ true → behind_batch rest ≡ more
+behind_ends rest line more is end = ap behind_batch is ∙ cond-true (is_text line (codes "W")) more (behind_batch more) end
+
+-- ---- lines without a letter
+
+abbrev pub has_letter : List ℕ → Bool
+has_letter written = list_any (λ character. character == 36) written
+
+none_behind : (front rest : List ℕ) → has_letter (front ++ rest) ≡ false → has_letter rest ≡ false
+none_behind [] rest e = e
+none_behind (x ∷ front) rest e = none_behind front rest (or_parts (x == 36) (has_letter (front ++ rest)) e).1
+
+frame_fields : (fields : List (List ℕ)) (from field : List ℕ) → Say fields (Frame from field) → (kind number : List ℕ) × (fields ≡ kind ∷ number ∷ field ∷ [])
+frame_fields [] from field h = absurd h
+frame_fields (kind ∷ []) from field h = absurd h
+frame_fields (kind ∷ number ∷ []) from field h = absurd h
+frame_fields (kind ∷ number ∷ octets ∷ []) from field h = (kind, number, ap (λ (last : List ℕ). kind ∷ number ∷ last ∷ []) h.2)
+frame_fields (kind ∷ number ∷ octets ∷ more ∷ further) from field h = absurd h
+
+none_in_field : (line from field : List ℕ) → has_letter line ≡ false → IsLine line (Frame from field) → has_letter field ≡ false
+none_in_field line from field none is =
+    let f = frame_fields (parts 32 line) from field is in
+    let whole : line ≡ f.0 ++ 32 ∷ (f.1 ++ 32 ∷ field) = joined_again 32 line ∙ ap (join_with_byte 32) f.2 in
+    let rest = none_behind f.0 (32 ∷ (f.1 ++ 32 ∷ field)) (ap has_letter (sym whole) ∙ none) in
+    none_behind f.1 (32 ∷ field) rest
+
+pub no_letter : (known : ℕ) (line : List ℕ) → list_any (λ character. character == 36) line ≡ false → HasIds known line
+no_letter known line none = λ from field groups is octets. sym (known_without known field groups (none_in_field line from field none is) octets)

@@ -1,0 +1,16 @@
+use Rattle.std.proofs.Common.{◌≡◌, ◌<◌, length, get_or, rules}
+use Rattle.hlr_program.specs.Printed.{sent_line}
+use Rattle.hlr_program.specs.Letters.{noted, originating_id}
+use Rattle.hlr_program.proofs.PrintLemmas.{printed_more, noted_more}
+use Rattle.hlr_program.proofs.printed.print_sent.Goals as goal
+
+pub loop-frame-preserved : goal.loop-frame-preserved
+loop-frame-preserved g c =
+    let lt : c.loop-frame.frame-index < length c.args.sent.now = search rules in
+    let is : c.frame-item.result ≡ get_or c.args.sent.now c.loop-frame.frame-index c.frame-item.result = search rules in
+    let line : c.deref-in-loop-frame.result.now ≡ sent_line c.frame-item.result.to c.frame-item.result.octets.items = search rules in
+    let id : c.note.new.self ≡ noted c.loop-frame.letters (originating_id c.frame-item.result.octets.items) = search rules in (
+      printed_more c.args.sent.now c.loop-frame.frame-index c.frame-item.result (g.W.Write.contents c.args.out.now) (g.W.Write.contents c.loop-frame.out) (g.W.Write.contents c.write_all.new.self) c.deref-in-loop-frame.result.now lt
+          is line c.loop-frame.invariant.0 (search rules),
+      noted_more c.args.letters.now c.loop-frame.letters c.note.new.self c.args.sent.now c.loop-frame.frame-index c.frame-item.result lt is c.loop-frame.invariant.1 id,
+    )

@@ -1,0 +1,42 @@
+-- The batches of a script, and what is checked before anything is handled (profile).
+use Rattle.std.specs.Prelude.{◌≡◌, ◌⊎◌, ℕ, ◌+◌, true, false, List, [], ◌∷◌, if◌then◌else◌, codes as text}
+use Rattle.records.specs.Reading.{is_text}
+use Rattle.hlr_program.specs.declared.group.Group.{Group}
+use Rattle.hlr_program.specs.Octets.{IsOctets, are_known}
+use Rattle.hlr_program.specs.Script.{Line, Frame, IsLine, IsGoodLine}
+
+-- The lines of the first batch, without the `W` that ends it.
+abbrev pub batch_of : List (List ℕ) → List (List ℕ)
+batch_of [] = []
+batch_of (line ∷ more) = if is_text line (text "W") then [] else line ∷ batch_of more
+
+-- The lines behind the first batch.
+abbrev pub behind_batch : List (List ℕ) → List (List ℕ)
+behind_batch [] = []
+behind_batch (line ∷ more) = if is_text line (text "W") then more else behind_batch more
+
+-- The line with this number, counted from 1, is the first that is bad, where so many lines stand before these.
+abbrev pub IsFirst : (Good Bad : List ℕ → Type 0) → List (List ℕ) → ℕ → ℕ → Type 0
+IsFirst Good Bad [] before number = ⊥
+IsFirst Good Bad (line ∷ more) before number =
+    ((number ≡ before + 1) × Bad line) ⊎ (Good line × IsFirst Good Bad more (before + 1) number)
+
+-- ---- the form of the lines
+
+abbrev pub IsGood : List ℕ → Type 0
+IsGood line = (said : Line) × IsGoodLine line said
+
+abbrev pub IsBad : List ℕ → Type 0
+IsBad line = (said : Line) → IsGoodLine line said → ⊥
+
+-- ---- letters
+
+-- Each letter of the line is one of the first so many.
+abbrev pub HasIds : ℕ → List ℕ → Type 0
+HasIds known line =
+    (from field : List ℕ) (groups : List Group) → IsLine line (Frame from field) → IsOctets field groups → are_known known groups ≡ true
+
+-- The line is a frame's, and has a letter behind the first so many.
+abbrev pub LacksId : ℕ → List ℕ → Type 0
+LacksId known line =
+    (from field : List ℕ) × IsLine line (Frame from field) × ((groups : List Group) → IsOctets field groups → are_known known groups ≡ false)

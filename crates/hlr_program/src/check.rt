@@ -1,0 +1,73 @@
+//! What is checked of a script before it runs, and of a batch before it begins.
+
+ghost use Rattle.std.specs.Prelude.{◌≡◌, ℕ, Err, Ok, OnOk, true, false, codes};
+ghost use Rattle.std.specs.List.{AllByRecursion};
+ghost use Rattle.records.specs.File.{lines};
+ghost use Rattle.records.specs.Reading.{is_text};
+ghost use Rattle.hlr_program.specs.Batches.{IsGood, IsBad, HasIds, LacksId, IsFirst, batch_of};
+
+use crate::fault::Fault;
+use crate::item::{Item, LineFault};
+use crate::line::{check_line, read_line};
+use crate::octets::{has_letter, have_ids};
+use crate::place::Place;
+use std::alloc::{AllocError, Global};
+
+/// Finds the first line of a script that is of no form.
+pub fn check_script(alloc: Global, text: &[u8]) -> Result<(), Fault>
+    ensures good { OnOk result (AllByRecursion IsGood (lines text.now)) }
+    ensures bad { (n : ℕ) → result ≡ Err (Fault.BadLine n) → IsFirst IsGood IsBad (lines text.now) 0 n }
+{
+    let mut place = Place::new(text);
+    'lines: while let Some((line, behind)) = place.next() {
+        match check_line(alloc, line.text) {
+            Ok(()) => place = behind,
+            Err(fault) => return Err(Fault::at_line(fault, line.number)),
+        }
+    }
+    Ok(())
+}
+
+/// Finds the first line of a batch that has a letter without an id, where the ids of the first so many letters are known.
+pub fn check_letters(alloc: Global, from: Place, known: usize) -> Result<(), Fault>
+    ensures known { OnOk result (AllByRecursion (HasIds known) (batch_of (lines from.entry.rest.now))) }
+    ensures unknown { (n : ℕ) → result ≡ Err (Fault.BadLine n)
+        → IsFirst (HasIds known) (LacksId known) (batch_of (lines from.entry.rest.now)) from.entry.before n }
+{
+    let mut place = from;
+    'lines: while let Some((line, behind)) = place.next() {
+        if is_end(line.text) {
+            return Ok(());
+        }
+        match lacks_id(alloc, line.text, known) {
+            Ok(false) => place = behind,
+            Ok(true) => return Err(Fault::BadLine(line.number)),
+            Err(_) => return Err(Fault::Memory),
+        }
+    }
+    Ok(())
+}
+
+/// Whether the line ends a batch.
+pub fn is_end(line: &[u8]) -> bool
+    ensures { result ≡ is_text line.now (codes "W") }
+{
+    line == b"W".as_slice()
+}
+
+/// Whether a line has a letter without an id.
+#[tactic(auto, using(crate::proofs::CheckLaws::no_letter))]
+fn lacks_id(alloc: Global, line: &[u8], known: usize) -> Result<bool, AllocError>
+    ensures lacks { result ≡ Ok true → LacksId known line.now }
+    ensures has { result ≡ Ok false → HasIds known line.now }
+{
+    if !has_letter(line) {
+        return Ok(false);
+    }
+    match read_line(alloc, line) {
+        Ok(Item::Frame { octets, .. }) => Ok(!have_ids(octets, known)),
+        Ok(_) => Ok(false),
+        Err(LineFault::Bad) => Ok(false),
+        Err(LineFault::Memory) => Err(AllocError),
+    }
+}

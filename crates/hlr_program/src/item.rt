@@ -1,0 +1,29 @@
+//! What a line of a script says.
+
+use hlr_types::{Imsi, Peer};
+use hlrcore::Codes;
+
+/// One line of a script.
+#[derive(Drop)]
+pub enum Item<'a> {
+    /// A frame: where it comes from, and its octets as they stand in the script.
+    Frame { from: Peer, octets: &'a [u8] },
+    /// A clock value for each shard.
+    Clock(u64),
+    /// An expiry of each shard.
+    Expire,
+    /// The end of a batch.
+    Batch,
+    /// Other teleservice codes for a subscriber.
+    Codes { imsi: Imsi, codes: Codes },
+    /// The end of a subscription.
+    Withdraw { imsi: Imsi },
+}
+
+/// Why a line was not read.
+#[derive(Clone, Copy, PartialEq, Eq, Debug, Drop)]
+pub enum LineFault {
+    /// The line is of no form.
+    Bad,
+    Memory,
+}

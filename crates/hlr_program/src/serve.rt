@@ -1,0 +1,94 @@
+//! A run of the program.
+
+use crate::batch::handle_batch;
+use crate::check::{check_letters, check_script};
+use crate::engine::Engine;
+use crate::fault::Fault;
+use crate::input::{InputFault, read_all};
+use crate::letters::Letters;
+use crate::options::Options;
+use crate::place::Place;
+use crate::printed::print_sent;
+use records::{Loaded, read_records};
+use std::alloc::Global;
+use std::io::{Read, Write};
+
+/// Reads the records and the script, runs the script and prints what is sent, batch by batch. A fault is one line on `err`.
+/// Answers the status that the program ends with.
+///
+/// Limitation: listings, saving and worker threads are not there yet. Where they are asked for, the answer is that of no
+/// command line.
+pub fn serve_script<A: Read, B: Read, W: Write, E: Write>(
+    alloc: Global,
+    options: &Options,
+    records: &mut A,
+    script: &mut B,
+    out: &mut W,
+    err: &mut E,
+) -> u8 {
+    match serve(alloc, options, records, script, out) {
+        Ok(()) => 0,
+        Err(fault) => {
+            let _ = writeln!(err, "{fault}");
+            fault.status()
+        }
+    }
+}
+
+fn serve<A: Read, B: Read, W: Write>(
+    alloc: Global,
+    options: &Options,
+    records: &mut A,
+    script: &mut B,
+    out: &mut W,
+) -> Result<(), Fault> {
+    if options.list || options.save || options.workers > 0 {
+        return Err(Fault::CommandLine);
+    }
+    let loaded = load(alloc, records)?;
+    let script = read_script(alloc, script)?;
+    let mut engine = Engine::new(alloc, &loaded)?;
+    let ran = run(alloc, &mut engine, &script, out);
+    let flushed = out.flush();
+    ran?;
+    flushed.map_err(|_| Fault::Output)
+}
+
+/// What the records file says.
+fn load<R: Read>(alloc: Global, reader: &mut R) -> Result<Loaded, Fault> {
+    match read_all(alloc, reader) {
+        Ok(text) => Ok(read_records(alloc, &text)?),
+        Err(InputFault::Unreadable) => Err(Fault::UnreadableRecords),
+        Err(InputFault::Memory) => Err(Fault::Memory),
+    }
+}
+
+/// The script, each of its lines being of a form.
+fn read_script<R: Read>(alloc: Global, reader: &mut R) -> Result<Vec<u8>, Fault> {
+    match read_all(alloc, reader) {
+        Ok(text) => {
+            check_script(alloc, &text)?;
+            Ok(text)
+        }
+        Err(InputFault::Unreadable) => Err(Fault::UnreadableScript),
+        Err(InputFault::Memory) => Err(Fault::Memory),
+    }
+}
+
+/// Runs a script, batch by batch.
+fn run<W: Write>(
+    alloc: Global,
+    engine: &mut Engine,
+    script: &[u8],
+    out: &mut W,
+) -> Result<(), Fault> {
+    let mut letters = Letters::new(alloc);
+    let mut place = Place::new(script);
+    'batches: while !place.rest.is_empty() {
+        check_letters(alloc, place, letters.ids().len())?;
+        let mut sent = Vec::new(alloc);
+        place = handle_batch(alloc, engine, place, letters.ids(), &mut sent)?;
+        print_sent(alloc, &sent, &mut letters, out)?;
+    }
+    Ok(())
+}

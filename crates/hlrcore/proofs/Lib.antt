@@ -1,0 +1,7 @@
+pub mod ShardLemmas
+pub mod PrefixLemmas
+pub mod BeginLemmas
+pub mod OpeningLemmas
+pub mod StepLemmas
+pub mod PlanLemmas
+pub mod CodesLemmas

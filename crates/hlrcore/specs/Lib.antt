@@ -1,0 +1,5 @@
+pub mod Events
+pub mod Taken
+pub mod Shards
+pub mod Serving
+pub mod Begun

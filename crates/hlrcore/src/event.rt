@@ -1,0 +1,150 @@
+//! What comes to the register from outside.
+
+ghost use Rattle.std.specs.Prelude.{◌≡◌, IfOk};
+ghost use Rattle.frames.specs.Octets as frames;
+ghost use Rattle.frames.specs.Octets.{IsEvent};
+ghost use Rattle.hlrcore.specs.Events.{raw_event, raw_of, event_of, change};
+ghost use Rattle.hlrcore.specs.Taken.{IfRead};
+
+use crate::change::Change;
+use crate::shard_number::ShardNumber;
+use bumpalo::Bump;
+use hlr_types::{Imsi, Peer};
+use msgarena::{Indication, Round, RoundFault};
+use std::alloc::{AllocError, Global};
+use thiserror::Error;
+
+/// An event as it comes: a frame with the address that it comes from, a clock value of a shard, the expiry of a shard's
+/// least timer that is due, or an operator's change.
+#[derive(Debug, Drop)]
+pub enum RawEvent {
+    Frame { from: Peer, octets: Vec<u8> },
+    Clock { shard: ShardNumber, now: u64 },
+    Expire { shard: ShardNumber },
+    Change { imsi: Imsi, change: Change },
+}
+
+/// The same with a frame read.
+#[derive(Debug, Drop)]
+pub enum Event {
+    Frame(Indication),
+    Clock { shard: ShardNumber, now: u64 },
+    Expire { shard: ShardNumber },
+    Change { imsi: Imsi, change: Change },
+}
+
+/// Why an event was not read. Nothing is said of the arena afterwards: the caller makes a new one.
+#[derive(Debug, Drop, Error)]
+pub enum EventFault {
+    /// A growth was refused.
+    #[error("out of memory")]
+    Memory,
+    /// The arena did not give its memory back. The frame was read, and this is the event.
+    #[error("the arena did not give its memory back")]
+    ResetRefused(Event),
+}
+
+impl From<AllocError> for EventFault {
+    ghost use Rattle.std.specs.Prelude.{◌≡◌};
+    ghost use Rattle.hlrcore.specs.declared.event.EventFault.TheVariants.{Memory};
+
+    ghost from_gives = { λ _ fault. fault ≡ Memory };
+
+    fn from(_refused: AllocError) -> EventFault {
+        EventFault::Memory
+    }
+}
+
+impl Change {
+    /// An equal change.
+    pub fn try_copy(&self, alloc: Global) -> Result<Change, AllocError>
+        ensures { IfOk result (λ copy. change copy ≡ change self.now) }
+    {
+        match self {
+            Change::Codes(codes) => Ok(Change::Codes(codes.try_copy(alloc)?)),
+            Change::Withdraw => Ok(Change::Withdraw),
+        }
+    }
+}
+
+impl RawEvent {
+    /// An equal event.
+    pub fn try_copy(&self, alloc: Global) -> Result<RawEvent, AllocError>
+        ensures { IfOk result (λ copy. raw_event copy ≡ raw_event self.now) }
+    {
+        match self {
+            RawEvent::Frame { from, octets } => Ok(RawEvent::Frame {
+                from: *from,
+                octets: octets.to_vec(alloc)?,
+            }),
+            RawEvent::Clock { shard, now } => Ok(RawEvent::Clock {
+                shard: *shard,
+                now: *now,
+            }),
+            RawEvent::Expire { shard } => Ok(RawEvent::Expire { shard: *shard }),
+            RawEvent::Change { imsi, change } => Ok(RawEvent::Change {
+                imsi: *imsi,
+                change: change.try_copy(alloc)?,
+            }),
+        }
+    }
+}
+
+impl Event {
+    /// The event, its frame read in the arena, which is reset.
+    pub fn of(alloc: Global, bump: &mut Bump, raw: &RawEvent) -> Result<Event, EventFault>
+        // It is that event, and as the machine has it.
+        ensures same { IfRead result (λ event. raw_of event ≡ raw_event raw.now) }
+        ensures read { IfRead result (λ event. IsEvent (raw_event raw.now) (event_of event)) }
+    {
+        match raw {
+            RawEvent::Frame { from, octets } => read_frame(alloc, bump, *from, octets),
+            RawEvent::Clock { shard, now } => Ok(Event::Clock {
+                shard: *shard,
+                now: *now,
+            }),
+            RawEvent::Expire { shard } => Ok(Event::Expire { shard: *shard }),
+            RawEvent::Change { imsi, change } => Ok(Event::Change {
+                imsi: *imsi,
+                change: change.try_copy(alloc)?,
+            }),
+        }
+    }
+
+    /// An equal event.
+    pub fn try_copy(&self, alloc: Global) -> Result<Event, AllocError>
+        ensures same { IfOk result (λ copy. raw_of copy ≡ raw_of self.now) }
+        ensures read { IfOk result (λ copy. event_of copy ≡ event_of self.now) }
+    {
+        match self {
+            Event::Frame(indication) => Ok(Event::Frame(indication.try_copy(alloc)?)),
+            Event::Clock { shard, now } => Ok(Event::Clock {
+                shard: *shard,
+                now: *now,
+            }),
+            Event::Expire { shard } => Ok(Event::Expire { shard: *shard }),
+            Event::Change { imsi, change } => Ok(Event::Change {
+                imsi: *imsi,
+                change: change.try_copy(alloc)?,
+            }),
+        }
+    }
+}
+
+fn read_frame(
+    alloc: Global,
+    bump: &mut Bump,
+    from: Peer,
+    octets: &[u8],
+) -> Result<Event, EventFault>
+    ensures same { IfRead result (λ event. raw_of event ≡ frames.RawFrame from octets.now) }
+    ensures read { IfRead result (λ event. IsEvent (frames.RawFrame from octets.now) (event_of event)) }
+{
+    match Round::take(alloc, bump, from, octets) {
+        Ok(indication) => Ok(Event::Frame(indication)),
+        Err(RoundFault::Memory) => Err(EventFault::Memory),
+        Err(RoundFault::ResetRefused(indication)) => {
+            Err(EventFault::ResetRefused(Event::Frame(indication)))
+        }
+    }
+}

@@ -1,0 +1,108 @@
+//! The subscriber that an event is about, and the shard that it is for.
+
+ghost use Rattle.std.specs.Prelude.{◌≡◌, ◌<◌, map, option_map};
+ghost use Rattle.machine.specs.Begins.{first_argument};
+ghost use Rattle.machine.specs.Routing.{asked, shard_named, shard_asked, route_message, route_verdict, route};
+ghost use Rattle.msgarena.specs.Seen.{argument, parameter, message, seen};
+ghost use Rattle.q773_comp.specs.Seen.{component};
+ghost use Rattle.hlrcore.specs.Events.{event_of};
+ghost use Rattle.hlrcore.specs.Shards.{directory_of};
+
+use crate::event::Event;
+use hlr_types::{Imsi, RemoteId};
+use msgarena::{Argument, Message, Parameter, Verdict};
+use q773_comp::Component;
+use records::{Directory, shard_of};
+
+/// How many shards there are.
+const SHARDS: u8 = 16;
+
+/// The argument of the first component, where it is an Invoke with a parameter of its type.
+pub(crate) fn first_argument(components: &[Component<Parameter>]) -> Option<Argument>
+    ensures { option_map argument result ≡ first_argument (map (component parameter) components.now) }
+{
+    match components {
+        [
+            Component::Invoke {
+                parameter: Some(Parameter::Typed(argument)),
+                ..
+            },
+            ..
+        ] => Some(*argument),
+        _ => None,
+    }
+}
+
+/// The subscriber that a Begin asks about. An SM route is asked for by MSISDN.
+pub(crate) fn asked(directory: &Directory, components: &[Component<Parameter>]) -> Option<Imsi>
+    ensures { result ≡ asked (directory_of directory.now) (map (component parameter) components.now) }
+{
+    match first_argument(components)? {
+        Argument::BadValue => None,
+        Argument::Update(update) => Some(update.imsi),
+        Argument::Purge(purge) => Some(purge.imsi),
+        Argument::Route(route) => directory.find(&route.msisdn),
+    }
+}
+
+/// The shard of a destination id, which may be none of a local id's form.
+#[tactic(auto, unfolding(machine::specs::Keys::shard_of_id))]
+fn shard_named(id: &RemoteId) -> u8
+    ensures value { result ≡ shard_named id.now }
+    ensures small { result < 16 }
+{
+    let octets = id.as_slice();
+    if octets.len() == 4 && octets[0] < SHARDS {
+        octets[0]
+    } else {
+        0
+    }
+}
+
+/// The shard of a subscriber; without one it is shard 0.
+#[tactic(auto, using(crate::proofs::ShardLemmas::same_shard))]
+fn shard_asked(imsi: Option<Imsi>) -> u8
+    ensures value { result ≡ shard_asked imsi }
+    ensures small { result < 16 }
+{
+    match imsi {
+        Some(imsi) => shard_of(&imsi),
+        None => 0,
+    }
+}
+
+fn route_message(directory: &Directory, said: &Message) -> u8
+    ensures value { result ≡ route_message (directory_of directory.now) (message said.now) }
+    ensures small { result < 16 }
+{
+    match said {
+        Message::Begin { components, .. } => shard_asked(asked(directory, components)),
+        Message::Continue { destination, .. }
+        | Message::End { destination, .. }
+        | Message::Abort { destination } => shard_named(destination),
+    }
+}
+
+fn route_verdict(directory: &Directory, verdict: &Verdict) -> u8
+    ensures value { result ≡ route_verdict (directory_of directory.now) (seen verdict.now) }
+    ensures small { result < 16 }
+{
+    match verdict {
+        Verdict::Read(message) => route_message(directory, message),
+        Verdict::Discard | Verdict::Refuse(..) => 0,
+    }
+}
+
+/// The shard that an event is for. A Begin goes by the subscriber that it asks about, what follows by the destination id;
+/// everything else is for shard 0.
+#[tactic(auto, using(crate::proofs::ShardLemmas::same_shard))]
+pub fn route(directory: &Directory, event: &Event) -> u8
+    ensures value { result ≡ route (directory_of directory.now) (event_of event.now) }
+    ensures small { result < 16 }
+{
+    match event {
+        Event::Frame(indication) => route_verdict(directory, indication.verdict()),
+        Event::Clock { shard, .. } | Event::Expire { shard } => shard.number(),
+        Event::Change { imsi, .. } => shard_of(imsi),
+    }
+}

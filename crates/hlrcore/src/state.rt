@@ -1,0 +1,78 @@
+//! The state of a shard.
+
+ghost use Rattle.std.specs.Prelude.{◌≡◌, ◌<◌, IfOk};
+ghost use Rattle.std.specs.Arc.{arc_value};
+ghost use Rattle.machine.specs.Opening.{opening};
+ghost use Rattle.machine.specs.Parts.{part};
+ghost use Rattle.hlrcore.specs.Shards.{state_of, records_of, directory_of};
+
+use hlr_types::IsdnAddress;
+use records::{Directory, Loaded, Records};
+use std::alloc::{AllocError, Global};
+use std::marker::Model;
+use std::sync::Arc;
+
+/// The state of one shard: its records and its clock, with the directory, which all shards share, and the number of the
+/// register.
+#[derive(Drop)]
+pub struct State {
+    pub(crate) alloc: Global,
+    pub(crate) shard: u8,
+    pub(crate) clock: u64,
+    pub(crate) records: Records,
+    pub(crate) directory: Arc<Directory>,
+    hlr: IsdnAddress,
+}
+
+impl Model for State {
+    ghost use Rattle.std.specs.Arc.{arc_value};
+    ghost use Rattle.hlrcore.specs.Shards.{ShardState, shard_state_code, shard_of_fields, IsShardState};
+
+    ghost Value = { ShardState };
+
+    ghost coded = { shard_state_code };
+
+    ghost view = { λ s. shard_of_fields s.shard s.clock s.records (arc_value s.directory) s.hlr };
+
+    ghost invariant = { λ s. IsShardState (shard_of_fields s.shard s.clock s.records (arc_value s.directory) s.hlr) };
+}
+
+impl State {
+    /// A shard's part of what a records file says: its records, no dialogue, and its clock at 0.
+    #[tactic(auto, using(crate::proofs::OpeningLemmas::opens_part))]
+    pub fn new(alloc: Global, shard: u8, loaded: &Loaded) -> Result<State, AllocError>
+        requires { shard < 16 }
+        ensures { IfOk result (λ state. state_of state
+            ≡ part (opening (records_of loaded.now.records) (directory_of loaded.now.directory) loaded.now.hlr) shard) }
+    {
+        Ok(State {
+            alloc,
+            shard,
+            clock: 0,
+            records: loaded.part(shard)?,
+            directory: loaded.shared_directory()?,
+            hlr: *loaded.hlr(),
+        })
+    }
+
+    /// The records of the shard.
+    pub fn records(&self) -> &Records
+        ensures { result.now ≡ self.now.records }
+    {
+        &self.records
+    }
+
+    /// An equal state.
+    pub fn try_copy(&self) -> Result<State, AllocError>
+        ensures { IfOk result (λ copy. copy ≡ self.now) }
+    {
+        Ok(State {
+            alloc: self.alloc,
+            shard: self.shard,
+            clock: self.clock,
+            records: self.records.try_copy()?,
+            directory: Arc::try_clone(&self.directory)?,
+            hlr: self.hlr,
+        })
+    }
+}

@@ -1,0 +1,14 @@
+//! Why a dialogue is aborted.
+
+use msgarena::ContextName;
+
+/// What an Abort says.
+#[derive(Clone, Copy, Debug, PartialEq, Eq)]
+pub enum Why {
+    /// Nothing.
+    NoCause,
+    /// A P-Abort cause (Q.773).
+    Cause(u8),
+    /// The application context is refused: an AARE with this name.
+    Refusing(ContextName),
+}

@@ -1,0 +1,9 @@
+-- A frame that was heard.
+use Rattle.std.specs.Prelude.{ℕ, List}
+use Rattle.machine.specs.Received.{Verdict}
+
+-- The octets of a frame, the address that they come from, and what becomes of them.
+pub record Hearing : Type 0 where
+  pub from : List ℕ
+  pub octets : List ℕ
+  pub verdict : Verdict

@@ -1,0 +1,52 @@
+//! The components of a message, owned.
+
+ghost use Rattle.std.specs.Prelude.{◌≡◌, ◌<◌, ◌↔◌, length, map, IfOk, Err};
+ghost use Rattle.bertree.specs.Nodes.{tree, elements};
+ghost use Rattle.frames.specs.Heard.{heard_of, all_heard};
+ghost use Rattle.q773_comp.specs.Seen.{component};
+ghost use Rattle.msgarena.specs.Seen.{parameter};
+
+use crate::parameter::{Parameter, parameter_of};
+use bertree::Node;
+use frames::numbers::MAX_COMPONENTS;
+use q773_comp::{CompFault, Component, read_component};
+use std::alloc::Global;
+
+/// The component that a node is heard as: its parameter, if it has one, is read by its operation.
+fn heard(node: &Node) -> Component<Parameter>
+    ensures { component parameter result ≡ heard_of (tree node.now) }
+{
+    match read_component(node) {
+        Component::Invoke {
+            id,
+            linked,
+            operation,
+            parameter,
+        } => Component::Invoke {
+            id,
+            linked,
+            operation,
+            parameter: parameter.map(|node| parameter_of(operation, node)),
+        },
+        Component::ResultLast { id } => Component::ResultLast { id },
+        Component::ResultNotLast { id } => Component::ResultNotLast { id },
+        Component::ReturnError { id, error } => Component::ReturnError { id, error },
+        Component::Reject { id, side, problem } => Component::Reject { id, side, problem },
+        Component::Bad(id, problem) => Component::Bad(id, problem),
+        Component::Ignored => Component::Ignored,
+    }
+}
+
+/// The components that nodes are heard as, in order. `TooMany` takes no memory.
+pub(crate) fn all_heard(
+    alloc: Global,
+    nodes: &[Node],
+) -> Result<Vec<Component<Parameter>>, CompFault>
+    ensures heard { IfOk result (λ heard. map (component parameter) heard.items ≡ all_heard (elements nodes.now)) }
+    ensures too_many { (result ≡ Err CompFault.TooMany) ↔ (MAX_COMPONENTS < length nodes.now) }
+{
+    if nodes.len() > MAX_COMPONENTS {
+        return Err(CompFault::TooMany);
+    }
+    Ok(nodes.iter().map(heard).collect(alloc)?)
+}

@@ -1,0 +1,115 @@
+//! What a frame reads to, owned.
+
+ghost use Rattle.std.specs.Prelude.{◌≡◌, IfOk};
+ghost use Rattle.msgarena.specs.Seen.{message, seen};
+
+use crate::parameter::Parameter;
+use hlr_types::{RemoteId, ShortList};
+use q773_comp::Component;
+use q773_dlg::Diagnostic;
+use std::alloc::{AllocError, Global};
+
+/// An application context's name: 1 to 32 octets, as they were received.
+pub type ContextName = ShortList<32>;
+
+/// An AARE: the application context's name, the result, and why.
+#[derive(Clone, Copy, Debug, PartialEq, Eq)]
+pub struct Response {
+    pub context: ContextName,
+    pub result: u8,
+    pub diagnostic: Diagnostic,
+}
+
+/// A message (ITU-T Q.773, 3.1) with at most 16 components, in order. Transaction ids are as they were received.
+#[derive(Debug, PartialEq, Eq, Drop)]
+pub enum Message {
+    /// The context is the one that the AARQ of the dialogue portion asks for; none where there is no dialogue portion.
+    Begin {
+        origin: RemoteId,
+        context: Option<ContextName>,
+        components: Vec<Component<Parameter>>,
+    },
+    /// The response is the AARE of the dialogue portion; none where there is no dialogue portion.
+    Continue {
+        origin: RemoteId,
+        destination: RemoteId,
+        response: Option<Response>,
+        components: Vec<Component<Parameter>>,
+    },
+    /// The response is as in a Continue.
+    End {
+        destination: RemoteId,
+        response: Option<Response>,
+        components: Vec<Component<Parameter>>,
+    },
+    /// Limitation: what it says besides the destination is not read.
+    Abort {
+        destination: RemoteId,
+    },
+}
+
+/// What becomes of a frame (profile).
+#[derive(Debug, PartialEq, Eq, Drop)]
+pub enum Verdict {
+    /// It is discarded.
+    Discard,
+    /// It is answered with an Abort to this transaction id, with this P-Abort cause.
+    Refuse(RemoteId, u8),
+    /// It is this message.
+    Read(Message),
+}
+
+impl Message {
+    /// A copy.
+    fn try_copy(&self, alloc: Global) -> Result<Message, AllocError>
+        ensures { IfOk result (λ copy. message copy ≡ message self.now) }
+    {
+        match self {
+            Message::Begin {
+                origin,
+                context,
+                components,
+            } => Ok(Message::Begin {
+                origin: *origin,
+                context: *context,
+                components: components.to_vec(alloc)?,
+            }),
+            Message::Continue {
+                origin,
+                destination,
+                response,
+                components,
+            } => Ok(Message::Continue {
+                origin: *origin,
+                destination: *destination,
+                response: *response,
+                components: components.to_vec(alloc)?,
+            }),
+            Message::End {
+                destination,
+                response,
+                components,
+            } => Ok(Message::End {
+                destination: *destination,
+                response: *response,
+                components: components.to_vec(alloc)?,
+            }),
+            Message::Abort { destination } => Ok(Message::Abort {
+                destination: *destination,
+            }),
+        }
+    }
+}
+
+impl Verdict {
+    /// A copy.
+    pub(crate) fn try_copy(&self, alloc: Global) -> Result<Verdict, AllocError>
+        ensures { IfOk result (λ copy. seen copy ≡ seen self.now) }
+    {
+        match self {
+            Verdict::Discard => Ok(Verdict::Discard),
+            Verdict::Refuse(origin, cause) => Ok(Verdict::Refuse(*origin, *cause)),
+            Verdict::Read(message) => Ok(Verdict::Read(message.try_copy(alloc)?)),
+        }
+    }
+}

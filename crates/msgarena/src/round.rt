@@ -1,0 +1,68 @@
+//! A frame decoded in an arena that is given back at once.
+
+ghost use Rattle.std.specs.Prelude.{◌≡◌, IfOk};
+ghost use Rattle.machine.specs.Received.{Verdict};
+ghost use Rattle.frames.specs.Frames.{IsVerdict};
+ghost use Rattle.msgarena.specs.Seen.{seen};
+ghost use Rattle.msgarena.specs.Taken.{IfTaken};
+
+use crate::fault::RoundFault;
+use crate::indication::Indication;
+use crate::message;
+use crate::verdict::verdict_of;
+use bertree::{TreeFault, read_tree};
+use bumpalo::Bump;
+use hlr_types::Peer;
+use std::alloc::{AllocError, Global};
+
+/// One frame decoded in an arena.
+pub struct Round;
+
+impl Round {
+    /// The indication of these octets, which came from this address. They are decoded in the arena, what they read to is
+    /// copied out, and the arena is reset. A frame that is no message is an indication too: the verdict says what becomes
+    /// of it.
+    ///
+    /// After a refusal nothing is said of the arena.
+    pub fn take(
+        alloc: Global,
+        bump: &mut Bump,
+        from: Peer,
+        octets: &[u8],
+    ) -> Result<Indication, RoundFault>
+        // It is that frame, and the verdict on it.
+        ensures frame { IfTaken result (λ taken. (taken.from ≡ from) × (taken.octets ≡ octets.now)) }
+        ensures judged { IfTaken result (λ taken. IsVerdict octets.now taken.verdict) }
+        // There is one verdict on the octets, so it is the same for every arena.
+        ensures only { (v : Verdict) → IsVerdict octets.now v → IfTaken result (λ taken. taken.verdict ≡ v) }
+    {
+        let taken = decoded(alloc, bump, from, octets)?;
+        match bump.reset() {
+            Ok(()) => Ok(taken),
+            Err(_) => Err(RoundFault::ResetRefused(taken)),
+        }
+    }
+}
+
+/// The indication of octets that are decoded in the arena.
+fn decoded(alloc: Global, bump: &Bump, from: Peer, octets: &[u8]) -> Result<Indication, AllocError>
+    ensures frame { IfOk result (λ found. (found.from ≡ from) × (found.octets ≡ octets.now)) }
+    ensures judged { IfOk result (λ found. IsVerdict octets.now found.verdict) }
+    ensures only { (v : Verdict) → IsVerdict octets.now v → IfOk result (λ found. found.verdict ≡ v) }
+{
+    let verdict = verdict_on(alloc, bump, octets)?;
+    Ok(Indication::new(from, octets.to_vec(alloc)?, verdict))
+}
+
+/// The verdict on octets: discarded where they spell no tree within the limits.
+fn verdict_on(alloc: Global, bump: &Bump, octets: &[u8]) -> Result<message::Verdict, AllocError>
+    ensures { IfOk result (λ found. IsVerdict octets.now (seen found)) }
+{
+    match read_tree(bump, octets) {
+        Ok(node) => verdict_of(alloc, &node),
+        Err(TreeFault::Memory) => Err(AllocError),
+        Err(TreeFault::TooLong | TreeFault::NotBer | TreeFault::TooDeep) => {
+            Ok(message::Verdict::Discard)
+        }
+    }
+}

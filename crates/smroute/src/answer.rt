@@ -1,0 +1,16 @@
+//! The answer to a sendRoutingInfoForSM.
+
+use hlr_types::{Imsi, IsdnAddress, Lmsi};
+
+/// The answer to a sendRoutingInfoForSM (TS 29.002): the code of an error, or the route.
+#[derive(Clone, Copy, Debug, PartialEq, Eq)]
+pub enum RouteAnswer {
+    /// The code of unknownSubscriber, absentSubscriberSM or teleserviceNotProvisioned.
+    NoRoute(u8),
+    /// The subscriber, the number of the serving MSC, and the LMSI under which the VLR knows the subscriber.
+    RouteTo {
+        imsi: Imsi,
+        msc: IsdnAddress,
+        lmsi: Option<Lmsi>,
+    },
+}

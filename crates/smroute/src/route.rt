@@ -1,0 +1,73 @@
+//! The route of one subscriber.
+
+ghost use Rattle.std.specs.Prelude.{◌≡◌, ℕ, List, IfSome, option_map, if◌then◌else◌};
+ghost use Rattle.machine.specs.SmRoute.{NoRoute, sm_route, route_by, has_short_messages};
+ghost use Rattle.machine.specs.Numbers.{teleservice_not_provisioned};
+ghost use Rattle.smroute.specs.Seen.{machine_subscriber, machine_register, machine_answer};
+
+use crate::answer::RouteAnswer;
+use hlr_types::{Imsi, Register};
+use records::Record;
+
+/// unknownSubscriber (TS 29.002, 17.6.6).
+pub const UNKNOWN_SUBSCRIBER: u8 = 1;
+
+/// absentSubscriberSM (TS 29.002, 17.6.6).
+pub const ABSENT_SUBSCRIBER_SM: u8 = 6;
+
+/// teleserviceNotProvisioned (TS 29.002, 17.6.6).
+pub const TELESERVICE_NOT_PROVISIONED: u8 = 11;
+
+/// The group of all short message services (TS 29.002, TeleserviceCode).
+const SHORT_MESSAGE_SERVICES: u8 = 0x20;
+
+/// Short message to a mobile station (TS 29.002, TeleserviceCode).
+const SHORT_MESSAGE_TO_MOBILE: u8 = 0x21;
+
+/// The SM route of a subscriber, or of nobody. It takes no memory.
+///
+/// The errors come in this order: unknownSubscriber where there is no record, or a withdrawn one;
+/// teleserviceNotProvisioned where no code is one of short messages to the subscriber; absentSubscriberSM where no
+/// register serves the subscriber, or it has purged the subscriber (profile).
+pub fn route_sm(subscriber: Option<&Record>) -> RouteAnswer
+    ensures { (imsi : List ℕ) → IfSome subscriber.entry (λ s. s.now.imsi ≡ imsi)
+        → machine_answer result ≡ sm_route imsi (option_map (λ s. machine_subscriber s.now) subscriber.entry) }
+{
+    match subscriber {
+        Some(subscriber) if !subscriber.withdrawn => route_of(subscriber),
+        _ => RouteAnswer::NoRoute(UNKNOWN_SUBSCRIBER),
+    }
+}
+
+/// The route of a subscriber who is not withdrawn.
+fn route_of(subscriber: &Record) -> RouteAnswer
+    ensures { machine_answer result ≡ (if has_short_messages subscriber.now.codes
+        then route_by subscriber.now.imsi subscriber.now.purged (option_map machine_register subscriber.now.register)
+        else NoRoute teleservice_not_provisioned) }
+{
+    if !has_short_messages(&subscriber.codes) {
+        return RouteAnswer::NoRoute(TELESERVICE_NOT_PROVISIONED);
+    }
+    route_by(subscriber.imsi, subscriber.purged, subscriber.register)
+}
+
+/// Whether short messages to the subscriber are provided.
+fn has_short_messages(codes: &[u8]) -> bool
+    ensures { result ≡ has_short_messages codes.now }
+{
+    codes.iter().any(|code| *code == SHORT_MESSAGE_SERVICES || *code == SHORT_MESSAGE_TO_MOBILE)
+}
+
+/// The route by the serving register, if one serves.
+fn route_by(imsi: Imsi, purged: bool, register: Option<Register>) -> RouteAnswer
+    ensures { machine_answer result ≡ route_by imsi purged (option_map machine_register register) }
+{
+    match register {
+        Some(register) if !purged => RouteAnswer::RouteTo {
+            imsi,
+            msc: register.msc,
+            lmsi: register.lmsi,
+        },
+        _ => RouteAnswer::NoRoute(ABSENT_SUBSCRIBER_SM),
+    }
+}

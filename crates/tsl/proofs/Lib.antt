@@ -1,0 +1,4 @@
+pub mod ViewLemmas
+pub mod StepLemmas
+pub mod RowLemmas
+pub mod ListLemmas

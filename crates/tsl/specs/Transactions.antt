@@ -1,0 +1,117 @@
+-- The transactions of a shard that are open, as a finite map from local ids, and how they begin, go on and close by the
+-- transaction table (Q.774).
+use Rattle.std.specs.Prelude.{◌≡◌, ◌≢◌, ℕ, ◌+◌, List, Option, Some, None, is_some, IsSome, refl, if◌then◌else◌}
+use Rattle.std.specs.Coded.{Coded, code_by, coded×, coded_ℕ, coded_list, coded_option}
+use Rattle.std.specs.FinMap as map
+use Rattle.machine.specs.State.{Transaction}
+use Rattle.hlr_types.specs.Orders.{octets_cmp}
+use Rattle.hlr_types.specs.Ids.{IsIdOf}
+use Rattle.tidalloc.specs.LiveIds.{id_at, slot_of, next_use}
+use Rattle.tsl.specs.declared.transaction.Transaction as seen
+
+-- ---- one transaction
+
+-- What the code keeps of a transaction, as the machine has it.
+abbrev pub transaction_of : seen.Transaction → Transaction
+transaction_of t = record { peer = t.peer; remote = t.remote }
+
+-- With this peer, whose id is known or not.
+abbrev pub known_as : List ℕ → Option (List ℕ) → Transaction
+known_as peer remote = record { peer = peer; remote = remote }
+
+-- Initiation Sent: the peer's id is not known.
+abbrev pub initiated : List ℕ → Transaction
+initiated peer = record { peer = peer; remote = None }
+
+-- Active: the peer's id is known.
+abbrev pub active : List ℕ → List ℕ → Transaction
+active peer remote = record { peer = peer; remote = Some remote }
+
+-- ---- all that are open
+
+-- The open transactions of a shard by local id. `freed_last` is the id of the one that closed last, `next` the id of the
+-- one that begins next, if there is room for one; `room` says how many can begin without memory.
+pub record OpenTransactions : Type 0 where
+  pub shard : ℕ
+  pub open_ones : map.FinMap octets_cmp Transaction
+  pub freed_last : Option (List ℕ)
+  pub next : Option (List ℕ)
+  pub room : ℕ
+
+abbrev pub coded_transaction : Coded Transaction
+coded_transaction =
+    code_by (List ℕ × Option (List ℕ)) (coded× (coded_list coded_ℕ) (coded_option (coded_list coded_ℕ))) (λ t. (t.peer, t.remote)) (λ p. record { peer = p.0; remote = p.1 }) (λ _. refl)
+
+abbrev pub open_transactions_code : Coded OpenTransactions
+open_transactions_code =
+    code_by
+    (ℕ × (map.FinMap octets_cmp Transaction × (Option (List ℕ) × (Option (List ℕ) × ℕ))))
+    (coded× coded_ℕ (coded× (map.code (coded_list coded_ℕ) coded_transaction) (coded× (coded_option (coded_list coded_ℕ)) (coded× (coded_option (coded_list coded_ℕ)) coded_ℕ))))
+    (λ t. (t.shard, (t.open_ones, (t.freed_last, (t.next, t.room)))))
+    (λ p. record { shard = p.0; open_ones = p.1.0; freed_last = p.1.1.0; next = p.1.1.1.0; room = p.1.1.1.1 })
+    (λ _. refl)
+
+-- What is open at these octets: the transaction whose local id they are, if there is one.
+abbrev pub at : OpenTransactions → List ℕ → Option Transaction
+at t id = map.get t.open_ones id
+
+-- How many are open.
+abbrev pub count : OpenTransactions → ℕ
+count t = map.len t.open_ones
+
+-- Nothing is open, and nothing ever was.
+abbrev pub none_open : ℕ → OpenTransactions
+none_open shard = record {
+  shard = shard;
+  open_ones = map.empty;
+  freed_last = None;
+  next = Some (id_at shard 0 1);
+  room = 0;
+}
+
+-- An id of the shard at which nothing is open, and which is not that of the transaction that closed last.
+pub record MayBegin (t : OpenTransactions) (id : List ℕ) : Type 0 where
+  pub of_shard : IsIdOf t.shard id
+  pub not_open : at t id ≡ None
+  pub not_freed_last : t.freed_last ≢ Some id
+
+-- At the id that was the next, and may begin, this transaction is open now too.
+pub record Begins (old : OpenTransactions) (id : List ℕ) (transaction : Transaction) (new : OpenTransactions) : Type 0 where
+  pub was_next : old.next ≡ Some id
+  pub may : MayBegin old id
+  pub after : new ≡ record old { open_ones = map.insert old.open_ones id transaction; next = new.next; room = new.room }
+
+-- The open transaction at this id is this one now.
+abbrev pub with_transaction : OpenTransactions → List ℕ → Transaction → OpenTransactions
+with_transaction t id transaction = record t { open_ones = map.insert t.open_ones id transaction }
+
+-- What was open at this id is no more. Its slot is the one that is used next, at its next generation.
+abbrev pub closed : OpenTransactions → List ℕ → OpenTransactions
+closed t id = record t {
+  open_ones = map.remove t.open_ones id;
+  freed_last = Some id;
+  next = Some (next_use id);
+  room = t.room + 1;
+}
+
+-- There is a transaction, and it is Active.
+abbrev pub IsActive : Option Transaction → Type 0
+IsActive None = ⊥
+IsActive (Some t) = IsSome t.remote
+
+-- There is a transaction, and it is in Initiation Sent.
+abbrev pub IsInitiated : Option Transaction → Type 0
+IsInitiated None = ⊥
+IsInitiated (Some t) = t.remote ≡ None
+
+-- Each open transaction has an id of the shard.
+abbrev pub HaveIdsOfShard : OpenTransactions → Type 0
+HaveIdsOfShard t = (id : List ℕ) → at t id ≢ None → IsIdOf t.shard id
+
+-- The slot of the id, where a transaction is open at it.
+abbrev pub slot_if_open : OpenTransactions → List ℕ → Option ℕ
+slot_if_open t id = if is_some (at t id) then Some (slot_of id) else None
+
+-- No two open transactions have one slot.
+abbrev pub HaveOwnSlots : OpenTransactions → Type 0
+HaveOwnSlots t = (p q : List ℕ) → at t p ≢ None → at t q ≢ None → slot_of p ≡ slot_of q → p ≡ q

@@ -1,0 +1,417 @@
+//! The open transactions of a shard.
+
+ghost use Rattle.std.specs.Prelude.{◌≡◌, ◌≢◌, ◌+◌, ◌<◌, ◌≤◌, ◌↔◌, List, ℕ, IsTrue, Some, None, Err, IsOk, IfOk, IfSome, OnOk, OnErr, IsNone, option_map};
+ghost use Rattle.std.specs.FinMap as map;
+ghost use Rattle.tsl.specs.Table.{ids_of_entries};
+ghost use Rattle.machine.specs.Transactions.{OwnBegin, Answered, CloseComes, OwnContinue, OwnEnd, OwnClose, IsSent, ForIt, Nothing, transact, row};
+
+use crate::received::{Head, Received};
+use crate::transaction::Transaction;
+use hlr_types::{Peer, RemoteId, Tid};
+use slab::Slab;
+use std::alloc::{AllocError, Global};
+use std::marker::Model;
+use thiserror::Error;
+use tidalloc::{IdFault, Ids};
+
+/// Why no transaction began.
+#[derive(Clone, Copy, Debug, PartialEq, Eq, Drop, Error)]
+pub enum TslFault {
+    /// 4,096 transactions are open.
+    #[error("4,096 transactions are open")]
+    NoRoom,
+    /// A growth was refused.
+    #[error("out of memory")]
+    Memory,
+}
+
+impl From<IdFault> for TslFault {
+    ghost use Rattle.std.specs.Prelude.{◌≡◌};
+    ghost use Rattle.tsl.specs.Faults.{fault_of};
+
+    ghost from_gives = { λ refused fault. fault ≡ fault_of refused };
+
+    fn from(refused: IdFault) -> TslFault {
+        match refused {
+            IdFault::NoRoom => TslFault::NoRoom,
+            IdFault::Memory => TslFault::Memory,
+        }
+    }
+}
+
+impl From<AllocError> for TslFault {
+    ghost use Rattle.std.specs.Prelude.{◌≡◌};
+    ghost use Rattle.tsl.specs.declared.transactions.TslFault.TheVariants.{Memory};
+
+    ghost from_gives = { λ _ fault. fault ≡ Memory };
+
+    fn from(_refused: AllocError) -> TslFault {
+        TslFault::Memory
+    }
+}
+
+/// A transaction and its id.
+#[derive(Clone, Copy, Debug)]
+struct Entry {
+    id: Tid,
+    transaction: Transaction,
+}
+
+/// The open transactions of a shard, at most 4,096. The id under which the next begins is known before.
+#[derive(Drop)]
+pub struct Transactions {
+    ids: Ids,
+    /// The key of the entry by the slot of its id.
+    keys: Vec<usize>,
+    entries: Slab<Entry>,
+    /// How many can begin without memory.
+    room: usize,
+}
+
+impl Model for Transactions {
+    ghost use Rattle.tsl.specs.Transactions.{OpenTransactions, open_transactions_code};
+
+    ghost Value = { OpenTransactions };
+
+    ghost coded = { open_transactions_code };
+
+    ghost use Rattle.tsl.specs.Table.{open_of, AreEntries};
+
+    ghost view = { λ a. open_of a.ids a.keys.items a.entries a.room };
+
+    ghost invariant = { λ a. AreEntries a.ids a.keys.items a.entries a.room };
+}
+
+impl Transactions {
+    ghost use Rattle.tidalloc.specs.LiveIds.{next_use, slot_of};
+    ghost use Rattle.tsl.specs.Transactions.{MayBegin, Begins, IsActive, IsInitiated, HaveIdsOfShard, transaction_of, known_as, initiated, active, at, count, none_open, with_transaction, closed, slot_if_open, HaveOwnSlots};
+    ghost use Rattle.tsl.specs.Received.{received, after, told_continue, told_close, activated};
+
+    /// The most transactions that are open at once.
+    pub const ROOM: usize = Ids::ROOM;
+
+    /// No transaction is open.
+    pub fn new(alloc: Global, shard: u8) -> Result<Self, AllocError>
+        requires { shard < 16 }
+        ensures { IfOk result (λ t. t ≡ none_open shard) }
+    {
+        Ok(Transactions {
+            ids: Ids::new(alloc, shard)?,
+            keys: vec![in alloc; 0; Self::ROOM]?,
+            entries: Slab::new(alloc),
+            room: 0,
+        })
+    }
+
+    /// Opens a transaction for an own Begin, in Initiation Sent. `NoRoom` where 4,096 are open, `Memory` where a growth was
+    /// refused; then nothing has changed.
+    pub fn begin(&mut self, to: Peer) -> Result<Tid, TslFault>
+        ensures begun { IfOk result (λ id. Begins self.old id (initiated to) self.new) }
+        ensures table { IfOk result (λ id. transact (at self.old id) (OwnBegin to) ≡ row (at self.new id) IsSent) }
+        ensures no_room { result ≡ Err TslFault.NoRoom ↔ (count self.old ≡ 4096) }
+        ensures had_room { 0 < self.old.room → IsOk result }
+        ensures room { OnOk result (self.old.room ≤ self.new.room + 1) }
+        ensures err { OnErr result (self.new ≡ self.old) }
+    {
+        self.reserve()?;
+        Ok(self.begin_reserved(to))
+    }
+
+    /// Opens an Active transaction for a Begin that is answered by a Continue. Refused as `begin` is.
+    pub fn continue_(&mut self, from: Peer, origin: RemoteId) -> Result<Tid, TslFault>
+        ensures begun { IfOk result (λ id. Begins self.old id (active from origin) self.new) }
+        ensures table { IfOk result (λ id. transact (at self.old id) (Answered from origin) ≡ row (at self.new id) IsSent) }
+        ensures no_room { result ≡ Err TslFault.NoRoom ↔ (count self.old ≡ 4096) }
+        ensures had_room { 0 < self.old.room → IsOk result }
+        ensures room { OnOk result (self.old.room ≤ self.new.room + 1) }
+        ensures err { OnErr result (self.new ≡ self.old) }
+    {
+        self.reserve()?;
+        Ok(self.continue_reserved(from, origin))
+    }
+
+    /// Makes room to open a transaction without memory, unless there is room already. Refused as `begin` is.
+    pub fn reserve(&mut self) -> Result<(), TslFault>
+        ensures ok { OnOk result (self.new ≡ record self.old { room = self.new.room }) }
+        ensures room { OnOk result (0 < self.new.room) }
+        ensures no_room { result ≡ Err TslFault.NoRoom ↔ (count self.old ≡ 4096) }
+        ensures had_room { 0 < self.old.room → self.new ≡ self.old × IsOk result }
+        ensures err { OnErr result (self.new ≡ self.old) }
+    {
+        if self.room > 0 {
+            return Ok(());
+        }
+        self.ids.reserve()?;
+        self.entries.reserve(1)?;
+        self.room = 1;
+        Ok(())
+    }
+
+    /// The same as `begin`, where `reserve` or a close made room. Takes no memory.
+    pub fn begin_reserved(&mut self, to: Peer) -> Tid
+        requires { 0 < self.old.room }
+        ensures begun { Begins self.old result (initiated to) self.new }
+        ensures table { transact (at self.old result) (OwnBegin to) ≡ row (at self.new result) IsSent }
+        ensures room { self.new.room + 1 ≡ self.old.room }
+    {
+        self.open(to, None)
+    }
+
+    /// The same as `continue_`, where `reserve` or a close made room. Takes no memory.
+    pub fn continue_reserved(&mut self, from: Peer, origin: RemoteId) -> Tid
+        requires { 0 < self.old.room }
+        ensures begun { Begins self.old result (active from origin) self.new }
+        ensures table { transact (at self.old result) (Answered from origin) ≡ row (at self.new result) IsSent }
+        ensures room { self.new.room + 1 ≡ self.old.room }
+    {
+        self.open(from, Some(origin))
+    }
+
+    fn open(&mut self, peer: Peer, remote: Option<RemoteId>) -> Tid
+        requires { 0 < self.old.room }
+        ensures begun { Begins self.old result (known_as peer remote) self.new }
+        ensures room { self.new.room + 1 ≡ self.old.room }
+    {
+        let id = self.ids.take_reserved();
+        let slot = self.ids.slot(id).unwrap();
+        self.keys[slot] = self.entries.insert_reserved(Entry {
+            id,
+            transaction: Transaction { peer, remote },
+        });
+        self.room -= 1;
+        id
+    }
+
+    /// The id under which the next transaction begins. There is none exactly where 4,096 are open.
+    pub fn next_id(&self) -> Option<Tid>
+        ensures value { result ≡ self.now.next }
+        ensures may { IfSome result (MayBegin self.now) }
+        ensures none { IsNone result ↔ (count self.now ≡ 4096) }
+    {
+        self.ids.next_id()
+    }
+
+    /// The id under which the next transaction begins once this open one is closed.
+    pub fn next_after(&self, id: Tid) -> Tid
+        requires { at self.now id ≢ None }
+        ensures value { result ≡ next_use id }
+        ensures may { MayBegin (closed self.now id) result }
+    {
+        self.ids.next_after(id)
+    }
+
+    /// For whom a message is, wherever it comes from: a Continue for the open transaction of its destination id, where that
+    /// is in Initiation Sent or the peer has the Continue's originating id there; an End or an Abort for the open
+    /// transaction of its destination id. Ids are compared as octets.
+    pub fn look(&self, head: &Head) -> Received
+        ensures { (from : List ℕ) → result ≡ received self.now from head.now }
+    {
+        match *head {
+            Head::Continue {
+                origin,
+                destination,
+            } => self.look_continue(origin, destination),
+            Head::End { destination } => self.look_close(destination),
+            Head::Abort { destination } => self.look_close(destination),
+        }
+    }
+
+    fn look_continue(&self, origin: RemoteId, destination: RemoteId) -> Received
+        ensures { result ≡ told_continue origin destination (at self.now destination) }
+    {
+        let Some(entry) = self.find(destination) else {
+            return Received::NotAssigned(origin);
+        };
+        if entry.transaction.takes(origin) {
+            Received::For(entry.id)
+        } else {
+            Received::NotAssigned(origin)
+        }
+    }
+
+    fn look_close(&self, destination: RemoteId) -> Received
+        ensures { result ≡ told_close destination (at self.now destination) }
+    {
+        match self.find(destination) {
+            Some(entry) => Received::For(entry.id),
+            None => Received::Nothing,
+        }
+    }
+
+    /// The same as `look`, and done: a Continue makes a transaction in Initiation Sent an Active one, with the source as its
+    /// peer and the originating id. A transaction that is closed by an End or an Abort stays open until `abort`.
+    pub fn receive(&mut self, from: Peer, head: &Head) -> Received
+        ensures answer { result ≡ received self.old from head.now }
+        ensures after { self.new ≡ after self.old from head.now }
+    {
+        match *head {
+            Head::Continue {
+                origin,
+                destination,
+            } => self.receive_continue(from, origin, destination),
+            Head::End { destination } => self.look_close(destination),
+            Head::Abort { destination } => self.look_close(destination),
+        }
+    }
+
+    fn receive_continue(&mut self, from: Peer, origin: RemoteId, destination: RemoteId) -> Received
+        ensures answer { result ≡ told_continue origin destination (at self.old destination) }
+        ensures after { self.new ≡ activated self.old destination from origin (at self.old destination) }
+    {
+        let Some(entry) = self.find(destination) else {
+            return Received::NotAssigned(origin);
+        };
+        let Entry { id, transaction } = entry;
+        if !transaction.takes(origin) {
+            return Received::NotAssigned(origin);
+        }
+        if transaction.remote.is_none() {
+            self.set(id, from, origin);
+        }
+        Received::For(id)
+    }
+
+    /// The transaction at this id, if one is open. Where it is Active, an own Continue goes to its peer.
+    pub fn get(&self, id: Tid) -> Option<Transaction>
+        ensures value { option_map transaction_of result ≡ at self.now id }
+        ensures table { IsActive (at self.now id) → transact (at self.now id) OwnContinue ≡ row (at self.now id) IsSent }
+    {
+        let Some(entry) = self.entry(id) else {
+            return None;
+        };
+        Some(entry.transaction)
+    }
+
+    fn entry(&self, id: Tid) -> Option<Entry>
+        ensures value { option_map (λ e. transaction_of e.transaction) result ≡ at self.now id }
+        ensures id { IfSome result (λ e. e.id ≡ id) }
+    {
+        let slot = self.ids.slot(id)?;
+        Some(self.entries[self.keys[slot]])
+    }
+
+    /// The entry of the open transaction whose local id these octets are.
+    fn find(&self, destination: RemoteId) -> Option<Entry>
+        ensures value { option_map (λ e. transaction_of e.transaction) result ≡ at self.now destination }
+        ensures id { IfSome result (λ e. e.id ≡ destination) }
+    {
+        let _invariant = &self.ids;
+        let Some(id) = Tid::read(destination.as_slice()) else {
+            return None;
+        };
+        self.entry(id)
+    }
+
+    /// An open transaction becomes Active, with this peer and the peer's id.
+    pub fn set(&mut self, id: Tid, peer: Peer, remote: RemoteId)
+        requires { at self.old id ≢ None }
+        ensures { self.new ≡ with_transaction self.old id (active peer remote) }
+    {
+        let slot = self.ids.slot(id).unwrap();
+        let transaction = Transaction {
+            peer,
+            remote: Some(remote),
+        };
+        self.entries[self.keys[slot]] = Entry { id, transaction };
+    }
+
+    /// Closes an Active transaction by an own End, and gives the peer to which that goes and the peer's id.
+    pub fn end(&mut self, id: Tid) -> (Peer, RemoteId)
+        requires { IsActive (at self.old id) }
+        ensures to { at self.old id ≡ Some (active result.0 result.1) }
+        ensures closed { self.new ≡ closed self.old id }
+        ensures table { transact (at self.old id) OwnEnd ≡ row (at self.new id) IsSent }
+    {
+        let transaction = self.close(id);
+        (transaction.peer, transaction.remote.unwrap())
+    }
+
+    /// Closes a transaction without a frame: where an End or an Abort came for it, and where it is given up in Initiation
+    /// Sent.
+    pub fn abort(&mut self, id: Tid)
+        requires { at self.old id ≢ None }
+        ensures closed { self.new ≡ closed self.old id }
+        ensures comes { transact (at self.old id) CloseComes ≡ row (at self.new id) ForIt }
+        ensures own { IsInitiated (at self.old id) → transact (at self.old id) OwnClose ≡ row (at self.new id) Nothing }
+    {
+        self.close(id);
+    }
+
+    fn close(&mut self, id: Tid) -> Transaction
+        requires { at self.old id ≢ None }
+        ensures was { at self.old id ≡ Some (transaction_of result) }
+        ensures closed { self.new ≡ closed self.old id }
+    {
+        let slot = self.ids.slot(id).unwrap();
+        let entry = self.entries.remove(self.keys[slot]);
+        self.ids.give_back(id);
+        self.room += 1;
+        entry.transaction
+    }
+
+    /// The ids of the open transactions, in their order.
+    pub fn list(&self) -> Result<Vec<Tid>, AllocError>
+        ensures { IfOk result (λ ids. ids.items ≡ map.keys self.now.open_ones) }
+    {
+        let mut ids = ids_of(*self.keys.allocator(), &self.entries)?;
+        ids.sort_unstable();
+        Ok(ids)
+    }
+
+    /// The slot of an open transaction, below `ROOM`. No two have one slot.
+    pub fn slot(&self, id: Tid) -> Option<usize>
+        ensures slot { result ≡ slot_if_open self.now id }
+        ensures small { IfSome result (λ slot. slot < 4096) }
+        ensures own { HaveOwnSlots self.now }
+    {
+        self.ids.slot(id)
+    }
+
+    /// How many transactions are open, each under an id of the shard.
+    pub fn len(&self) -> usize
+        ensures value { result ≡ count self.now }
+        ensures fits { result + self.now.room ≤ 4096 }
+        ensures of_shard { HaveIdsOfShard self.now }
+    {
+        self.ids.live_count()
+    }
+
+    /// Whether none is open.
+    pub fn is_empty(&self) -> bool
+        ensures { IsTrue result ↔ (count self.now ≡ 0) }
+    {
+        self.len() == 0
+    }
+
+    /// Whether 4,096 are open.
+    pub fn is_full(&self) -> bool
+        ensures { IsTrue result ↔ (count self.now ≡ 4096) }
+    {
+        self.len() == Self::ROOM
+    }
+
+    /// An equal value, with room of its own.
+    pub fn try_copy(&self) -> Result<Self, AllocError>
+        ensures { IfOk result (λ t. t ≡ self.now) }
+    {
+        let mut entries = self.entries.clone()?;
+        entries.reserve(self.room)?;
+        Ok(Transactions {
+            ids: self.ids.try_copy()?,
+            keys: Vec::from_slice(*self.keys.allocator(), &self.keys)?,
+            entries,
+            room: self.room,
+        })
+    }
+}
+
+/// The ids of the entries, by key.
+fn ids_of(alloc: Global, entries: &Slab<Entry>) -> Result<Vec<Tid>, AllocError>
+    ensures { IfOk result (λ ids. ids.items ≡ ids_of_entries entries.now) }
+{
+    let mut ids = Vec::with_capacity(alloc, entries.len())?;
+    for (_, entry) in entries.iter() {
+        ids.push(entry.id)?;
+    }
+    Ok(ids)
+}

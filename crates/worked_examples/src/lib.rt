@@ -1,0 +1,16 @@
+//! The worked examples of the profile as runs of the whole program: a records file and received frames in, the frames that
+//! are sent out, octet for octet.
+#![tactic(auto)]
+
+#[cfg(test)]
+mod files;
+#[cfg(test)]
+mod hostile;
+#[cfg(test)]
+mod portions;
+#[cfg(test)]
+mod routes;
+#[cfg(test)]
+mod run;
+#[cfg(test)]
+mod updates;
