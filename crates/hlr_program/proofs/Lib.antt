@@ -4,3 +4,7 @@ pub mod TickLaws
 pub mod CheckLaws
 pub mod PrintLemmas
 pub mod LetterLemmas
+pub mod EngineLemmas
+pub mod RunLemmas
+pub mod BatchLemmas
+pub mod ScriptLemmas

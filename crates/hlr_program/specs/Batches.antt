@@ -15,6 +15,16 @@ abbrev pub behind_batch : List (List ℕ) → List (List ℕ)
 behind_batch [] = []
 behind_batch (line ∷ more) = if is_text line (text "W") then more else behind_batch more
 
+-- A line before the first batch is of that batch.
+abbrev pub with_line : List ℕ → List (List (List ℕ)) → List (List (List ℕ))
+with_line line [] = (line ∷ []) ∷ []
+with_line line (batch ∷ more) = (line ∷ batch) ∷ more
+
+-- The batches of a script. The last one needs no `W`.
+abbrev pub batches_of : List (List ℕ) → List (List (List ℕ))
+batches_of [] = []
+batches_of (line ∷ more) = if is_text line (text "W") then [] ∷ batches_of more else with_line line (batches_of more)
+
 -- The line with this number, counted from 1, is the first that is bad, where so many lines stand before these.
 abbrev pub IsFirst : (Good Bad : List ℕ → Type 0) → List (List ℕ) → ℕ → ℕ → Type 0
 IsFirst Good Bad [] before number = ⊥
@@ -40,3 +50,8 @@ HasIds known line =
 abbrev pub LacksId : ℕ → List ℕ → Type 0
 LacksId known line =
     (from field : List ℕ) × IsLine line (Frame from field) × ((groups : List Group) → IsOctets field groups → are_known known groups ≡ false)
+
+-- The same of what a line says.
+abbrev pub SaidLacksId : ℕ → Line → Type 0
+SaidLacksId known (Frame from field) = (groups : List Group) → IsOctets field groups → are_known known groups ≡ false
+SaidLacksId known _ = ⊥

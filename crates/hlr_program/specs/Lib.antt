@@ -5,3 +5,5 @@ pub mod Printed
 pub mod Statuses
 pub mod Batches
 pub mod Reading
+pub mod Engine
+pub mod Runs

@@ -3,7 +3,7 @@ use Rattle.std.specs.Prelude.{ℕ, List, [], ◌∷◌, ◌++◌, codes as text}
 use Rattle.hex.specs.Hex.{encode_upper}
 use Rattle.std.specs.List.{flat_map}
 use Rattle.hlr_types.specs.DigitTexts.{text_of}
-use Rattle.hlrcore.specs.declared.answer.Out.{Out}
+use Rattle.frames.specs.Octets.{RawOut}
 use Rattle.hlr_program.specs.Letters.{noted, originating_id}
 
 -- `S <to> <octets in upper case>`, and a line feed.
@@ -11,10 +11,10 @@ abbrev pub sent_line : List ℕ → List ℕ → List ℕ
 sent_line to octets = text "S " ++ text_of to ++ text " " ++ encode_upper octets ++ 10 ∷ []
 
 -- The lines of several frames.
-abbrev pub sent_lines : List Out → List ℕ
-sent_lines frames = flat_map (λ frame. sent_line frame.to frame.octets.items) frames
+abbrev pub sent_lines : List RawOut → List ℕ
+sent_lines frames = flat_map (λ frame. sent_line frame.to frame.octets) frames
 
 -- The ids of the letters, with those that these frames carry.
-abbrev pub noted_in : List (List ℕ) → List Out → List (List ℕ)
+abbrev pub noted_in : List (List ℕ) → List RawOut → List (List ℕ)
 noted_in ids [] = ids
-noted_in ids (frame ∷ more) = noted_in (noted ids (originating_id frame.octets.items)) more
+noted_in ids (frame ∷ more) = noted_in (noted ids (originating_id frame.octets)) more

@@ -22,3 +22,16 @@ status_of Output = 1
 abbrev pub fault_at : LineFault → ℕ → Fault
 fault_at line.Bad number = BadLine number
 fault_at line.Memory number = Memory
+
+-- What ends the reading of a script: a line of it, or want of memory.
+abbrev pub IsScriptFault : Fault → Type 0
+IsScriptFault (BadLine number) = Unit {0}
+IsScriptFault Memory = Unit {0}
+IsScriptFault CommandLine = ⊥
+IsScriptFault UnreadableRecords = ⊥
+IsScriptFault (BadRecord line) = ⊥
+IsScriptFault (TwiceRecord line) = ⊥
+IsScriptFault UnreadableScript = ⊥
+IsScriptFault NoRoom = ⊥
+IsScriptFault (Unaccounted job) = ⊥
+IsScriptFault Output = ⊥

@@ -1,10 +1,18 @@
 //! One batch of a script.
 
-ghost use Rattle.std.specs.Prelude.{◌≡◌, ◌<◌, length, IfOk};
+ghost use Rattle.std.specs.Prelude.{◌≡◌, ◌⊎◌, ◌<◌, ◌++◌, ℕ, List, length, map, IfOk, IfErr, OnOk, Err, Some, false};
+ghost use Rattle.std.specs.List.{AllByRecursion, range_with_len};
+ghost use Rattle.frames.specs.Octets.{RawFrame, RawClock, RawExpire};
 ghost use Rattle.records.specs.File.{lines};
-ghost use Rattle.hlr_program.specs.Batches.{behind_batch};
+ghost use Rattle.hlrcore.specs.Events.{raw_event};
+ghost use Rattle.hlr_program.specs.declared.group.Group.{Group};
+ghost use Rattle.hlr_program.specs.Octets.{IsOctets, octets_of, are_known};
+ghost use Rattle.hlr_program.specs.Script.{line_of};
+ghost use Rattle.hlr_program.specs.Batches.{IsGood, HasIds, LacksId, SaidLacksId, IsFirst, batch_of, behind_batch};
+ghost use Rattle.hlr_program.specs.Statuses.{IsScriptFault};
+ghost use Rattle.hlr_program.specs.Runs.{Sends, AllSend, SaidSends, LineSends, LinesSend, progress};
 
-use crate::check::is_end;
+use crate::check::{check_letters, is_end};
 use crate::engine::{Engine, SHARDS};
 use crate::fault::Fault;
 use crate::item::{Item, LineFault};
@@ -13,9 +21,11 @@ use crate::octets::read_octets;
 use crate::place::{Numbered, Place};
 use hlr_types::{Peer, Tid};
 use hlrcore::{Change, Out, RawEvent, ShardNumber};
-use std::alloc::Global;
+use std::alloc::{AllocError, Global};
 
 /// Handles the events of a batch, in the order of its lines. Gives the place behind it.
+///
+/// A letter without an id counts as found when the batch begins, so it comes before every other fault.
 pub fn handle_batch<'a>(
     alloc: Global,
     engine: &mut Engine,
@@ -23,6 +33,13 @@ pub fn handle_batch<'a>(
     ids: &[Tid],
     sent: &mut Vec<Out>,
 ) -> Result<Place<'a>, Fault>
+    requires { AllByRecursion IsGood (lines from.rest.now) }
+    ensures sends { OnOk result (LinesSend ids.now (progress engine.old sent.old.items)
+        (batch_of (lines from.entry.rest.now)) (progress engine.new sent.new.items)) }
+    ensures known { OnOk result (AllByRecursion (HasIds (length ids.now)) (batch_of (lines from.entry.rest.now))) }
+    ensures unknown { (n : ℕ) → result ≡ Err (Fault.BadLine n)
+        → IsFirst (HasIds (length ids.now)) (LacksId (length ids.now)) (batch_of (lines from.entry.rest.now)) from.entry.before n }
+    ensures of_script { IfErr result IsScriptFault }
     ensures behind { IfOk result (λ place. lines place.rest.now ≡ behind_batch (lines from.entry.rest.now)) }
     ensures shorter { 0 < length from.entry.rest.now → IfOk result (λ place. length place.rest.now < length from.entry.rest.now) }
 {
@@ -31,10 +48,25 @@ pub fn handle_batch<'a>(
         if is_end(line.text) {
             return Ok(behind);
         }
-        handle_line(alloc, engine, line, ids, sent)?;
-        place = behind;
+        match handle_line(alloc, engine, line, ids, sent) {
+            Ok(()) => place = behind,
+            Err(fault) => return Err(first_fault(alloc, place, ids.len(), fault)),
+        }
     }
     Ok(place)
+}
+
+/// What a batch ends with that stopped at a line.
+fn first_fault(alloc: Global, from: Place, known: usize, fault: Fault) -> Fault
+    ensures of_script { IsScriptFault fault → IsScriptFault result }
+    ensures first { (n : ℕ) → result ≡ Fault.BadLine n
+        → ((fault ≡ Fault.BadLine n) × AllByRecursion (HasIds known) (batch_of (lines from.entry.rest.now)))
+        ⊎ IsFirst (HasIds known) (LacksId known) (batch_of (lines from.entry.rest.now)) from.entry.before n }
+{
+    match check_letters(alloc, from, known) {
+        Ok(()) => fault,
+        Err(unknown) => unknown,
+    }
 }
 
 /// Handles what a line says.
@@ -44,7 +76,14 @@ fn handle_line(
     line: Numbered,
     ids: &[Tid],
     sent: &mut Vec<Out>,
-) -> Result<(), Fault> {
+) -> Result<(), Fault>
+    requires { IsGood line.text.now }
+    ensures sends { OnOk result
+        (LineSends ids.now (progress engine.old sent.old.items) line.entry.text.now (progress engine.new sent.new.items)) }
+    ensures known { OnOk result (HasIds (length ids.now) line.entry.text.now) }
+    ensures lacks { (n : ℕ) → result ≡ Err (Fault.BadLine n) → ¬ (HasIds (length ids.now) line.entry.text.now) }
+    ensures of_script { IfErr result IsScriptFault }
+{
     match read_line(alloc, line.text) {
         Ok(item) => handle_item(alloc, engine, item, line.number, ids, sent),
         Err(fault) => Err(Fault::at_line(fault, line.number)),
@@ -58,7 +97,12 @@ fn handle_item(
     number: u64,
     ids: &[Tid],
     sent: &mut Vec<Out>,
-) -> Result<(), Fault> {
+) -> Result<(), Fault>
+    ensures sends { OnOk result
+        (SaidSends ids.now (progress engine.old sent.old.items) (line_of item.entry) (progress engine.new sent.new.items)) }
+    ensures lacks { (n : ℕ) → result ≡ Err (Fault.BadLine n) → SaidLacksId (length ids.now) (line_of item.entry) }
+    ensures of_script { IfErr result IsScriptFault }
+{
     match item {
         Item::Frame { from, octets } => match frame(alloc, from, octets, ids) {
             Ok(event) => handle(engine, event, sent),
@@ -79,7 +123,12 @@ fn handle_item(
 }
 
 /// A frame that comes, with these ids in the place of the letters.
-fn frame(alloc: Global, from: Peer, octets: &[u8], ids: &[Tid]) -> Result<RawEvent, LineFault> {
+fn frame(alloc: Global, from: Peer, octets: &[u8], ids: &[Tid]) -> Result<RawEvent, LineFault>
+    ensures read { IfOk result (λ event. (groups : List Group) × (found : List ℕ) × IsOctets octets.now groups
+        × (octets_of ids.now groups ≡ Some found) × (raw_event event ≡ RawFrame from found)) }
+    ensures lacks { result ≡ Err LineFault.Bad → (groups : List Group) → IsOctets octets.now groups
+        → are_known (length ids.now) groups ≡ false }
+{
     match read_octets(alloc, octets, ids) {
         Ok(Some(octets)) => Ok(RawEvent::Frame { from, octets }),
         Ok(None) => Err(LineFault::Bad),
@@ -88,25 +137,44 @@ fn frame(alloc: Global, from: Peer, octets: &[u8], ids: &[Tid]) -> Result<RawEve
 }
 
 /// A clock value is one event for each shard.
-fn set_clocks(engine: &mut Engine, now: u64, sent: &mut Vec<Out>) -> Result<(), Fault> {
-    for shard in (0..SHARDS).filter_map(ShardNumber::new) {
+fn set_clocks(engine: &mut Engine, now: u64, sent: &mut Vec<Out>) -> Result<(), Fault>
+    ensures send { OnOk result (AllSend (progress engine.old sent.old.items)
+        (map (λ n. RawClock n now) (range_with_len 0 16)) (progress engine.new sent.new.items)) }
+    ensures refused { IfErr result (λ fault. fault ≡ Fault.Memory) }
+{
+    for number in 0..SHARDS {
+        let shard = ShardNumber::new(number).unwrap();
         handle(engine, RawEvent::Clock { shard, now }, sent)?;
     }
     Ok(())
 }
 
 /// An expiry is one event for each shard.
-fn expire(engine: &mut Engine, sent: &mut Vec<Out>) -> Result<(), Fault> {
-    for shard in (0..SHARDS).filter_map(ShardNumber::new) {
+fn expire(engine: &mut Engine, sent: &mut Vec<Out>) -> Result<(), Fault>
+    ensures send { OnOk result (AllSend (progress engine.old sent.old.items)
+        (map (λ n. RawExpire n) (range_with_len 0 16)) (progress engine.new sent.new.items)) }
+    ensures refused { IfErr result (λ fault. fault ≡ Fault.Memory) }
+{
+    for number in 0..SHARDS {
+        let shard = ShardNumber::new(number).unwrap();
         handle(engine, RawEvent::Expire { shard }, sent)?;
     }
     Ok(())
 }
 
 /// Handles one event, and puts the frames that it sends behind the others.
-fn handle(engine: &mut Engine, event: RawEvent, sent: &mut Vec<Out>) -> Result<(), Fault> {
-    for out in engine.handle(&event)? {
-        sent.push(out)?;
-    }
+fn handle(engine: &mut Engine, event: RawEvent, sent: &mut Vec<Out>) -> Result<(), Fault>
+    ensures sends { OnOk result
+        (Sends (progress engine.old sent.old.items) (raw_event event) (progress engine.new sent.new.items)) }
+    ensures refused { IfErr result (λ fault. fault ≡ Fault.Memory) }
+{
+    let outs = engine.handle(&event)?;
+    put_behind(sent, outs)?;
     Ok(())
+}
+
+fn put_behind(sent: &mut Vec<Out>, outs: Vec<Out>) -> Result<(), AllocError>
+    ensures { OnOk result (sent.new.items ≡ sent.old.items ++ outs.items) }
+{
+    sent.extend(outs)
 }

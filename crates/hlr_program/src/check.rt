@@ -1,9 +1,10 @@
-//! What is checked of a script before it runs, and of a batch before it begins.
+//! What is checked of a script before it runs, and of a batch where a line of it was not handled.
 
-ghost use Rattle.std.specs.Prelude.{◌≡◌, ℕ, Err, Ok, OnOk, true, false, codes};
+ghost use Rattle.std.specs.Prelude.{◌≡◌, ℕ, Err, Ok, IfErr, OnOk, true, false, codes};
 ghost use Rattle.std.specs.List.{AllByRecursion};
 ghost use Rattle.records.specs.File.{lines};
 ghost use Rattle.records.specs.Reading.{is_text};
+ghost use Rattle.hlr_program.specs.Statuses.{IsScriptFault};
 ghost use Rattle.hlr_program.specs.Batches.{IsGood, IsBad, HasIds, LacksId, IsFirst, batch_of};
 
 use crate::fault::Fault;
@@ -17,6 +18,7 @@ use std::alloc::{AllocError, Global};
 pub fn check_script(alloc: Global, text: &[u8]) -> Result<(), Fault>
     ensures good { OnOk result (AllByRecursion IsGood (lines text.now)) }
     ensures bad { (n : ℕ) → result ≡ Err (Fault.BadLine n) → IsFirst IsGood IsBad (lines text.now) 0 n }
+    ensures of_script { IfErr result IsScriptFault }
 {
     let mut place = Place::new(text);
     'lines: while let Some((line, behind)) = place.next() {
@@ -33,6 +35,7 @@ pub fn check_letters(alloc: Global, from: Place, known: usize) -> Result<(), Fau
     ensures known { OnOk result (AllByRecursion (HasIds known) (batch_of (lines from.entry.rest.now))) }
     ensures unknown { (n : ℕ) → result ≡ Err (Fault.BadLine n)
         → IsFirst (HasIds known) (LacksId known) (batch_of (lines from.entry.rest.now)) from.entry.before n }
+    ensures of_script { IfErr result IsScriptFault }
 {
     let mut place = from;
     'lines: while let Some((line, behind)) = place.next() {

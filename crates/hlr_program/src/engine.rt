@@ -1,9 +1,15 @@
 //! The register of a run: its shards, and the arena that frames are read in.
 
+ghost use Rattle.std.specs.Prelude.{◌≡◌, IfOk, OnErr, map};
+ghost use Rattle.hlrcore.specs.Events.{raw_event};
+ghost use Rattle.hlrcore.specs.Serving.{raw_out};
+ghost use Rattle.hlr_program.specs.Engine.{BeginsWith, Handles, opening_shards};
+
 use bumpalo::Bump;
 use hlrcore::{Event, EventFault, Out, RawEvent, State, StepFault, route};
 use records::{Directory, Loaded};
 use std::alloc::{AllocError, Global};
+use std::marker::Model;
 use std::sync::Arc;
 
 /// How many shards the register has (profile).
@@ -17,12 +23,22 @@ pub enum EngineFault {
 }
 
 impl From<AllocError> for EngineFault {
+    ghost use Rattle.std.specs.Prelude.{◌≡◌};
+    ghost use Rattle.hlr_program.specs.declared.engine.EngineFault.TheVariants.{Memory};
+
+    ghost from_gives = { λ _ fault. fault ≡ Memory };
+
     fn from(_: AllocError) -> EngineFault {
         EngineFault::Memory
     }
 }
 
 impl From<EventFault> for EngineFault {
+    ghost use Rattle.std.specs.Prelude.{◌≡◌};
+    ghost use Rattle.hlr_program.specs.declared.engine.EngineFault.TheVariants.{Memory};
+
+    ghost from_gives = { λ _ fault. fault ≡ Memory };
+
     fn from(_: EventFault) -> EngineFault {
         EngineFault::Memory
     }
@@ -37,33 +53,65 @@ pub struct Engine {
     shards: Vec<State>,
 }
 
+impl Model for Engine {
+    ghost use Rattle.std.specs.Arc.{arc_value};
+    ghost use Rattle.hlr_program.specs.Engine.{EngineState, engine_state_code, engine_of_fields, AreShards};
+
+    ghost Value = { EngineState };
+
+    ghost coded = { engine_state_code };
+
+    ghost view = { λ e. engine_of_fields (arc_value e.directory) e.shards.items };
+
+    ghost invariant = { λ e. AreShards (arc_value e.directory) e.shards.items };
+}
+
 impl Engine {
     /// The register of a records file, with no open dialogue.
-    pub fn new(alloc: Global, loaded: &Loaded) -> Result<Engine, AllocError> {
-        let mut shards = Vec::with_capacity(alloc, usize::from(SHARDS))?;
-        for shard in 0..SHARDS {
-            shards.push(State::new(alloc, shard, loaded)?)?;
-        }
+    pub fn new(alloc: Global, loaded: Loaded) -> Result<Engine, AllocError>
+        ensures { IfOk result (BeginsWith loaded) }
+    {
+        let directory = loaded.shared_directory()?;
+        let shards = opening_shards(alloc, loaded)?;
         Ok(Engine {
             alloc,
             bump: Bump::new(alloc),
-            directory: loaded.shared_directory()?,
+            directory,
             shards,
         })
     }
 
-    /// Handles an event, and gives the frames that it sends, in their order.
-    pub fn handle(&mut self, raw: &RawEvent) -> Result<Vec<Out>, EngineFault> {
+    /// Handles an event, and gives the frames that it sends, in their order. Where memory is refused nothing has changed.
+    pub fn handle(&mut self, raw: &RawEvent) -> Result<Vec<Out>, EngineFault>
+        // The shard that the event is for takes it, and the others are as they were.
+        ensures handles { IfOk result (λ outs. Handles self.old (raw_event raw.now) (map raw_out outs.items) self.new) }
+        ensures err { OnErr result (self.new ≡ self.old) }
+    {
         let event = Event::of(self.alloc, &mut self.bump, raw)?;
-        let shard = route(&self.directory, &event);
-        let Some(state) = self.shards.get_mut(usize::from(shard)) else {
-            return Ok(Vec::new(self.alloc));
-        };
+        let shard = usize::from(route(&self.directory, &event));
+        let state = &mut self.shards[shard];
         match state.step(&event) {
             Ok(answer) => Ok(answer.outs),
-            // the shard was asked for by the same route
-            Err(StepFault::NotMine) => Ok(Vec::new(self.alloc)),
+            // the shard was found by the same route
+            Err(StepFault::NotMine) => unreachable!(),
             Err(StepFault::Memory) => Err(EngineFault::Memory),
         }
     }
+}
+
+/// The shards as they are when the records are loaded. No record is copied.
+fn opening_shards(alloc: Global, loaded: Loaded) -> Result<Vec<State>, AllocError>
+    ensures { IfOk result (λ shards. shards.items ≡ opening_shards loaded) }
+{
+    let directory = loaded.shared_directory()?;
+    let hlr = *loaded.hlr();
+    let parts = loaded.into_parts()?;
+    let mut shards = Vec::with_capacity(alloc, usize::from(SHARDS))?;
+    let mut shard = 0;
+    for records in parts {
+        let directory = Arc::try_clone(&directory)?;
+        shards.push(State::of_part(alloc, shard, records, directory, hlr))?;
+        shard += 1;
+    }
+    Ok(shards)
 }

@@ -36,7 +36,7 @@ pub enum Fault {
 
 impl Fault {
     ghost use Rattle.std.specs.Prelude.{◌≡◌};
-    ghost use Rattle.hlr_program.specs.Statuses.{status_of, fault_at};
+    ghost use Rattle.hlr_program.specs.Statuses.{IsScriptFault, status_of, fault_at};
 
     /// The status that the program ends with.
     pub fn status(self) -> u8
@@ -51,7 +51,8 @@ impl Fault {
 
     /// Why a line of the script with this number was not read.
     pub fn at_line(fault: LineFault, number: u64) -> Fault
-        ensures { result ≡ fault_at fault number }
+        ensures value { result ≡ fault_at fault number }
+        ensures of_script { IsScriptFault result }
     {
         match fault {
             LineFault::Bad => Fault::BadLine(number),
@@ -61,12 +62,22 @@ impl Fault {
 }
 
 impl From<AllocError> for Fault {
+    ghost use Rattle.std.specs.Prelude.{◌≡◌};
+    ghost use Rattle.hlr_program.specs.declared.fault.Fault.TheVariants.{Memory};
+
+    ghost from_gives = { λ _ fault. fault ≡ Memory };
+
     fn from(_: AllocError) -> Fault {
         Fault::Memory
     }
 }
 
 impl<T: Drop> From<AllocFailed<T>> for Fault {
+    ghost use Rattle.std.specs.Prelude.{◌≡◌};
+    ghost use Rattle.hlr_program.specs.declared.fault.Fault.TheVariants.{Memory};
+
+    ghost from_gives = { λ _ fault. fault ≡ Memory };
+
     fn from(_: AllocFailed<T>) -> Fault {
         Fault::Memory
     }
@@ -92,6 +103,11 @@ impl From<RecordsFault> for Fault {
 }
 
 impl From<EngineFault> for Fault {
+    ghost use Rattle.std.specs.Prelude.{◌≡◌};
+    ghost use Rattle.hlr_program.specs.declared.fault.Fault.TheVariants.{Memory};
+
+    ghost from_gives = { λ _ fault. fault ≡ Memory };
+
     fn from(fault: EngineFault) -> Fault {
         match fault {
             EngineFault::Memory => Fault::Memory,

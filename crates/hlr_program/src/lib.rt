@@ -4,7 +4,6 @@
 
 mod batch;
 mod check;
-mod cut;
 mod engine;
 mod fault;
 mod group;

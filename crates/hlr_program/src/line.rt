@@ -9,12 +9,12 @@ ghost use Rattle.hlr_program.specs.Reading.{Reads, says_word, says_two, says_thr
 ghost use Rattle.records.specs.Reading.{imsi_in};
 ghost use Rattle.hlr_program.specs.declared.item.LineFault.TheVariants.{Bad, Memory};
 
-use crate::cut::cut;
 use crate::item::{Item, LineFault};
 use crate::octets::are_octets;
 use crate::ticks::ticks;
 use hlr_types::{Digits, Imsi, Peer};
 use hlrcore::Codes;
+use records::cut;
 use std::alloc::Global;
 
 /// Reads a line, which has its fields with one space between them:

@@ -3,7 +3,7 @@
 ghost use Rattle.std.specs.Prelude.{◌≡◌, ◌<◌, ◌+◌, ◌^◌, ◌∷◌, [], length, IsNone, IfSome, ◌↔◌};
 ghost use Rattle.records.specs.File.{lines};
 
-use crate::cut::first_line;
+use records::first_line;
 
 /// A place in a script: the lines from there on, and how many stand before.
 #[derive(Clone, Copy)]

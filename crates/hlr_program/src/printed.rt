@@ -1,6 +1,7 @@
 //! The lines that are printed.
 
-ghost use Rattle.std.specs.Prelude.{◌≡◌, ◌<◌, ◌++◌, ◌∷◌, [], slice_index, OnOk};
+ghost use Rattle.std.specs.Prelude.{◌≡◌, ◌<◌, ◌++◌, ◌∷◌, [], map, slice_index, OnOk};
+ghost use Rattle.hlrcore.specs.Serving.{raw_out};
 ghost use Rattle.hex.specs.Hex.{upper_digits, encode_upper};
 ghost use Rattle.std.specs.Io.KnownBytes.{Appends};
 ghost use Rattle.hlr_program.specs.Printed.{sent_line, sent_lines, noted_in};
@@ -21,8 +22,8 @@ pub fn print_sent<W: Write>(
     letters: &mut Letters,
     out: &mut W,
 ) -> Result<(), Fault>
-    ensures printed { OnOk result (Appends (W.contents out.old) (W.contents out.new) (sent_lines sent.now)) }
-    ensures noted { OnOk result (letters.new ≡ noted_in letters.old sent.now) }
+    ensures printed { OnOk result (Appends (W.contents out.old) (W.contents out.new) (sent_lines (map raw_out sent.now))) }
+    ensures noted { OnOk result (letters.new ≡ noted_in letters.old (map raw_out sent.now)) }
 {
     let mut line = Vec::new(alloc);
     for frame in sent {

@@ -1,7 +1,14 @@
 //! A run of the program.
 
+ghost use Rattle.std.specs.Prelude.{◌≡◌, ℕ, List, [], IfOk, OnOk};
+ghost use Rattle.std.specs.List.{AllByRecursion};
+ghost use Rattle.std.specs.Io.KnownBytes.{Appends};
+ghost use Rattle.records.specs.File.{lines};
+ghost use Rattle.hlr_program.specs.Batches.{IsGood, batches_of};
+ghost use Rattle.hlr_program.specs.Runs.{BatchesPrint};
+
 use crate::batch::handle_batch;
-use crate::check::{check_letters, check_script};
+use crate::check::check_script;
 use crate::engine::Engine;
 use crate::fault::Fault;
 use crate::input::{InputFault, read_all};
@@ -47,7 +54,7 @@ fn serve<A: Read, B: Read, W: Write>(
     }
     let loaded = load(alloc, records)?;
     let script = read_script(alloc, script)?;
-    let mut engine = Engine::new(alloc, &loaded)?;
+    let mut engine = Engine::new(alloc, loaded)?;
     let ran = run(alloc, &mut engine, &script, out);
     let flushed = out.flush();
     ran?;
@@ -64,7 +71,9 @@ fn load<R: Read>(alloc: Global, reader: &mut R) -> Result<Loaded, Fault> {
 }
 
 /// The script, each of its lines being of a form.
-fn read_script<R: Read>(alloc: Global, reader: &mut R) -> Result<Vec<u8>, Fault> {
+fn read_script<R: Read>(alloc: Global, reader: &mut R) -> Result<Vec<u8>, Fault>
+    ensures { IfOk result (λ script. AllByRecursion IsGood (lines script.items)) }
+{
     match read_all(alloc, reader) {
         Ok(text) => {
             check_script(alloc, &text)?;
@@ -81,11 +90,14 @@ fn run<W: Write>(
     engine: &mut Engine,
     script: &[u8],
     out: &mut W,
-) -> Result<(), Fault> {
+) -> Result<(), Fault>
+    requires { AllByRecursion IsGood (lines script.now) }
+    ensures { OnOk result ((printed : List ℕ) × BatchesPrint [] engine.old (batches_of (lines script.now)) printed engine.new
+        × Appends (W.contents out.old) (W.contents out.new) printed) }
+{
     let mut letters = Letters::new(alloc);
     let mut place = Place::new(script);
     'batches: while !place.rest.is_empty() {
-        check_letters(alloc, place, letters.ids().len())?;
         let mut sent = Vec::new(alloc);
         place = handle_batch(alloc, engine, place, letters.ids(), &mut sent)?;
         print_sent(alloc, &sent, &mut letters, out)?;

@@ -3,3 +3,4 @@ pub mod Taken
 pub mod Shards
 pub mod Serving
 pub mod Begun
+pub mod SameShard

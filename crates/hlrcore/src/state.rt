@@ -4,7 +4,8 @@ ghost use Rattle.std.specs.Prelude.{◌≡◌, ◌<◌, IfOk};
 ghost use Rattle.std.specs.Arc.{arc_value};
 ghost use Rattle.machine.specs.Opening.{opening};
 ghost use Rattle.machine.specs.Parts.{part};
-ghost use Rattle.hlrcore.specs.Shards.{state_of, records_of, directory_of};
+ghost use Rattle.records.specs.Maps.{RecordMap, part_of};
+ghost use Rattle.hlrcore.specs.Shards.{shard_of_fields, state_of, records_of, directory_of};
 
 use hlr_types::IsdnAddress;
 use records::{Directory, Loaded, Records};
@@ -39,20 +40,41 @@ impl Model for State {
 
 impl State {
     /// A shard's part of what a records file says: its records, no dialogue, and its clock at 0.
-    #[tactic(auto, using(crate::proofs::OpeningLemmas::opens_part))]
     pub fn new(alloc: Global, shard: u8, loaded: &Loaded) -> Result<State, AllocError>
         requires { shard < 16 }
-        ensures { IfOk result (λ state. state_of state
+        ensures fields { IfOk result (λ state. state
+            ≡ shard_of_fields shard 0 (part_of loaded.now.records shard) loaded.now.directory loaded.now.hlr) }
+        ensures part { IfOk result (λ state. state_of state
             ≡ part (opening (records_of loaded.now.records) (directory_of loaded.now.directory) loaded.now.hlr) shard) }
     {
-        Ok(State {
+        let records = loaded.part(shard)?;
+        let directory = loaded.shared_directory()?;
+        Ok(State::of_part(alloc, shard, records, directory, *loaded.hlr()))
+    }
+
+    /// The same of records that are the shard's part already, with the directory and the register's number that all shards
+    /// share. Takes no memory.
+    #[tactic(auto, using(crate::proofs::OpeningLemmas::opens_part))]
+    pub fn of_part(
+        alloc: Global,
+        shard: u8,
+        records: Records,
+        directory: Arc<Directory>,
+        hlr: IsdnAddress,
+    ) -> State
+        requires { shard < 16 }
+        ensures fields { result ≡ shard_of_fields shard 0 records (arc_value directory) hlr }
+        ensures part { (all : RecordMap) → records ≡ part_of all shard
+            → state_of result ≡ part (opening (records_of all) (directory_of (arc_value directory)) hlr) shard }
+    {
+        State {
             alloc,
             shard,
             clock: 0,
-            records: loaded.part(shard)?,
-            directory: loaded.shared_directory()?,
-            hlr: *loaded.hlr(),
-        })
+            records,
+            directory,
+            hlr,
+        }
     }
 
     /// The records of the shard.

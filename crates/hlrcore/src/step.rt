@@ -17,6 +17,7 @@ ghost use Rattle.records.specs.Subscriber.{Subscriber, placed};
 ghost use Rattle.hlrcore.specs.Begun.{IsBeginOf};
 ghost use Rattle.hlrcore.specs.Events.{event_of, raw_of};
 ghost use Rattle.hlrcore.specs.Shards.{state_of, directory_of, record_at};
+ghost use Rattle.hlrcore.specs.SameShard.{IsSameShard};
 ghost use Rattle.hlrcore.specs.Serving.{IsSilent, IsMine, IsHeard, IsPlan, IsPlanned, HasRegisterAt, Says, is_served, entry_of, raw_out};
 
 use crate::answer::{Out, StepAnswer, StepFault};
@@ -59,6 +60,7 @@ impl State {
         ensures not_mine { (result ≡ Err StepFault.NotMine)
             ↔ (route (directory_of self.old.directory) (event_of event.now) ≢ self.old.shard) }
         ensures err { OnErr result (self.new ≡ self.old) }
+        ensures same_shard { IsSameShard self.old self.new }
     {
         if route(&self.directory, event) != self.shard {
             return Err(StepFault::NotMine);
@@ -88,6 +90,7 @@ impl State {
         requires { IsMine self.old (machine.Frame indication.now.from indication.now.verdict) }
         ensures heard { IfOk result (λ a. IsHeard self.old indication.now a self.new) }
         ensures err { OnErr result (self.new ≡ self.old) }
+        ensures same_shard { IsSameShard self.old self.new }
     {
         match indication.verdict() {
             Verdict::Discard => Ok(silent(self.alloc)),
@@ -109,6 +112,7 @@ impl State {
         requires judged { IsVerdict indication.now.octets indication.now.verdict }
         ensures heard { IfOk result (λ a. IsHeard self.old indication.now a self.new) }
         ensures err { OnErr result (self.new ≡ self.old) }
+        ensures same_shard { IsSameShard self.old self.new }
     {
         match message {
             Message::Begin {
@@ -137,6 +141,7 @@ impl State {
         requires judged { IsVerdict indication.now.octets indication.now.verdict }
         ensures heard { IfOk result (λ a. IsHeard self.old indication.now a self.new) }
         ensures err { OnErr result (self.new ≡ self.old) }
+        ensures same_shard { IsSameShard self.old self.new }
     {
         let plan = self.plan(indication, origin, components)?;
         if let Some(imsi) = plan.purged {
@@ -179,8 +184,9 @@ impl State {
     /// The serving register has purged the subscriber.
     fn purge(&mut self, imsi: &Imsi)
         requires { HasRegisterAt self.old.records imsi.now }
-        ensures { (s : Subscriber) → finite.get self.old.records imsi.now ≡ Some s
+        ensures purged { (s : Subscriber) → finite.get self.old.records imsi.now ≡ Some s
             → self.new ≡ record self.old { records = finite.insert self.old.records imsi.now (placed s s.register true s.current) } }
+        ensures same_shard { IsSameShard self.old self.new }
     {
         let Some(found) = self.records.get(imsi) else {
             return;

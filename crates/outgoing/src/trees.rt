@@ -32,7 +32,7 @@ fn invoke(alloc: Global, id: i8, operation: u8, parameter: OwnTree) -> Result<Ow
         operation,
         parameter,
     };
-    q773_comp::component_tree(alloc, &out)
+    out.into_tree(alloc)
 }
 
 fn result_last(alloc: Global, id: i8, operation: u8, parameter: OwnTree) -> Result<OwnTree, Memory>
@@ -43,7 +43,7 @@ fn result_last(alloc: Global, id: i8, operation: u8, parameter: OwnTree) -> Resu
         operation,
         parameter,
     };
-    q773_comp::component_tree(alloc, &out)
+    out.into_tree(alloc)
 }
 
 fn purged(alloc: Global, id: i8, freeze: bool) -> Result<OwnTree, Memory>
@@ -52,7 +52,7 @@ fn purged(alloc: Global, id: i8, freeze: bool) -> Result<OwnTree, Memory>
     if freeze {
         result_last(alloc, id, PURGE_MS, purge_result(alloc)?)
     } else {
-        q773_comp::component_tree(alloc, &OutComponent::EmptyResult { id })
+        OutComponent::EmptyResult { id }.into_tree(alloc)
     }
 }
 
@@ -74,7 +74,7 @@ fn return_error(alloc: Global, id: i8, code: u8) -> Result<OwnTree, Memory>
         error: code,
         parameter: error_parameter(alloc, code)?,
     };
-    q773_comp::component_tree(alloc, &out)
+    out.into_tree(alloc)
 }
 
 /// One component.
@@ -173,7 +173,7 @@ pub(crate) fn reject_trees(alloc: Global, rejects: &[Rejection]) -> Result<Vec<O
 {
     let mut trees = Vec::with_capacity(alloc, rejects.len())?;
     for reject in rejects {
-        trees.push(q773_comp::component_tree(alloc, &OutComponent::Reject(*reject))?)?;
+        trees.push(OutComponent::Reject(*reject).into_tree(alloc)?)?;
     }
     Ok(trees)
 }

@@ -81,21 +81,21 @@ fn problem_tag(of: Side) -> Tag
     }
 }
 
-fn invoke_tree(alloc: Global, id: i8, operation: u8, parameter: &OwnTree) -> Result<OwnTree, Memory>
-    ensures { IfOk result (λ made. own made ≡ invoke_tree id operation (own parameter.now)) }
+fn invoke_tree(alloc: Global, id: i8, operation: u8, parameter: OwnTree) -> Result<OwnTree, Memory>
+    ensures { IfOk result (λ made. own made ≡ invoke_tree id operation (own parameter)) }
 {
     let parts = vec![in alloc;
         id_tree(alloc, id)?,
         code_tree(alloc, operation)?,
-        parameter.try_copy(alloc)?,
+        parameter,
     ]?;
     Ok(OwnTree::constructed(INVOKE, parts))
 }
 
-fn result_tree(alloc: Global, id: i8, operation: u8, parameter: &OwnTree) -> Result<OwnTree, Memory>
-    ensures { IfOk result (λ made. own made ≡ result_tree id operation (own parameter.now)) }
+fn result_tree(alloc: Global, id: i8, operation: u8, parameter: OwnTree) -> Result<OwnTree, Memory>
+    ensures { IfOk result (λ made. own made ≡ result_tree id operation (own parameter)) }
 {
-    let outcome = vec![in alloc; code_tree(alloc, operation)?, parameter.try_copy(alloc)?]?;
+    let outcome = vec![in alloc; code_tree(alloc, operation)?, parameter]?;
     let parts = vec![in alloc;
         id_tree(alloc, id)?,
         OwnTree::constructed(SEQUENCE, outcome),
@@ -107,13 +107,13 @@ fn error_tree(
     alloc: Global,
     id: i8,
     error: u8,
-    parameter: Option<&OwnTree>,
+    parameter: Option<OwnTree>,
 ) -> Result<OwnTree, Memory>
-    ensures { IfOk result (λ made. own made ≡ error_tree id error (option_map (λ p. own p.now) parameter.entry)) }
+    ensures { IfOk result (λ made. own made ≡ error_tree id error (option_map own parameter)) }
 {
     let mut parts = vec![in alloc; id_tree(alloc, id)?, code_tree(alloc, error)?]?;
     if let Some(parameter) = parameter {
-        parts.push(parameter.try_copy(alloc)?)?;
+        parts.push(parameter)?;
     }
     Ok(OwnTree::constructed(RETURN_ERROR, parts))
 }
@@ -129,29 +129,85 @@ fn reject_tree(alloc: Global, reject: Rejection) -> Result<OwnTree, Memory>
     Ok(OwnTree::constructed(REJECT, parts))
 }
 
-/// The tree of a component that is sent. Its parameter is copied.
+/// A parameter with the same tree, if there is one.
+fn copied(alloc: Global, parameter: Option<&OwnTree>) -> Result<Option<OwnTree>, Memory>
+    ensures { IfOk result (λ copy. option_map own copy ≡ option_map (λ p. own p.now) parameter.entry) }
+{
+    match parameter {
+        Some(parameter) => Ok(Some(parameter.try_copy(alloc)?)),
+        None => Ok(None),
+    }
+}
+
+impl OutComponent {
+    /// A component with the same tree.
+    fn try_copy(&self, alloc: Global) -> Result<OutComponent, Memory>
+        ensures { IfOk result (λ copy. out_tree copy ≡ out_tree self.now) }
+    {
+        Ok(match self {
+            OutComponent::Invoke {
+                id,
+                operation,
+                parameter,
+            } => OutComponent::Invoke {
+                id: *id,
+                operation: *operation,
+                parameter: parameter.try_copy(alloc)?,
+            },
+            OutComponent::ResultLast {
+                id,
+                operation,
+                parameter,
+            } => OutComponent::ResultLast {
+                id: *id,
+                operation: *operation,
+                parameter: parameter.try_copy(alloc)?,
+            },
+            OutComponent::EmptyResult { id } => OutComponent::EmptyResult { id: *id },
+            OutComponent::ReturnError {
+                id,
+                error,
+                parameter,
+            } => OutComponent::ReturnError {
+                id: *id,
+                error: *error,
+                parameter: copied(alloc, parameter.as_ref())?,
+            },
+            OutComponent::Reject(reject) => OutComponent::Reject(*reject),
+        })
+    }
+
+    /// The tree of a component that is sent, made of it.
+    pub fn into_tree(self, alloc: Global) -> Result<OwnTree, Memory>
+        ensures { IfOk result (λ made. own made ≡ out_tree self) }
+    {
+        match self {
+            OutComponent::Invoke {
+                id,
+                operation,
+                parameter,
+            } => invoke_tree(alloc, id, operation, parameter),
+            OutComponent::ResultLast {
+                id,
+                operation,
+                parameter,
+            } => result_tree(alloc, id, operation, parameter),
+            OutComponent::EmptyResult { id } => {
+                OwnTree::around(alloc, RESULT_LAST, id_tree(alloc, id)?)
+            }
+            OutComponent::ReturnError {
+                id,
+                error,
+                parameter,
+            } => error_tree(alloc, id, error, parameter),
+            OutComponent::Reject(reject) => reject_tree(alloc, reject),
+        }
+    }
+}
+
+/// The tree of a component that is sent, which stays as it is: its parameter is copied.
 pub fn component_tree(alloc: Global, component: &OutComponent) -> Result<OwnTree, Memory>
     ensures { IfOk result (λ made. own made ≡ out_tree component.now) }
 {
-    match component {
-        OutComponent::Invoke {
-            id,
-            operation,
-            parameter,
-        } => invoke_tree(alloc, *id, *operation, parameter),
-        OutComponent::ResultLast {
-            id,
-            operation,
-            parameter,
-        } => result_tree(alloc, *id, *operation, parameter),
-        OutComponent::EmptyResult { id } => {
-            OwnTree::around(alloc, RESULT_LAST, id_tree(alloc, *id)?)
-        }
-        OutComponent::ReturnError {
-            id,
-            error,
-            parameter,
-        } => error_tree(alloc, *id, *error, parameter.as_ref()),
-        OutComponent::Reject(reject) => reject_tree(alloc, *reject),
-    }
+    component.try_copy(alloc)?.into_tree(alloc)
 }

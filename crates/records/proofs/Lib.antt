@@ -15,3 +15,4 @@ pub mod LoadLemmas
 pub mod Readings
 pub mod WrittenLemmas
 pub mod SavedLaws
+pub mod SplitLemmas

@@ -40,7 +40,7 @@ front_all P [] y h = (tt, h.0)
 front_all P (x ∷ xs) y h = let r = front_all P xs y h.1 in ((h.0, r.0), r.1)
 
 module _ (p : List ℕ → Bool) (all rest : Entries) (part : RecordMap) (at : IsPart p all rest part) (left : Entries) (imsi : List ℕ) (s : Subscriber) (is : rest ≡ left ++ (imsi, s) ∷ []) where
-  own_parts : AllByRecursion (λ e. e.1.imsi ≡ e.0) left × (s.imsi ≡ imsi)
+  pub own_parts : AllByRecursion (λ e. e.1.imsi ≡ e.0) left × (s.imsi ≡ imsi)
   own_parts = front_all (λ e. e.1.imsi ≡ e.0) left (imsi, s) (subst (λ (es : Entries). AllByRecursion (λ e. e.1.imsi ≡ e.0) es) is at.own)
 
   regroup : left ++ (imsi, s) ∷ at.taken ≡ all

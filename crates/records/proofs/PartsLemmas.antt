@@ -2,7 +2,8 @@
 use Rattle.std.proofs.Common.{◌≡◌, ℕ, zero, suc, ◌+◌, ◌<◌, true, List, [], ◌∷◌, length, get_or, take, drop, refl, sym, ap, ◌∙◌, arith, add-one}
 use Rattle.std.specs.Prelude.{◌==◌}
 use Rattle.std.specs.List.{onto_first, count_by, list_any}
-use Rattle.std.proofs.lemmas.Bool.{eq-eqb, ne_eqb}
+use Rattle.std.proofs.lemmas.Bool.{eq-eqb, eqb-true, ne_eqb}
+use Rattle.memchr.specs.Find.{IsFirstByte, is_byte}
 use Rattle.std.proofs.lemmas.List.Splits.{slice_split-cons_yes, slice_split-cons_no, length-slice_split}
 use Rattle.std.specs.Prelude.{None, Some, Option}
 use Rattle.records.specs.declared.version.Version.TheVariants.{One, Two}
@@ -25,6 +26,14 @@ pub parts_none : (at : ℕ) (text : List ℕ) → ((k : ℕ) → k < length text
 parts_none at [] none = refl
 parts_none at (x ∷ xs) none =
     slice_split-cons_no (λ b. b == at) x xs (ne_eqb x at (none 0 (omega arith))) ∙ ap (onto_first x) (parts_none at xs (λ k l. none (suc k) (omega arith)))
+
+-- the same of the first place that a search finds
+pub parts_found : (at : ℕ) (text : List ℕ) (i : ℕ) → IsFirstByte (is_byte at) text (Some i) → parts at text ≡ take i text ∷ parts at (drop (i + 1) text)
+parts_found at text i (none, here) =
+    parts_at at text i none.high (λ k l e. none.before k (omega arith) l (eq-eqb (get_or text k 0) at e)) (eqb-true (get_or text i 0) at here)
+
+pub parts_missing : (at : ℕ) (text : List ℕ) → IsFirstByte (is_byte at) text None → parts at text ≡ text ∷ []
+parts_missing at text none = parts_none at text (λ k l e. none k (omega arith) l (eq-eqb (get_or text k 0) at e))
 
 -- there is always a part
 pub parts_cons : (at : ℕ) (text : List ℕ) → (x : List ℕ) × (xs : List (List ℕ)) × (parts at text ≡ x ∷ xs)

@@ -7,3 +7,4 @@ pub mod File
 pub mod Loaded
 pub mod Reading
 pub mod Written
+pub mod Parts

@@ -7,7 +7,7 @@ ghost use Rattle.records.specs.Spelling.{IsCodes};
 ghost use Rattle.records.specs.Subscriber.{AreAllowed};
 ghost use Rattle.records.specs.Reading.{octet_in, codes_in, codes_after};
 
-use crate::cut::cut;
+use crate::pieces::cut;
 use hex::FromHex;
 use std::alloc::{AllocError, Global};
 

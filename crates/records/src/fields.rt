@@ -5,7 +5,7 @@ ghost use Rattle.records.specs.File.{parts};
 ghost use Rattle.records.specs.Roam.{prefixes_of};
 ghost use Rattle.records.specs.Reading.{imsi_in, lmsi_in, purged_in, withdrawn_in, register_of, register_in, roam_in, prefixes_after};
 
-use crate::cut::cut;
+use crate::pieces::cut;
 use crate::roam::Roam;
 use hex::FromHex;
 use hlr_types::{Digits, Imsi, IsdnAddress, Lmsi, Register};

@@ -5,7 +5,6 @@
 #![tactic(auto)]
 
 mod codes;
-mod cut;
 mod directory;
 mod fault;
 mod fields;
@@ -13,6 +12,7 @@ mod line;
 mod load;
 mod loaded;
 mod numbers;
+mod pieces;
 mod push;
 mod record;
 mod records;
@@ -26,6 +26,7 @@ pub use directory::Directory;
 pub use fault::RecordsFault;
 pub use load::read_records;
 pub use loaded::Loaded;
+pub use pieces::{cut, first_line};
 pub use record::Record;
 pub use records::Records;
 pub use roam::Roam;

@@ -5,9 +5,9 @@ ghost use Rattle.records.specs.File.{parts};
 ghost use Rattle.records.specs.Reading.{record_of, subscriber_of, version_in, header_in};
 
 use crate::codes::codes_field;
-use crate::cut::cut;
 use crate::fields::{imsi_field, register_field, roam_field, withdrawn_field};
 use crate::numbers::{are_octets, register_numbers};
+use crate::pieces::cut;
 use crate::record::Record;
 use crate::version::Version;
 use hlr_types::{Digits, IsdnAddress, Register};

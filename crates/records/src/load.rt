@@ -5,10 +5,10 @@ ghost use Rattle.records.specs.File.{lines, Contents, File, IsBadLine, IsTwice};
 ghost use Rattle.records.specs.Loaded.{loaded_from};
 ghost use Rattle.records.specs.Reading.{contents_of, below_header, Answers};
 
-use crate::cut::first_line;
 use crate::fault::RecordsFault;
 use crate::line::{read_header, read_record};
 use crate::loaded::{Loaded, Loading};
+use crate::pieces::first_line;
 use crate::version::Version;
 use hlr_types::IsdnAddress;
 use std::alloc::Global;

@@ -33,6 +33,7 @@ impl Model for Loaded {
 
 impl Loaded {
     ghost use Rattle.records.specs.Maps.{part_of};
+    ghost use Rattle.records.specs.Parts.{AreParts};
 
     /// The number of the register.
     pub fn hlr(&self) -> &IsdnAddress
@@ -61,6 +62,13 @@ impl Loaded {
         ensures { IfOk result (λ part. part ≡ part_of self.now.records shard) }
     {
         self.records.part(shard)
+    }
+
+    /// The records of each shard, at the place of its number. No record is copied, and what was loaded is given up.
+    pub fn into_parts(self) -> Result<Vec<Records>, AllocError>
+        ensures { IfOk result (λ parts. AreParts self.records parts.items) }
+    {
+        self.records.into_parts()
     }
 }
 

@@ -1,9 +1,10 @@
 //! The subscribers of a shard.
 
-ghost use Rattle.std.specs.Prelude.{◌≡◌, ◌<◌, IsSome, IfSome, IfOk, OnOk, OnErr, option_copied, map as each};
+ghost use Rattle.std.specs.Prelude.{◌≡◌, ◌<◌, IsSome, IfSome, IfOk, OnOk, OnErr, option_copied, map as each, length, replicate};
 ghost use Rattle.std.specs.FinMap as map;
 ghost use Rattle.std.specs.BTreeMap.{values, IsOrdered};
 ghost use Rattle.records.specs.Maps.{digits_cmp};
+ghost use Rattle.records.specs.Parts.{AreParts, with_one};
 
 use crate::record::Record;
 use crate::shard::shard_of;
@@ -125,6 +126,19 @@ impl Records {
         Ok(part)
     }
 
+    /// The records of each shard, none of them copied.
+    pub(crate) fn into_parts(self) -> Result<Vec<Records>, AllocError>
+        ensures { IfOk result (λ parts. AreParts self parts.items) }
+    {
+        let mut parts = no_records(self.alloc)?;
+        let mut rest = self.by_imsi;
+        let _ordered = rest.len();
+        while let Some((_, found)) = rest.pop_last() {
+            add_to_own(&mut parts, found)?;
+        }
+        Ok(parts)
+    }
+
     /// An equal value.
     pub fn try_copy(&self) -> Result<Records, AllocError>
         ensures { IfOk result (λ copy. copy ≡ self.now) }
@@ -134,6 +148,26 @@ impl Records {
             by_imsi: self.by_imsi.clone()?,
         })
     }
+}
+
+/// No record, for each shard.
+fn no_records(alloc: Global) -> Result<Vec<Records>, AllocError>
+    ensures { IfOk result (λ parts. parts.items ≡ replicate 16 map.empty) }
+{
+    let mut parts = Vec::with_capacity(alloc, 16)?;
+    for _ in 0..16u8 {
+        parts.push(Records::new(alloc))?;
+    }
+    Ok(parts)
+}
+
+/// Puts a record into the part of its shard.
+fn add_to_own(parts: &mut Vec<Records>, found: Record) -> Result<(), AllocError>
+    requires { length parts.old.items ≡ 16 }
+    ensures { OnOk result (parts.new.items ≡ with_one parts.old.items found) }
+{
+    let shard = usize::from(shard_of(&found.imsi));
+    parts[shard].add(found)
 }
 
 fn all(alloc: Global, map: &BTreeMap<Imsi, Record>) -> Result<Vec<&Record>, AllocError>

@@ -123,6 +123,13 @@ fn worked_third_record(rt: HostRuntime) -> Result<(), Fail> {
     assert_third(&rt, &part)
 }
 
+#[test]
+fn parts_of_all_shards(rt: HostRuntime) -> Result<(), Fail> {
+    let parts = read_records(rt.alloc(), WORKED)?.into_parts()?;
+    assert_eq!(rt; parts.len(), 16);
+    assert_third(&rt, &parts[3])
+}
+
 /// The only record of a file of version 2, and its LMSI in both cases.
 fn assert_only(rt: &impl Abort, part: &Records) -> Result<(), Fail> {
     let only = record_at(part, b"12345")?;

@@ -13,7 +13,7 @@ returns-clause-heard c = elim c.match-plan.branch [
       let after : purged_in c.args.self.now c.in_ok-plan.plan.purged ≡ c.match-plan.self =
       ap (purged_in c.args.self.now) w.in-Some.is
       ∙ ap (λ (o : Option Subscriber). record c.args.self.now { records = purged_at c.args.self.now.records w.in-Some.imsi o }) at
-      ∙ sym (w.purge.ensures r at) ∙ sym w.self-is in
+      ∙ sym (w.purge.ensures.purged r at) ∙ sym w.self-is in
       subst (IsHeard c.args.self.now c.args.indication.now c.in_ok-plan.plan.answer) after c.in_ok-plan.ensures.leads
   | in_default w ↦
       subst (IsHeard c.args.self.now c.args.indication.now c.in_ok-plan.plan.answer) (ap (purged_in c.args.self.now) w.in_default.is ∙ sym w.self-is) c.in_ok-plan.ensures.leads

@@ -1,0 +1,58 @@
+-- The open dialogues of a shard, as a finite map from local transaction ids.
+use Rattle.std.specs.Prelude.{◌≡◌, ℕ, ℤ, List, [], Option, Some, None, refl}
+use Rattle.std.specs.Coded.{Coded, code_by, coded×, coded_ℕ, coded_option}
+use Rattle.std.specs.FinMap as map
+use Rattle.hlr_types.specs.Orders.{octets_cmp}
+use Rattle.machine.specs.Effect.{invocations_after}
+use Rattle.machine.specs.Expiries.{without}
+use Rattle.machine.specs.Received.{ComponentOf}
+use Rattle.machine.specs.State.{Invocation, Dialogue, IsIdOf}
+use Rattle.tsl.specs.Transactions.{active}
+use Rattle.dialogues.specs.Codes.{coded_octets, coded_dialogue}
+
+-- The open dialogues of a shard by local id, and the id under which the next one opens, if there is room for one.
+pub record OpenDialogues : Type 0 where
+  pub shard : ℕ
+  pub next : Option (List ℕ)
+  pub open_ones : map.FinMap octets_cmp Dialogue
+
+abbrev pub open_dialogues_code : Coded OpenDialogues
+open_dialogues_code =
+    code_by (ℕ × (Option (List ℕ) × map.FinMap octets_cmp Dialogue))
+    (coded× coded_ℕ (coded× (coded_option coded_octets) (map.code coded_octets coded_dialogue)))
+    (λ d. (d.shard, (d.next, d.open_ones)))
+    (λ p. record { shard = p.0; next = p.1.0; open_ones = p.1.1 })
+    (λ _. refl)
+
+-- What is open at each local id.
+unfoldable pub dialogues_of : OpenDialogues → List ℕ → Option Dialogue
+dialogues_of d id = map.get d.open_ones id
+
+-- How many are open.
+abbrev pub count : OpenDialogues → ℕ
+count d = map.len d.open_ones
+
+-- The invocations of what is open at an id: none, where nothing is.
+abbrev pub invocations_in : Option Dialogue → List Invocation
+invocations_in None = []
+invocations_in (Some d) = d.invocations
+
+-- No dialogue is open, and the shard is this one.
+pub record IsFresh (n : ℕ) (d : OpenDialogues) : Type 0 where
+  pub of_shard : d.shard ≡ n
+  pub none_open : dialogues_of d ≡ (λ _. None)
+
+-- An id under which a dialogue may open: one of the shard, at which nothing is open.
+pub record IsNew (d : OpenDialogues) (id : List ℕ) : Type 0 where
+  pub of_shard : IsIdOf d.shard id
+  pub not_open : dialogues_of d id ≡ None
+
+-- A dialogue after a Continue: Active, with this peer and the peer's id, and its invocations as the components leave
+-- them.
+abbrev pub gone_on : {P : Type 0} → (peer remote : List ℕ) → (now : ℕ) → List (ComponentOf P) → Dialogue → Dialogue
+gone_on peer remote now components d =
+    record d { transaction = active peer remote; invocations = invocations_after now components d.invocations }
+
+-- A dialogue without the invocation of this id.
+abbrev pub forgotten : ℤ → Dialogue → Dialogue
+forgotten invoke d = record d { invocations = without invoke d.invocations }

@@ -1,0 +1,30 @@
+//! An open dialogue.
+
+ghost use Rattle.std.specs.Prelude.{◌≡◌};
+
+use crate::kind::Kind;
+use crate::talk::Talk;
+use hlr_types::Imsi;
+use tsl::Transaction;
+
+/// An open dialogue, but for its invocations.
+#[derive(Clone, Copy, Debug, PartialEq, Eq)]
+pub struct Dialogue {
+    pub subscriber: Imsi,
+    pub transaction: Transaction,
+    pub kind: Kind,
+}
+
+impl Dialogue {
+    ghost use Rattle.dialogues.specs.Joined.{talk_in};
+
+    /// Whom it is about and what it is for.
+    pub(crate) fn talk(&self) -> Talk
+        ensures { result ≡ talk_in self.now }
+    {
+        Talk {
+            subscriber: self.subscriber,
+            kind: self.kind,
+        }
+    }
+}

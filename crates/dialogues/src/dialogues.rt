@@ -1,0 +1,264 @@
+//! The open dialogues of a shard.
+
+ghost use Rattle.std.specs.Prelude.{◌≡◌, ◌≢◌, ◌<◌, ◌≤◌, ◌^◌, ◌-◌, ◌↔◌, ℕ, List, Some, None, IfOk, IfSome, IsNone, IsTrue, OnOk, OnErr, FitsSigned, map, option_map};
+ghost use Rattle.std.specs.Int.{w8};
+ghost use Rattle.std.specs.FinMap as finite;
+ghost use Rattle.machine.specs.Effect.{effect};
+ghost use Rattle.machine.specs.Keys.{put};
+ghost use Rattle.machine.specs.State.{State, IsFull, IsIdOf};
+ghost use Rattle.machine.specs.Turns.{Expiry};
+ghost use Rattle.tidalloc.specs.LiveIds.{next_use};
+ghost use Rattle.tsl.specs.Received.{destination_of};
+ghost use Rattle.csl.specs.Effects.{IsEffect, offered};
+ghost use Rattle.csl.specs.Seen.{heard, told_of};
+ghost use Rattle.csl.specs.Tables.{first_invoked};
+
+use crate::dialogue::Dialogue;
+use crate::parts::{begin, close, make_room, reserve, slot_of};
+use crate::talk::Talk;
+use csl::{Due, Effect, Invocations, Offer, Was};
+use hlr_types::{Peer, RemoteId, Tid};
+use q773_comp::Component;
+use std::alloc::{AllocError, Global};
+use std::marker::Model;
+use tsl::{Head, Received, Transactions};
+
+/// The open dialogues of a shard, at most 4,096: the transaction, the invocations, the subscriber and the kind of each.
+#[derive(Drop)]
+pub struct Dialogues {
+    transactions: Transactions,
+    invocations: Invocations,
+    /// Whom each is about and what it is for, by the slot of its id. What is left at the slot of one that closed means
+    /// nothing.
+    talks: Vec<Talk>,
+}
+
+impl Model for Dialogues {
+    ghost use Rattle.dialogues.specs.Dialogues.{OpenDialogues, open_dialogues_code};
+
+    ghost Value = { OpenDialogues };
+
+    ghost coded = { open_dialogues_code };
+
+    ghost use Rattle.dialogues.specs.Joined.{joined, AreTied};
+
+    ghost view = { λ a. joined a.transactions a.invocations a.talks.items };
+
+    ghost invariant = { λ a. AreTied a.transactions a.invocations a.talks.items };
+}
+
+impl Dialogues {
+    ghost use Rattle.dialogues.specs.Dialogues.{IsFresh, IsNew, count, dialogues_of, invocations_in, gone_on, forgotten};
+    ghost use Rattle.dialogues.specs.Expiring.{HasDialogues, expiry_turn};
+    ghost use Rattle.dialogues.specs.Looking.{looked};
+    ghost use Rattle.dialogues.specs.Seen.{dialogue_with};
+
+    /// No dialogue is open.
+    pub fn new(alloc: Global, shard: u8) -> Result<Self, AllocError>
+        requires { shard < 16 }
+        ensures { IfOk result (IsFresh shard) }
+    {
+        Ok(Dialogues {
+            transactions: Transactions::new(alloc, shard)?,
+            invocations: Invocations::new(alloc),
+            talks: Vec::new(alloc),
+        })
+    }
+
+    /// The dialogue that is open at this id, if one is.
+    pub fn get(&self, id: Tid) -> Option<Dialogue>
+        ensures { option_map (dialogue_with (invocations_in (dialogues_of self.now id))) result
+            ≡ dialogues_of self.now id }
+    {
+        let Some(transaction) = self.transactions.get(id) else {
+            return None;
+        };
+        let talk = self.talks[slot_of(id)];
+        Some(Dialogue {
+            subscriber: talk.subscriber,
+            transaction,
+            kind: talk.kind,
+        })
+    }
+
+    /// For whom a message is, wherever it comes from: a Continue for the dialogue of its destination id, where the
+    /// transaction table says that it is for it; an End or an Abort for the dialogue that is open at its destination id.
+    pub fn look(&self, head: &Head) -> Received
+        ensures { (from : List ℕ) → result ≡ looked from head.now (dialogues_of self.now (destination_of head.now)) }
+    {
+        self.transactions.look(head)
+    }
+
+    /// What received components do to the invocations of a dialogue. Changes nothing.
+    pub fn effect<P>(
+        &self,
+        id: Tid,
+        offer: &Offer,
+        components: &[Component<P>],
+        now: u64,
+    ) -> Result<Effect, AllocError>
+        requires { now ≤ 2 ^ 62 }
+        ensures { IfOk result (λ answer. IsEffect answer
+            (effect now (offered offer.now) (invocations_in (dialogues_of self.now id)) (map heard components.now))) }
+    {
+        self.invocations.effect(id, offer, components, now)
+    }
+
+    /// Of the invocations whose timers have run out, the one that an expiry is of: by time, then by the octets of the
+    /// local id, then by the invoke id as a signed number.
+    pub fn least_due(&self, now: u64) -> Option<Due>
+        ensures expiry { (S : State) → HasDialogues S self.now now → Expiry S self.now.shard (expiry_turn self.now result) }
+        ensures is_open { IfSome result (λ due. dialogues_of self.now due.id ≢ None) }
+        // A caller that passes the invoke id on needs its range.
+        ensures fits { IfSome result (λ due. FitsSigned w8 due.invoke) }
+    {
+        self.invocations.least_due(now)
+    }
+
+    /// The id under which the next dialogue opens. There is none exactly where the shard is full.
+    pub fn next_id(&self) -> Option<Tid>
+        ensures value { result ≡ self.now.next }
+        ensures is_new { IfSome result (IsNew self.now) }
+        ensures full { (S : State) → S.dialogues ≡ dialogues_of self.now → IsNone result ↔ IsFull S self.now.shard }
+    {
+        self.transactions.next_id()
+    }
+
+    /// The id under which the next dialogue opens where this open one closes in the same step.
+    pub fn next_after(&self, id: Tid) -> Tid
+        requires { dialogues_of self.now id ≢ None }
+        ensures value { result ≡ next_use id }
+        ensures is_new { IsNew self.now result }
+        ensures other { result ≢ id }
+    {
+        self.transactions.next_after(id)
+    }
+
+    /// Whether as many dialogues are open as may be.
+    pub fn is_full(&self) -> bool
+        ensures full { (S : State) → S.dialogues ≡ dialogues_of self.now → IsTrue result ↔ IsFull S self.now.shard }
+        ensures room { IsTrue result ↔ (self.now.next ≡ None) }
+    {
+        self.next_id().is_none()
+    }
+
+    /// How many dialogues are open, each under an id of the shard.
+    pub fn len(&self) -> usize
+        ensures value { result ≡ count self.now }
+        ensures most { result ≤ 4096 }
+        ensures of_shard { (id : List ℕ) → dialogues_of self.now id ≢ None → IsIdOf self.now.shard id }
+    {
+        self.transactions.len()
+    }
+
+    /// The ids of the open dialogues, in their order.
+    pub fn list(&self) -> Result<Vec<Tid>, AllocError>
+        ensures { IfOk result (λ ids. ids.items ≡ finite.keys self.now.open_ones) }
+    {
+        self.transactions.list()
+    }
+
+    /// The invocations of a dialogue by invoke id: each with its state and its deadline.
+    pub fn invocations(&self, id: Tid) -> Result<Vec<(i8, Was, u64)>, AllocError>
+        ensures { IfOk result (λ told. told.items ≡ map told_of (invocations_in (dialogues_of self.now id))) }
+    {
+        self.invocations.list(id)
+    }
+
+    /// An equal value, with room of its own.
+    pub fn try_copy(&self) -> Result<Self, AllocError>
+        ensures { IfOk result (λ dialogues. dialogues ≡ self.now) }
+    {
+        Ok(Dialogues {
+            transactions: self.transactions.try_copy()?,
+            invocations: self.invocations.try_copy()?,
+            talks: Vec::from_slice(*self.talks.allocator(), &self.talks)?,
+        })
+    }
+
+    /// Closes an open dialogue. Takes no memory.
+    pub fn close(&mut self, id: Tid)
+        requires { dialogues_of self.old id ≢ None }
+        ensures closed { dialogues_of self.new ≡ put (dialogues_of self.old) id None }
+        ensures shard { self.new.shard ≡ self.old.shard }
+    {
+        close(&mut self.transactions, &mut self.invocations, id);
+    }
+
+    /// Opens a dialogue under the next id, and invokes 1 up to `invokes` in it. Where a growth is refused, nothing has
+    /// changed.
+    pub fn open(&mut self, dialogue: &Dialogue, invokes: u8, now: u64) -> Result<Tid, AllocError>
+        requires room { self.old.next ≢ None }
+        requires some { 0 < invokes }
+        requires most { invokes < 128 }
+        requires early { now ≤ 2 ^ 62 }
+        ensures next { IfOk result (λ id. self.old.next ≡ Some id) }
+        ensures opened { IfOk result (λ id. dialogues_of self.new
+            ≡ put (dialogues_of self.old) id (Some (dialogue_with (first_invoked now (invokes - 1)) dialogue.now))) }
+        ensures shard { self.new.shard ≡ self.old.shard }
+        ensures err { OnErr result (self.new ≡ self.old) }
+    {
+        let id = self.transactions.next_id().unwrap();
+        reserve(&mut self.transactions)?;
+        make_room(&mut self.talks, slot_of(id), dialogue.talk())?;
+        self.invocations.invoke_each(id, invokes, now)?;
+        Ok(begin(&mut self.transactions, &mut self.talks, dialogue))
+    }
+
+    /// Closes an open dialogue and opens another, in a full shard too, under the id that `next_after` tells. Where a growth
+    /// is refused, nothing has changed.
+    pub fn replace(
+        &mut self,
+        id: Tid,
+        dialogue: &Dialogue,
+        invokes: u8,
+        now: u64,
+    ) -> Result<Tid, AllocError>
+        requires is_open { dialogues_of self.old id ≢ None }
+        requires some { 0 < invokes }
+        requires most { invokes < 128 }
+        requires early { now ≤ 2 ^ 62 }
+        ensures next { IfOk result (λ next. next ≡ next_use id) }
+        ensures replaced { IfOk result (λ next. dialogues_of self.new ≡ put (put (dialogues_of self.old) id None) next
+            (Some (dialogue_with (first_invoked now (invokes - 1)) dialogue.now))) }
+        ensures shard { self.new.shard ≡ self.old.shard }
+        ensures err { OnErr result (self.new ≡ self.old) }
+    {
+        let next = self.transactions.next_after(id);
+        make_room(&mut self.talks, slot_of(next), dialogue.talk())?;
+        self.invocations.invoke_each(next, invokes, now)?;
+        close(&mut self.transactions, &mut self.invocations, id);
+        Ok(begin(&mut self.transactions, &mut self.talks, dialogue))
+    }
+
+    /// An open dialogue goes on after a Continue: it is Active, with this peer and the peer's id, and its invocations are
+    /// as the components leave them. Where a growth is refused, nothing has changed.
+    pub fn go_on<P>(
+        &mut self,
+        id: Tid,
+        peer: Peer,
+        remote: RemoteId,
+        components: &[Component<P>],
+        now: u64,
+    ) -> Result<(), AllocError>
+        requires is_open { dialogues_of self.old id ≢ None }
+        requires early { now ≤ 2 ^ 62 }
+        ensures ok { OnOk result (dialogues_of self.new ≡ put (dialogues_of self.old) id
+            (option_map (gone_on peer remote now (map heard components.now)) (dialogues_of self.old id))) }
+        ensures shard { self.new.shard ≡ self.old.shard }
+        ensures err { OnErr result (self.new ≡ self.old) }
+    {
+        self.invocations.conclude(id, components, now)?;
+        self.transactions.set(id, peer, remote);
+        Ok(())
+    }
+
+    /// Forgets an invocation of a dialogue, if there is one. Takes no memory.
+    pub fn forget_one(&mut self, id: Tid, invoke: i8)
+        ensures forgotten { dialogues_of self.new ≡ put (dialogues_of self.old) id
+            (option_map (forgotten invoke) (dialogues_of self.old id)) }
+        ensures shard { self.new.shard ≡ self.old.shard }
+    {
+        self.invocations.forget_one(id, invoke);
+    }
+}

@@ -1,0 +1,11 @@
+//! Whom a dialogue is about, and what it is for.
+
+use crate::kind::Kind;
+use hlr_types::Imsi;
+
+/// The subscriber of a dialogue and its kind.
+#[derive(Clone, Copy, Debug)]
+pub(crate) struct Talk {
+    pub(crate) subscriber: Imsi,
+    pub(crate) kind: Kind,
+}

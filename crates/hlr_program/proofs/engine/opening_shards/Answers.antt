@@ -1,0 +1,45 @@
+use Rattle.std.proofs.Common.{rules, ◌≡◌, ◌+◌, List, [], ◌∷◌, ◌++◌, map, length, length-append, arith, sym, ap, subst, ◌∙◌, refl}
+use Rattle.std.specs.Arc.{arc_value}
+use Rattle.std.specs.List.{range_with_len}
+use Rattle.std.proofs.lemmas.List.{length_push}
+use Rattle.records.specs.Parts.{AreParts}
+use Rattle.records.specs.Maps.{RecordMap, DirectoryMap, part_of}
+use Rattle.hlrcore.specs.Shards.{ShardState, shard_of_fields}
+use Rattle.hlr_program.specs.Engine.{opening_shard}
+use Rattle.hlr_program.proofs.EngineLemmas.{one_shard_more, next_part, part_taken}
+use Rattle.hlr_program.proofs.engine.opening_shards.Goals as goal
+
+pub loop-records-init : goal.loop-records-init
+loop-records-init c =
+    let same : c.into_iter-records-iterator.result.rest.items ≡ c.in_ok-parts.parts.items = search rules in
+    (tt, tt, refl, c.in_ok-shards.ensures.items, subst (AreParts c.args.loaded.records) (sym same) c.in_ok-parts.ensures)
+
+pub loop-records-preserved : goal.loop-records-preserved
+loop-records-preserved c =
+    let at = c.loop-records.invariant in
+    let left : c.loop-records.records-iterator.rest.items ≡ c.in-Some.records ∷ c.next.new.self.rest.items = search rules in
+    let parts : AreParts c.args.loaded.records (c.loop-records.yielded ++ c.in-Some.records ∷ c.next.new.self.rest.items) =
+    subst (λ (ps : List RecordMap). AreParts c.args.loaded.records (c.loop-records.yielded ++ ps)) left at.4 in
+    let own : c.in-Some.records ≡ part_of c.args.loaded.records c.loop-records.shard =
+    next_part c.args.loaded.records c.loop-records.yielded c.next.new.self.rest.items c.in-Some.records parts
+    ∙ ap (part_of c.args.loaded.records) (sym at.2) in
+    let shared : arc_value c.in_ok-directory-2.directory ≡ c.args.loaded.directory = search rules in
+    let number : c.hlr-hlr.result.now ≡ c.args.loaded.hlr = search rules in (
+      tt,
+      tt,
+      ap (λ n. n + 1) at.2 ∙ sym (length_push c.loop-records.yielded c.in-Some.records),
+      one_shard_more c.args.loaded c.loop-records.shard _ _ c.of_part.result at.3
+          (c.of_part.ensures.fields
+          ∙ ap (λ (r : RecordMap). shard_of_fields c.loop-records.shard 0 r (arc_value c.in_ok-directory-2.directory) c.hlr-hlr.result.now) own
+          ∙ ap (λ (d : DirectoryMap). shard_of_fields c.loop-records.shard 0 (part_of c.args.loaded.records c.loop-records.shard) d c.hlr-hlr.result.now) shared
+          ∙ ap (λ n. shard_of_fields c.loop-records.shard 0 (part_of c.args.loaded.records c.loop-records.shard) c.args.loaded.directory n) number)
+          c.in_ok-push.ensures.items,
+      part_taken c.args.loaded.records c.loop-records.yielded c.next.new.self.rest.items c.in-Some.records parts,
+    )
+
+pub returns : goal.returns
+returns c =
+    let at = c.loop-records.invariant in
+    let none_left : length c.loop-records.records-iterator.rest.items ≡ 0 = search rules in
+    let all : c.loop-records.shard ≡ 16 = omega (arith, at.2, at.4.sixteen, length-append c.loop-records.yielded c.loop-records.records-iterator.rest.items, none_left) in
+    at.3 ∙ ap (λ n. map (opening_shard c.args.loaded) (range_with_len 0 n)) all

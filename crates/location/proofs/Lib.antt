@@ -1,0 +1,5 @@
+pub mod PrefixLemmas
+pub mod BeginLemmas
+pub mod ChangeLemmas
+pub mod CancelLemmas
+pub mod UpdateLemmas

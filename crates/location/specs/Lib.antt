@@ -1,0 +1,4 @@
+pub mod Seen
+pub mod Cancelling
+pub mod Asking
+pub mod Writing

@@ -1,0 +1,78 @@
+-- What the code holds and answers, as what the definitions speak of.
+use Rattle.std.specs.Prelude.{ℕ, ◌-◌, List, [], ◌∷◌, ◌++◌, map, Option, Some, None, option_map, true, false}
+use Rattle.std.specs.Borrow.{Bor}
+use Rattle.machine.specs.State as machine
+use Rattle.machine.specs.State.{Local, Invocation}
+use Rattle.machine.specs.Sent as sent
+use Rattle.machine.specs.Outcome as left
+use Rattle.machine.specs.Expiries.{without}
+use Rattle.machine.specs.Effect as effects
+use Rattle.q773_comp.specs.Seen.{rejection}
+use Rattle.csl.specs.declared.offer.Effect.{Effect}
+use Rattle.csl.specs.Effects.{concluded}
+use Rattle.records.specs.Subscriber.{Subscriber}
+use Rattle.smroute.specs.Seen.{machine_subscriber, machine_register}
+use Rattle.csl.specs.Tables.{first_invoked}
+use Rattle.dialogues.specs.Seen.{dialogue_with}
+use Rattle.outgoing.specs.Seen.{out}
+use Rattle.outgoing.specs.declared.message.Out.{Out}
+use Rattle.location.specs.declared.outcome.After.{After}
+use Rattle.location.specs.declared.outcome.After.TheVariants.{Same, Purged, Placed, NewCodes, Withdrawn}
+use Rattle.location.specs.declared.outcome.Stays.{Stays}
+use Rattle.location.specs.declared.outcome.Stays.TheVariants.{Gone, GoesOn, Forgets}
+use Rattle.location.specs.declared.outcome.Opening.{Opening}
+use Rattle.location.specs.declared.outcome.Outcome.{Outcome}
+
+-- the record that was found, if any
+abbrev pub known : Option (Bor Subscriber) → Option machine.Subscriber
+known found = option_map (λ s. machine_subscriber s.now) found
+
+-- The record after. The codes are those that an operator's change names.
+abbrev pub after_of : (codes : List ℕ) → After → Option machine.Subscriber → Option machine.Subscriber
+after_of codes Same before = before
+after_of codes Purged before = option_map (λ (s : machine.Subscriber). record s { purged = true }) before
+after_of codes (Placed register purged current) before =
+    option_map (λ (s : machine.Subscriber). record s { register = option_map machine_register register; purged = purged; current = current }) before
+after_of codes NewCodes before = option_map (λ (s : machine.Subscriber). record s { codes = codes; current = None }) before
+after_of codes Withdrawn before =
+    option_map (λ (s : machine.Subscriber). record s { register = None; purged = false; current = None; withdrawn = true }) before
+
+-- The dialogue that is named as it stays. It comes with the transaction and the invocations that what was received leaves it.
+abbrev pub stays_of : Option machine.Dialogue → Stays → Option machine.Dialogue
+stays_of named (Gone opens) = None
+stays_of named GoesOn = named
+stays_of named (Forgets invoke) = option_map (λ (d : machine.Dialogue). record d { invocations = without invoke d.invocations }) named
+
+-- the dialogue that opens at this clock
+abbrev pub opening_of : (clock : ℕ) → Opening → machine.Dialogue
+opening_of clock o = dialogue_with (first_invoked clock (o.invoked - 1)) o.dialogue
+
+-- the dialogue that opens at this clock, if any
+abbrev pub opens_of : (clock : ℕ) → Stays → Option machine.Dialogue
+opens_of clock (Gone opens) = option_map (opening_of clock) opens
+opens_of clock GoesOn = None
+opens_of clock (Forgets invoke) = None
+
+-- a message, if any
+abbrev pub one : Option Out → List sent.Out
+one None = []
+one (Some o) = out o ∷ []
+
+-- the messages, in order
+abbrev pub sent_of : (first second : Option Out) → List sent.Out
+sent_of first None = one first
+sent_of first (Some o) = one first ++ out o ∷ []
+
+-- What is left, where this was seen before, this is the dialogue that the event names, moved by what was received, and these
+-- are the codes of an operator's change.
+abbrev pub outcome_of : Local → (named : Option machine.Dialogue) → (codes : List ℕ) → Outcome → left.Outcome
+outcome_of here named codes o = record {
+  after = after_of codes o.after here.record_of;
+  stays = stays_of named o.stays;
+  opens = opens_of here.clock o.stays;
+  sent = sent_of o.first o.second;
+}
+
+-- The effect of received components, with the invocations that it leaves.
+abbrev pub effect_with : List Invocation → Effect → effects.Effect
+effect_with after e = record { rejects = map rejection e.rejects.items; started = e.started; invocations = after; conclusion = concluded e.conclusion }

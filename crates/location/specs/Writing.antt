@@ -1,0 +1,17 @@
+-- How a record may be written.
+use Rattle.std.specs.Prelude.{Option, Some, None, true}
+use Rattle.records.specs.Subscriber.{Subscriber, IsPlace}
+use Rattle.location.specs.declared.outcome.After.{After}
+use Rattle.location.specs.declared.outcome.After.TheVariants.{Same, Purged, Placed, NewCodes, Withdrawn}
+
+-- Where something changes there is a record, and it may have the register, the flag and the mark that it then has.
+abbrev pub CanBeWritten : After → Option Subscriber → Type 0
+CanBeWritten Same found = Unit {0}
+CanBeWritten Purged None = ⊥
+CanBeWritten Purged (Some s) = IsPlace s.withdrawn s.register true s.current
+CanBeWritten (Placed register purged current) None = ⊥
+CanBeWritten (Placed register purged current) (Some s) = IsPlace s.withdrawn register purged current
+CanBeWritten NewCodes None = ⊥
+CanBeWritten NewCodes (Some s) = Unit {0}
+CanBeWritten Withdrawn None = ⊥
+CanBeWritten Withdrawn (Some s) = Unit {0}

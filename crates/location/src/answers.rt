@@ -1,0 +1,81 @@
+//! What is sent in a dialogue (Q.774).
+
+ghost use Rattle.std.specs.Prelude.{◌≡◌, ◌∷◌, [], None, map, Option};
+ghost use Rattle.machine.specs.State.{Local};
+ghost use Rattle.machine.specs.Outcome.{continued, ended, unchanged};
+ghost use Rattle.q773_comp.specs.Seen.{rejection};
+ghost use Rattle.tsl.specs.Transactions.{transaction_of};
+ghost use Rattle.outgoing.specs.Seen.{components, out};
+ghost use Rattle.location.specs.Seen.{one, outcome_of};
+ghost use Rattle.location.specs.Writing.{CanBeWritten};
+ghost use Rattle.records.specs.Subscriber.{Subscriber};
+
+use crate::outcome::{After, Outcome, Stays};
+use hlr_types::{IsdnAddress, Peer, Tid};
+use outgoing::{Components, Out, SentMessage};
+use q773_comp::Rejection;
+use tsl::Transaction;
+
+/// The address of a register.
+pub(crate) fn peer_of(vlr: &IsdnAddress) -> Peer
+    ensures { result ≡ vlr.now }
+{
+    Peer::new(*vlr.digits())
+}
+
+/// An End, where the dialogue is Active. In Initiation Sent it ends without a frame.
+pub(crate) fn ended(
+    transaction: Transaction,
+    rejects: Vec<Rejection>,
+    sent: Components,
+) -> Option<Out>
+    ensures { one result
+        ≡ ended (transaction_of transaction) transaction.remote (map rejection rejects.items) (components sent) }
+{
+    let to = transaction.peer;
+    match transaction.remote {
+        Some(destination) => Some(Out {
+            to,
+            message: SentMessage::End {
+                destination,
+                context: None,
+                rejects,
+                components: sent,
+            },
+        }),
+        None => None,
+    }
+}
+
+/// A Continue, where there is a Reject to send.
+pub(crate) fn continued(id: Tid, transaction: Transaction, rejects: Vec<Rejection>) -> Option<Out>
+    ensures { one result ≡ continued id (transaction_of transaction) transaction.remote (map rejection rejects.items) }
+{
+    let to = transaction.peer;
+    match transaction.remote {
+        Some(destination) if !rejects.is_empty() => Some(Out {
+            to,
+            message: SentMessage::Continue {
+                origin: id,
+                destination,
+                context: None,
+                rejects,
+                components: Components::Nothing,
+            },
+        }),
+        _ => None,
+    }
+}
+
+/// Nothing changes, and this is sent.
+pub(crate) fn only(first: Out) -> Outcome
+    ensures leaves { (here : Local) → outcome_of here None [] result ≡ unchanged here (out first ∷ []) }
+    ensures writable { (s : Option Subscriber) → CanBeWritten result.after s }
+{
+    Outcome {
+        after: After::Same,
+        stays: Stays::Gone { opens: None },
+        first: Some(first),
+        second: None,
+    }
+}

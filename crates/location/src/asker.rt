@@ -1,0 +1,64 @@
+//! Where a Begin came from, and the End that answers it.
+
+ghost use Rattle.std.specs.Prelude.{◌≡◌, ◌∷◌, []};
+ghost use Rattle.machine.specs.Begins.{answered};
+ghost use Rattle.outgoing.specs.Seen.{component as component_of, components, out};
+
+use dialogues::InvokeId;
+use hlr_types::{Peer, RemoteId};
+use mapctx::Context;
+use outgoing::{Components, Out, SentComponent, SentMessage};
+use q773_comp::Rejection;
+
+/// Where a Begin came from: its source, its originating transaction id, and its context.
+#[derive(Clone, Copy)]
+pub(crate) struct Source {
+    pub(crate) from: Peer,
+    pub(crate) origin: RemoteId,
+    pub(crate) context: Context,
+}
+
+/// Who asks by a Begin: where it came from, the Rejects of its components, and the invoke id of the Invoke that started.
+#[derive(Drop)]
+pub(crate) struct Asker {
+    pub(crate) source: Source,
+    pub(crate) rejects: Vec<Rejection>,
+    pub(crate) invoke: InvokeId,
+}
+
+impl Source {
+    ghost use Rattle.std.specs.Prelude.{map};
+    ghost use Rattle.q773_comp.specs.Seen.{rejection};
+    ghost use Rattle.location.specs.Asking.{source_with};
+
+    /// The End that answers the Begin.
+    pub(crate) fn ended(self, rejects: Vec<Rejection>, sent: Components) -> Out
+        ensures { out result ∷ [] ≡ answered (source_with self (map rejection rejects.items)) (components sent) }
+    {
+        let Source {
+            from,
+            origin,
+            context,
+        } = self;
+        Out {
+            to: from,
+            message: SentMessage::End {
+                destination: origin,
+                context: Some(context),
+                rejects,
+                components: sent,
+            },
+        }
+    }
+}
+
+impl Asker {
+    ghost use Rattle.location.specs.Asking.{asker_of};
+
+    /// The End that answers the Begin with this component.
+    pub(crate) fn answers(self, component: SentComponent) -> Out
+        ensures { out result ∷ [] ≡ answered (asker_of self) (component_of component ∷ []) }
+    {
+        self.source.ended(self.rejects, Components::One(component))
+    }
+}

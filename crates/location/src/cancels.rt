@@ -1,0 +1,89 @@
+//! Cancels (TS 29.002, cancelLocation).
+
+ghost use Rattle.std.specs.Prelude.{◌≡◌, ◌∷◌, [], List, ℕ, Option};
+ghost use Rattle.machine.specs.State as machine;
+ghost use Rattle.machine.specs.State.{Local};
+ghost use Rattle.machine.specs.Outcome.{cancel, cancel_begin};
+ghost use Rattle.mapargs_loc.specs.Seen.{cancellation};
+ghost use Rattle.outgoing.specs.Seen.{out};
+ghost use Rattle.location.specs.Seen.{after_of, one, opening_of, outcome_of};
+ghost use Rattle.location.specs.Cancelling.{then_cancel};
+
+use crate::outcome::{After, Opening, Outcome, Stays};
+use dialogues::{Dialogue, Kind};
+use hlr_types::{Imsi, Peer, Tid};
+use mapargs_loc::CancellationType;
+use mapctx::Context;
+use outgoing::{Components, Out, SentComponent, SentMessage};
+use tsl::Transaction;
+
+/// A cancel that is sent: the VLR digits that it goes to, which attempt it is, and why.
+#[derive(Clone, Copy)]
+pub(crate) struct Cancelling {
+    pub(crate) vlr: Peer,
+    pub(crate) attempt: u8,
+    pub(crate) why: CancellationType,
+}
+
+/// The dialogue of a cancel.
+fn cancel(imsi: Imsi, vlr: Peer, attempt: u8, why: CancellationType) -> Opening
+    ensures { (here : Local) → imsi ≡ here.imsi
+        → opening_of here.clock result ≡ cancel here vlr attempt (cancellation why) }
+{
+    Opening {
+        dialogue: Dialogue {
+            subscriber: imsi,
+            transaction: Transaction {
+                peer: vlr,
+                remote: None,
+            },
+            kind: Kind::Cancel { vlr, attempt, why },
+        },
+        invoked: 1,
+    }
+}
+
+/// Its Begin.
+fn cancel_begin(imsi: Imsi, vlr: Peer, why: CancellationType, new: Tid) -> Out
+    ensures { (here : Local) → imsi ≡ here.imsi → out result ∷ [] ≡ cancel_begin here vlr (cancellation why) new }
+{
+    let cancel = SentComponent::Cancel { id: 1, imsi, why };
+    Out {
+        to: vlr,
+        message: SentMessage::Begin {
+            origin: new,
+            context: Context::LocationCancellation,
+            components: Components::One(cancel),
+        },
+    }
+}
+
+/// The named dialogue, if any, is gone, and a cancel may follow what is sent in it.
+pub(crate) fn then_cancel(
+    after: After,
+    first: Option<Out>,
+    imsi: Imsi,
+    next: Option<Cancelling>,
+    new: Tid,
+) -> Outcome
+    ensures leaves { (here : Local) (named : Option machine.Dialogue) (codes : List ℕ) → imsi ≡ here.imsi
+        → outcome_of here named codes result ≡ then_cancel here (after_of codes after here.record_of) (one first) next new }
+    ensures record_after { result.after ≡ after }
+{
+    match &next {
+        Some(sent) => Outcome {
+            after,
+            stays: Stays::Gone {
+                opens: Some(cancel(imsi, sent.vlr, sent.attempt, sent.why)),
+            },
+            first,
+            second: Some(cancel_begin(imsi, sent.vlr, sent.why, new)),
+        },
+        None => Outcome {
+            after,
+            stays: Stays::Gone { opens: None },
+            first,
+            second: None,
+        },
+    }
+}

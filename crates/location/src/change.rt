@@ -1,0 +1,154 @@
+//! An operator's change of one subscriber (profile; TS 29.002, insertSubscriberData and cancelLocation).
+
+ghost use Rattle.std.specs.Prelude.{◌≡◌, ◌≤◌, ◌∷◌, [], IfSome, Some, None, option_map, length, List, ℕ, Option, option_copied};
+ghost use Rattle.machine.specs.State.{Local};
+ghost use Rattle.machine.specs.Events as events;
+ghost use Rattle.machine.specs.Sent.{SentBegin, SubscriberDataMngt};
+ghost use Rattle.machine.specs.Outcome.{inserts, send, unchanged};
+ghost use Rattle.machine.specs.Changes.{changes, codes_to, data_to, withdraw_from};
+ghost use Rattle.outgoing.specs.Seen.{out};
+ghost use Rattle.smroute.specs.Seen.{machine_register, machine_subscriber};
+ghost use Rattle.location.specs.Cancelling.{to_last};
+ghost use Rattle.location.specs.Seen.{known, opening_of, outcome_of};
+ghost use Rattle.location.specs.Writing.{CanBeWritten};
+ghost use Rattle.records.specs.Subscriber.{Subscriber};
+
+use crate::answers::peer_of;
+use crate::cancels::{Cancelling, then_cancel};
+use crate::inserts::{inserting, subscriber_data};
+use crate::outcome::{After, Opening, Outcome, Stays};
+use dialogues::{Dialogue, Kind};
+use hlr_types::{Imsi, Register, Tid};
+use mapargs_loc::CancellationType;
+use mapctx::Context;
+use outgoing::{Out, SentMessage};
+use records::Record;
+use tsl::Transaction;
+
+/// Nothing changes, and nothing is sent.
+fn nothing() -> Outcome
+    ensures leaves { (here : Local) (codes : List ℕ) → outcome_of here None codes result ≡ unchanged here [] }
+    ensures writable { (s : Option Subscriber) → CanBeWritten result.after s }
+{
+    Outcome {
+        after: After::Same,
+        stays: Stays::Gone { opens: None },
+        first: None,
+        second: None,
+    }
+}
+
+/// The dialogue that carries new codes to a register.
+fn data_to(imsi: Imsi, register: &Register, codes: &[u8]) -> Opening
+    requires { length codes.now ≤ 32 }
+    ensures { (here : Local) → imsi ≡ here.imsi
+        → opening_of here.clock result ≡ data_to here (machine_register register.now) codes.now }
+{
+    let dialogue = Dialogue {
+        subscriber: imsi,
+        transaction: Transaction {
+            peer: peer_of(&register.vlr),
+            remote: None,
+        },
+        kind: Kind::Data,
+    };
+    inserting(dialogue, codes)
+}
+
+/// Its Begin.
+fn data_begin(subscriber: &Record, register: &Register, codes: &[u8], new: Tid) -> Out
+    requires { length codes.now ≤ 32 }
+    ensures { (here : Local) → subscriber.now.imsi ≡ here.imsi → out result ∷ []
+        ≡ send register.now.vlr (SentBegin new SubscriberDataMngt (inserts (Some here.imsi) subscriber.now.msisdn codes.now)) }
+{
+    Out {
+        to: peer_of(&register.vlr),
+        message: SentMessage::Begin {
+            origin: new,
+            context: Context::SubscriberDataMngt,
+            components: subscriber_data(Some(subscriber.imsi), subscriber.msisdn, codes),
+        },
+    }
+}
+
+/// New codes: an update in progress is no longer current, and a register that is not purged is told.
+fn codes_to(subscriber: &Record, codes: &[u8], new: Tid) -> Outcome
+    requires { length codes.now ≤ 32 }
+    ensures leaves { (here : Local) → subscriber.now.imsi ≡ here.imsi
+        → here.record_of ≡ Some (machine_subscriber subscriber.now)
+        → outcome_of here None codes.now result
+        ≡ codes_to here (machine_subscriber subscriber.now) codes.now new (option_map machine_register subscriber.now.register) }
+    ensures writable { CanBeWritten result.after (Some subscriber.now) }
+{
+    match subscriber.register {
+        Some(register) if !subscriber.purged => Outcome {
+            after: After::NewCodes,
+            stays: Stays::Gone {
+                opens: Some(data_to(subscriber.imsi, &register, codes)),
+            },
+            first: Some(data_begin(subscriber, &register, codes, new)),
+            second: None,
+        },
+        _ => Outcome {
+            after: After::NewCodes,
+            stays: Stays::Gone { opens: None },
+            first: None,
+            second: None,
+        },
+    }
+}
+
+/// An operator gives a subscriber these codes. Where the subscriber is unknown or withdrawn nothing changes. A dialogue that
+/// opens takes the new id.
+pub fn new_codes(subscriber: Option<&Record>, codes: &[u8], new: Tid) -> Outcome
+    requires { length codes.now ≤ 32 }
+    ensures leaves { (here : Local) → IfSome subscriber.entry (λ s. s.now.imsi ≡ here.imsi)
+        → here.record_of ≡ known subscriber.entry
+        → outcome_of here None codes.now result ≡ changes here (events.Codes codes.now) (known subscriber.entry) new }
+    ensures writable { CanBeWritten result.after (option_copied subscriber.entry) }
+{
+    match subscriber {
+        Some(subscriber) if !subscriber.withdrawn => codes_to(subscriber, codes, new),
+        _ => nothing(),
+    }
+}
+
+/// The cancel to the register of a subscription that ends.
+fn to_last(register: Option<Register>) -> Option<Cancelling>
+    ensures { result ≡ to_last (option_map machine_register register) }
+{
+    match register {
+        Some(register) => Some(Cancelling {
+            vlr: peer_of(&register.vlr),
+            attempt: 1,
+            why: CancellationType::SubscriptionWithdraw,
+        }),
+        None => None,
+    }
+}
+
+/// The end of a subscription: the record has no register any more, and the one that it had, purged or not, gets a cancel.
+fn withdraw_from(subscriber: &Record, new: Tid) -> Outcome
+    ensures leaves { (here : Local) → subscriber.now.imsi ≡ here.imsi
+        → here.record_of ≡ Some (machine_subscriber subscriber.now)
+        → outcome_of here None [] result
+        ≡ withdraw_from here (machine_subscriber subscriber.now) new (option_map machine_register subscriber.now.register) }
+    ensures writable { CanBeWritten result.after (Some subscriber.now) }
+{
+    let next = to_last(subscriber.register);
+    then_cancel(After::Withdrawn, None, subscriber.imsi, next, new)
+}
+
+/// An operator ends a subscription. Where the subscriber is unknown or withdrawn nothing changes. A cancel that opens takes
+/// the new id.
+pub fn withdraws(subscriber: Option<&Record>, new: Tid) -> Outcome
+    ensures leaves { (here : Local) → IfSome subscriber.entry (λ s. s.now.imsi ≡ here.imsi)
+        → here.record_of ≡ known subscriber.entry
+        → outcome_of here None [] result ≡ changes here events.Withdraw (known subscriber.entry) new }
+    ensures writable { CanBeWritten result.after (option_copied subscriber.entry) }
+{
+    match subscriber {
+        Some(subscriber) if !subscriber.withdrawn => withdraw_from(subscriber, new),
+        _ => nothing(),
+    }
+}

@@ -1,0 +1,142 @@
+//! A received Continue of an open dialogue (TS 29.002, TS 23.012).
+
+ghost use Rattle.std.specs.Prelude.{◌≡◌, [], List, Option, Some, map, option_copied};
+ghost use Rattle.machine.specs.State.{Invocation, Local};
+ghost use Rattle.machine.specs.Effect as effects;
+ghost use Rattle.machine.specs.Dialogues.{continues_as, goes_on, offer_to, other_continues, update_continues};
+ghost use Rattle.q773_comp.specs.Seen.{rejection};
+ghost use Rattle.mapargs_loc.specs.Seen.{register as register_of};
+ghost use Rattle.csl.specs.Effects.{IsEffect, concluded, offered};
+ghost use Rattle.dialogues.specs.Seen.{dialogue_with, kind_of};
+ghost use Rattle.location.specs.Seen.{effect_with, known, outcome_of};
+ghost use Rattle.location.specs.Writing.{CanBeWritten};
+ghost use Rattle.records.specs.Subscriber.{Subscriber};
+
+use crate::answers::{continued, ended};
+use crate::outcome::{After, Outcome, Stays};
+use crate::update_end::{Updating, update_completes, update_fails};
+use csl::{Conclusion, Effect, Offer};
+use dialogues::{Dialogue, Kind};
+use hlr_types::{IsdnAddress, Tid};
+use mapctx::UPDATE_LOCATION;
+use outgoing::Components;
+use q773_comp::Rejection;
+use records::Record;
+
+/// What a dialogue offers to the components of a Continue. In an update the peer waits for its own Invoke, and may invoke
+/// nothing else; in the others it may invoke nothing.
+pub fn offer_to(kind: &Kind) -> Offer
+    ensures { offered result ≡ offer_to (kind_of kind.now) }
+{
+    let (open_id, operation) = match kind {
+        Kind::Update { invoke, .. } => (Some(invoke.number()), Some(UPDATE_LOCATION)),
+        Kind::Cancel { .. } | Kind::Data => (None, None),
+    };
+    Offer {
+        open_id,
+        operation,
+        may_start: false,
+        typed: false,
+    }
+}
+
+/// The dialogue goes on, and the Rejects are sent.
+fn goes_on(id: Tid, dialogue: &Dialogue, rejects: Vec<Rejection>) -> Outcome
+    ensures leaves { (here : Local) (vs after : List Invocation)
+        → outcome_of here (Some (dialogue_with after dialogue.now)) [] result
+        ≡ goes_on here id (dialogue_with vs dialogue.now) (map rejection rejects.items) after }
+    ensures writable { (s : Option Subscriber) → CanBeWritten result.after s }
+{
+    Outcome {
+        after: After::Same,
+        stays: Stays::GoesOn,
+        first: continued(id, dialogue.transaction, rejects),
+        second: None,
+    }
+}
+
+/// A cancel or a data dialogue ends by success and by failure.
+fn other_continues(id: Tid, dialogue: &Dialogue, effect: Effect) -> Outcome
+    ensures leaves { (here : Local) (vs after : List Invocation)
+        → outcome_of here (Some (dialogue_with after dialogue.now)) [] result
+        ≡ other_continues here id (dialogue_with vs dialogue.now) (effect_with after effect) (concluded effect.conclusion) }
+    ensures writable { (s : Option Subscriber) → CanBeWritten result.after s }
+{
+    match effect.conclusion {
+        Conclusion::GoesOn => goes_on(id, dialogue, effect.rejects),
+        Conclusion::HasFailed | Conclusion::HasSucceeded => Outcome {
+            after: After::Same,
+            stays: Stays::Gone { opens: None },
+            first: ended(dialogue.transaction, effect.rejects, Components::Nothing),
+            second: None,
+        },
+    }
+}
+
+/// An update, by how its inserts stand.
+fn update_continues(
+    hlr: IsdnAddress,
+    subscriber: Option<&Record>,
+    id: Tid,
+    dialogue: &Dialogue,
+    update: Updating,
+    effect: Effect,
+    new: Tid,
+) -> Outcome
+    ensures leaves { (here : Local) (vs after : List Invocation) → dialogue.now.subscriber ≡ here.imsi → here.hlr ≡ hlr
+        → here.record_of ≡ known subscriber.entry → outcome_of here (Some (dialogue_with after dialogue.now)) [] result
+        ≡ update_continues here id (dialogue_with vs dialogue.now) (register_of update.register) update.invoke
+        (effect_with after effect) (concluded effect.conclusion) new }
+    ensures writable { CanBeWritten result.after (option_copied subscriber.entry) }
+{
+    let rejects = effect.rejects;
+    match effect.conclusion {
+        Conclusion::HasFailed => update_fails(subscriber, id, dialogue, update.invoke, rejects),
+        Conclusion::HasSucceeded => update_completes(
+            hlr, subscriber, id, dialogue, update, rejects, new,
+        ),
+        Conclusion::GoesOn => goes_on(id, dialogue, rejects),
+    }
+}
+
+/// A dialogue, by what it is for, and the effect that the components have.
+fn continues_by(
+    hlr: IsdnAddress,
+    subscriber: Option<&Record>,
+    id: Tid,
+    dialogue: &Dialogue,
+    effect: Effect,
+    new: Tid,
+) -> Outcome
+    ensures leaves { (here : Local) (vs after : List Invocation) → dialogue.now.subscriber ≡ here.imsi → here.hlr ≡ hlr
+        → here.record_of ≡ known subscriber.entry → outcome_of here (Some (dialogue_with after dialogue.now)) [] result
+        ≡ continues_as here id (dialogue_with vs dialogue.now) (kind_of dialogue.now.kind) (effect_with after effect) new }
+    ensures writable { CanBeWritten result.after (option_copied subscriber.entry) }
+{
+    match dialogue.kind {
+        Kind::Update { register, invoke } => {
+            let update = Updating { register, invoke };
+            update_continues(hlr, subscriber, id, dialogue, update, effect, new)
+        }
+        Kind::Cancel { .. } | Kind::Data => other_continues(id, dialogue, effect),
+    }
+}
+
+/// A Continue that is for an open dialogue, whose peer and remote id it has set already, with the effect of its components.
+/// Where an update completes, and its subscriber had another register, a cancel opens under the new id.
+pub fn continues(
+    hlr: IsdnAddress,
+    subscriber: Option<&Record>,
+    id: Tid,
+    dialogue: &Dialogue,
+    effect: Effect,
+    new: Tid,
+) -> Outcome
+    ensures leaves { (here : Local) (vs : List Invocation) (did : effects.Effect)
+        → dialogue.now.subscriber ≡ here.imsi → here.hlr ≡ hlr → here.record_of ≡ known subscriber.entry → IsEffect effect did
+        → outcome_of here (Some (dialogue_with did.invocations dialogue.now)) [] result
+        ≡ continues_as here id (dialogue_with vs dialogue.now) (kind_of dialogue.now.kind) did new }
+    ensures writable { CanBeWritten result.after (option_copied subscriber.entry) }
+{
+    continues_by(hlr, subscriber, id, dialogue, effect, new)
+}

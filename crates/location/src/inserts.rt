@@ -1,0 +1,48 @@
+//! Subscriber data (TS 29.002, insertSubscriberData), eight codes to an insert (profile).
+
+ghost use Rattle.std.specs.Prelude.{◌≡◌, ◌+◌, ◌<◌, ◌≤◌, ℕ, length};
+ghost use Rattle.machine.specs.Outcome.{further, inserts, inserts_invoked};
+ghost use Rattle.dialogues.specs.Seen.{dialogue_with};
+ghost use Rattle.outgoing.specs.Seen.{components};
+ghost use Rattle.location.specs.Seen.{opening_of};
+
+use crate::outcome::Opening;
+use dialogues::Dialogue;
+use hlr_types::{Imsi, IsdnAddress, ShortList};
+use outgoing::{Components, SubscriberData};
+
+/// How many codes one insert carries (profile).
+const CODES_IN_INSERT: usize = 8;
+
+/// How many inserts carry these codes: one at least, since the first has the MSISDN.
+fn insert_count(codes: &[u8]) -> u8
+    requires { length codes.now ≤ 32 }
+    ensures value { result ≡ further codes.now + 1 }
+    ensures some { 0 < result }
+    ensures most { result ≤ 4 }
+{
+    (codes.len().saturating_sub(1) / CODES_IN_INSERT) as u8 + 1
+}
+
+/// A dialogue that opens with the inserts of these codes.
+pub(crate) fn inserting(dialogue: Dialogue, codes: &[u8]) -> Opening
+    requires { length codes.now ≤ 32 }
+    ensures { (clock : ℕ) → opening_of clock result ≡ dialogue_with (inserts_invoked clock codes.now) dialogue }
+{
+    Opening {
+        dialogue,
+        invoked: insert_count(codes),
+    }
+}
+
+/// The inserts themselves. The IMSI goes along where no update names the subscriber.
+pub(crate) fn subscriber_data(imsi: Option<Imsi>, msisdn: IsdnAddress, codes: &[u8]) -> Components
+    requires { length codes.now ≤ 32 }
+    ensures { components result ≡ inserts imsi msisdn codes.now }
+{
+    Components::Data(SubscriberData {
+        imsi,
+        msisdn,
+        codes: ShortList::from_slice(codes),
+    })
+}

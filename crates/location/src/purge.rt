@@ -1,0 +1,54 @@
+//! A Begin's purgeMS (TS 29.002, TS 23.012).
+
+ghost use Rattle.std.specs.Prelude.{◌≡◌, [], Some, option_map, option_copied};
+ghost use Rattle.machine.specs.State.{Local};
+ghost use Rattle.machine.specs.Begins.{purge, purge_at};
+ghost use Rattle.smroute.specs.Seen.{machine_register, machine_subscriber};
+ghost use Rattle.location.specs.Asking.{asker_of};
+ghost use Rattle.location.specs.Seen.{known, outcome_of};
+ghost use Rattle.location.specs.Writing.{CanBeWritten};
+
+use crate::asker::Asker;
+use crate::begin::failed;
+use crate::components::{DATA_MISSING, purge_result};
+use crate::outcome::{After, Outcome, Stays};
+use hlr_types::IsdnAddress;
+use mapargs_loc::PurgeArg;
+use records::Record;
+use smroute::UNKNOWN_SUBSCRIBER;
+
+/// The purge of a subscriber who is not withdrawn: only the stored register, told by its digits, purges the subscriber.
+fn purge_known(who: Asker, vlr: IsdnAddress, subscriber: &Record) -> Outcome
+    ensures leaves { (here : Local) → here.record_of ≡ Some (machine_subscriber subscriber.now)
+        → outcome_of here None [] result
+        ≡ purge_at here (asker_of who) who.invoke (machine_subscriber subscriber.now) vlr
+        (option_map machine_register subscriber.now.register) }
+    ensures writable { CanBeWritten result.after (Some subscriber.now) }
+{
+    let purges = match subscriber.register {
+        Some(register) => register.vlr == vlr,
+        None => false,
+    };
+    let result = purge_result(who.invoke, purges);
+    Outcome {
+        after: if purges { After::Purged } else { After::Same },
+        stays: Stays::Gone { opens: None },
+        first: Some(who.answers(result)),
+        second: None,
+    }
+}
+
+/// purgeMS. Without a VLR number the error is dataMissing, also for an unknown subscriber.
+pub(crate) fn purge(who: Asker, asked: &PurgeArg, subscriber: Option<&Record>) -> Outcome
+    ensures leaves { (here : Local) → here.record_of ≡ known subscriber.entry → outcome_of here None [] result
+        ≡ purge here (asker_of who) who.invoke asked.now.vlr (known subscriber.entry) }
+    ensures writable { CanBeWritten result.after (option_copied subscriber.entry) }
+{
+    let Some(vlr) = asked.vlr else {
+        return failed(who, DATA_MISSING);
+    };
+    match subscriber {
+        Some(subscriber) if !subscriber.withdrawn => purge_known(who, vlr, subscriber),
+        _ => failed(who, UNKNOWN_SUBSCRIBER),
+    }
+}

@@ -1,0 +1,154 @@
+//! A Begin's updateLocation (TS 29.002, TS 23.012).
+
+ghost use Rattle.std.specs.Prelude.{◌≡◌, ◌∷◌, [], IfSome, Some, None, false, map, option_copied};
+ghost use Rattle.std.specs.List.{list_any};
+ghost use Rattle.machine.specs.Keys.{is_prefix};
+ghost use Rattle.machine.specs.State.{Local};
+ghost use Rattle.machine.specs.Sent.{SentContinue};
+ghost use Rattle.machine.specs.Outcome.{inserts, send};
+ghost use Rattle.machine.specs.Begins.{is_allowed, update_begins, update_opened};
+ghost use Rattle.mapargs_loc.specs.Seen.{register as register_of};
+ghost use Rattle.mapctx.specs.Seen.{context};
+ghost use Rattle.q773_comp.specs.Seen.{rejection};
+ghost use Rattle.outgoing.specs.Seen.{out};
+ghost use Rattle.records.specs.Roam.{prefixes_of};
+ghost use Rattle.smroute.specs.Seen.{machine_subscriber};
+ghost use Rattle.location.specs.Asking.{asker_of};
+ghost use Rattle.location.specs.Seen.{known, outcome_of};
+ghost use Rattle.location.specs.Writing.{CanBeWritten};
+
+use crate::asker::{Asker, Source};
+use crate::begin::failed;
+use crate::components::ROAMING_NOT_ALLOWED;
+use crate::inserts::{inserting, subscriber_data};
+use crate::outcome::{After, Outcome, Stays};
+use dialogues::{Dialogue, Kind};
+use hlr_types::{Digits, IsdnAddress, Register, Tid};
+use outgoing::{Out, SentMessage};
+use q773_comp::Rejection;
+use records::{Record, Roam};
+use smroute::UNKNOWN_SUBSCRIBER;
+use tsl::Transaction;
+
+/// Whether one of the prefixes is a prefix of the VLR's digits, or all are allowed.
+fn is_allowed(roam: &Roam, vlr: &IsdnAddress) -> bool
+    ensures { result ≡ is_allowed (prefixes_of roam.now) vlr.now }
+{
+    match roam {
+        Roam::Everywhere => true,
+        Roam::Within(prefixes) => is_within(prefixes, vlr.digits().as_slice()),
+    }
+}
+
+/// Whether one of these is a prefix of the digits.
+fn is_within(prefixes: &[Digits], digits: &[u8]) -> bool
+    ensures { result ≡ list_any (λ prefix. is_prefix prefix digits.now) prefixes.now }
+{
+    for prefix in prefixes {
+        if is_prefix(prefix.as_slice(), digits) {
+            return true;
+        }
+    }
+    false
+}
+
+#[tactic(auto, using(crate::proofs::PrefixLemmas::starts_prefix))]
+fn is_prefix(prefix: &[u8], digits: &[u8]) -> bool
+    ensures { result ≡ is_prefix prefix.now digits.now }
+{
+    digits.starts_with(prefix)
+}
+
+/// The Continue that carries the subscriber data.
+fn data_sent(source: Source, rejects: Vec<Rejection>, subscriber: &Record, new: Tid) -> Out
+    ensures { out result ∷ [] ≡ send source.from (SentContinue new source.origin (Some (context source.context))
+        (map rejection rejects.items) (inserts None subscriber.now.msisdn subscriber.now.codes)) }
+{
+    let Source {
+        from,
+        origin,
+        context,
+    } = source;
+    Out {
+        to: from,
+        message: SentMessage::Continue {
+            origin: new,
+            destination: origin,
+            context: Some(context),
+            rejects,
+            components: subscriber_data(None, subscriber.msisdn, &subscriber.codes),
+        },
+    }
+}
+
+/// The update begins. It is the current one from now on, in place of any other.
+fn update_opens(who: Asker, register: Register, subscriber: &Record, new: Tid) -> Outcome
+    requires { subscriber.now.withdrawn ≡ false }
+    ensures leaves { (here : Local) → subscriber.now.imsi ≡ here.imsi
+        → here.record_of ≡ Some (machine_subscriber subscriber.now)
+        → outcome_of here None [] result
+        ≡ update_opened here (asker_of who) who.invoke (register_of register) (machine_subscriber subscriber.now) new }
+    ensures writable { CanBeWritten result.after (Some subscriber.now) }
+{
+    let Asker {
+        source,
+        rejects,
+        invoke,
+    } = who;
+    let Source { from, origin, .. } = source;
+    let dialogue = Dialogue {
+        subscriber: subscriber.imsi,
+        transaction: Transaction {
+            peer: from,
+            remote: Some(origin),
+        },
+        kind: Kind::Update { register, invoke },
+    };
+    Outcome {
+        after: After::Placed {
+            register: subscriber.register,
+            purged: subscriber.purged,
+            current: Some(new),
+        },
+        stays: Stays::Gone {
+            opens: Some(inserting(dialogue, &subscriber.codes)),
+        },
+        first: Some(data_sent(source, rejects, subscriber, new)),
+        second: None,
+    }
+}
+
+/// The update of a subscriber who is not withdrawn.
+fn update_known(who: Asker, register: Register, subscriber: &Record, new: Tid) -> Outcome
+    requires { subscriber.now.withdrawn ≡ false }
+    ensures leaves { (here : Local) → subscriber.now.imsi ≡ here.imsi
+        → here.record_of ≡ Some (machine_subscriber subscriber.now)
+        → outcome_of here None [] result
+        ≡ update_begins here (asker_of who) who.invoke (register_of register) (Some (machine_subscriber subscriber.now)) new }
+    ensures writable { CanBeWritten result.after (Some subscriber.now) }
+{
+    if is_allowed(&subscriber.roam, &register.vlr) {
+        update_opens(who, register, subscriber, new)
+    } else {
+        failed(who, ROAMING_NOT_ALLOWED)
+    }
+}
+
+/// updateLocation. It does not begin for an unknown subscriber, nor at a VLR that the record does not allow.
+pub(crate) fn update(
+    who: Asker,
+    register: Register,
+    subscriber: Option<&Record>,
+    new: Tid,
+) -> Outcome
+    ensures leaves { (here : Local) → IfSome subscriber.entry (λ s. s.now.imsi ≡ here.imsi)
+        → here.record_of ≡ known subscriber.entry
+        → outcome_of here None [] result
+        ≡ update_begins here (asker_of who) who.invoke (register_of register) (known subscriber.entry) new }
+    ensures writable { CanBeWritten result.after (option_copied subscriber.entry) }
+{
+    match subscriber {
+        Some(subscriber) if !subscriber.withdrawn => update_known(who, register, subscriber, new),
+        _ => failed(who, UNKNOWN_SUBSCRIBER),
+    }
+}
