@@ -1,21 +1,14 @@
 -- One line of a batch more.
-use Rattle.std.proofs.Common.{◌≡◌, ℕ, ◌+◌, true, false, List, [], ◌∷◌, ◌++◌, map, length, refl, sym, ap, subst, ◌∙◌, inl, inr}
-use Rattle.std.specs.Prelude.{◌⊎◌, codes}
+use Rattle.std.proofs.Common.{◌≡◌, ℕ, ◌+◌, false, List, [], ◌∷◌, length, sym, ap, subst, ◌∙◌}
+use Rattle.std.specs.Prelude.{codes}
 use Rattle.std.specs.List.{AllByRecursion}
 use Rattle.records.specs.Reading.{is_text}
-use Rattle.hlr_program.specs.declared.group.Group.{Group}
-use Rattle.hlr_program.specs.declared.fault.Fault.{Fault}
-use Rattle.hlr_program.specs.declared.fault.Fault.TheVariants.{BadLine}
-use Rattle.hlr_program.specs.declared.item.LineFault.{LineFault}
-use Rattle.hlr_program.specs.declared.item.LineFault.TheVariants.{Memory}
-use Rattle.hlr_program.specs.Statuses.{fault_at}
-use Rattle.hlr_program.specs.Octets.{IsOctets, octets_of, are_known}
-use Rattle.hlr_program.specs.Script.{Line, Frame, Clock, Expire, Batch, Codes, Withdraw, IsLine, HasOctets}
-use Rattle.hlr_program.specs.Batches.{IsGood, HasIds, LacksId, SaidLacksId, IsFirst, batch_of, behind_batch}
+use Rattle.hlr_program.specs.Script.{Line, Frame, IsLine}
+use Rattle.hlr_program.specs.Batches.{IsGood, HasIds, LacksId, batch_of, behind_batch}
 use Rattle.hlr_program.specs.Runs.{Progress, SaidSends, LineSends, LinesSend}
 use Rattle.hlr_program.proofs.OctetLaws.{octets_again}
-use Rattle.hlr_program.proofs.CheckLaws.{Completes, begins, goes_on, ends, batch_goes_on, batch_ends, behind_goes_on, behind_ends}
-use Rattle.hlr_program.proofs.RunLemmas.{GoesOn, sending_begins, sending_goes_on, sending_ends, known_octets}
+use Rattle.hlr_program.proofs.CheckLaws.{Completes, goes_on, ends, batch_goes_on, behind_goes_on}
+use Rattle.hlr_program.proofs.RunLemmas.{GoesOn, sending_goes_on, sending_ends, known_octets}
 
 -- ---- what a line says
 

@@ -8,3 +8,4 @@ pub mod EngineLemmas
 pub mod RunLemmas
 pub mod BatchLemmas
 pub mod ScriptLemmas
+pub mod ServeLemmas

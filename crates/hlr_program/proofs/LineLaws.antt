@@ -1,7 +1,7 @@
 -- What a line says.
 use Rattle.std.proofs.Common.{◌≡◌, ℕ, List, ◌∷◌, refl, sym, ap, subst, ◌∙◌}
 use Rattle.std.proofs.lemmas.Bool.{false≢true}
-use Rattle.std.specs.Prelude.{Option, Some, None, IfSome, Result, Ok, Err, IfOk, MatchResult, option_map, codes}
+use Rattle.std.specs.Prelude.{Option, Some, None, IfSome, Result, Ok, Err, IfOk, MatchResult, codes}
 use Rattle.records.specs.File.{parts}
 use Rattle.records.proofs.PartsLemmas.{parts_cons}
 use Rattle.hlr_program.specs.declared.item.Item.{Item}

@@ -1,6 +1,7 @@
 -- What the lines of a batch do: the events that they stand for, handled one after the other (profile).
-use Rattle.std.specs.Prelude.{◌≡◌, ℕ, List, [], ◌∷◌, ◌++◌, map, Some}
-use Rattle.std.specs.List.{range_with_len}
+use Rattle.std.specs.Prelude.{◌≡◌, ℕ, List, [], ◌∷◌, ◌++◌, map, Option, Some}
+use Rattle.std.specs.List.{AllByRecursion, range_with_len}
+use Rattle.std.specs.Io.KnownBytes.{Appends}
 use Rattle.machine.specs.Numbers.{shards as shard_count}
 use Rattle.machine.specs.Events as machine
 use Rattle.frames.specs.Octets.{RawEvent, RawFrame, RawClock, RawExpire, RawChange, RawOut}
@@ -9,7 +10,10 @@ use Rattle.hlrcore.specs.Serving.{raw_out}
 use Rattle.hlr_program.specs.declared.group.Group.{Group}
 use Rattle.hlr_program.specs.Octets.{IsOctets, octets_of}
 use Rattle.hlr_program.specs.Script.{Line, Frame, Clock, Expire, Batch, Codes, Withdraw, IsLine}
-use Rattle.hlr_program.specs.Engine.{EngineState, Handles}
+use Rattle.records.specs.File.{Contents, File, lines}
+use Rattle.records.specs.Loaded.{Subscribers, loaded_from}
+use Rattle.hlr_program.specs.Batches.{IsGood, batches_of}
+use Rattle.hlr_program.specs.Engine.{EngineState, BeginsWith, Handles}
 use Rattle.hlr_program.specs.Printed.{sent_lines, noted_in}
 
 -- The register, and the frames that a batch has sent so far.
@@ -60,3 +64,24 @@ BatchesPrint ids before [] printed after = (printed ≡ []) × (after ≡ before
 BatchesPrint ids before (batch ∷ more) printed after =
     (done : Progress) × (rest : List ℕ) × LinesSend ids (progress before []) batch done × (printed ≡ sent_lines done.sent ++ rest)
     × BatchesPrint (noted_in ids done.sent) done.engine more rest after
+
+-- A register that has loaded this is given these lines of a script; what the batches print stands behind what was written
+-- before. Of a writer whose bytes are not known nothing is said.
+pub record Prints (loaded : Subscribers) (script : List ℕ) (old new : Option (List ℕ)) : Type 0 where
+  pub begin : EngineState
+  pub begins : BeginsWith loaded begin
+  pub printed : List ℕ
+  pub end : EngineState
+  pub batches : BatchesPrint [] begin (batches_of (lines script)) printed end
+  pub appends : Appends old new printed
+
+-- The text is a records file, and this is what is loaded of it.
+abbrev pub IsLoadedFrom : List ℕ → Subscribers → Type 0
+IsLoadedFrom file loaded = (contents : Contents) × File file contents × (loaded ≡ loaded_from contents)
+
+-- The text is a records file; each line of the script is good; and the script is run on what the file says.
+pub record Serves (file script : List ℕ) (old new : Option (List ℕ)) : Type 0 where
+  pub loaded : Subscribers
+  pub is_loaded : IsLoadedFrom file loaded
+  pub is_script : AllByRecursion IsGood (lines script)
+  pub prints : Prints loaded script old new

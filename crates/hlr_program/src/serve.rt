@@ -1,11 +1,11 @@
 //! A run of the program.
 
-ghost use Rattle.std.specs.Prelude.{◌≡◌, ℕ, List, [], IfOk, OnOk};
+ghost use Rattle.std.specs.Prelude.{◌≡◌, ℕ, List, [], IfOk, IfSome, OnOk};
 ghost use Rattle.std.specs.List.{AllByRecursion};
 ghost use Rattle.std.specs.Io.KnownBytes.{Appends};
 ghost use Rattle.records.specs.File.{lines};
 ghost use Rattle.hlr_program.specs.Batches.{IsGood, batches_of};
-ghost use Rattle.hlr_program.specs.Runs.{BatchesPrint};
+ghost use Rattle.hlr_program.specs.Runs.{BatchesPrint, IsLoadedFrom, Prints, Serves};
 
 use crate::batch::handle_batch;
 use crate::check::check_script;
@@ -21,7 +21,7 @@ use std::alloc::Global;
 use std::io::{Read, Write};
 
 /// Reads the records and the script, runs the script and prints what is sent, batch by batch. A fault is one line on `err`.
-/// Answers the status that the program ends with.
+/// Answers the status that the program ends with: 0 where all was run and printed.
 ///
 /// Limitation: listings, saving and worker threads are not there yet. Where they are asked for, the answer is that of no
 /// command line.
@@ -32,7 +32,12 @@ pub fn serve_script<A: Read, B: Read, W: Write, E: Write>(
     script: &mut B,
     out: &mut W,
     err: &mut E,
-) -> u8 {
+) -> u8
+    // The program: the records file is one, each line of the script is good, and what is printed is what the register sends,
+    // batch by batch. It is said of readers and writers whose octets are known.
+    ensures { result ≡ 0 → IfSome (A.remaining records.old) (λ file. IfSome (B.remaining script.old) (λ lines.
+        Serves file lines (W.contents out.old) (W.contents out.new))) }
+{
     match serve(alloc, options, records, script, out) {
         Ok(()) => 0,
         Err(fault) => {
@@ -48,21 +53,22 @@ fn serve<A: Read, B: Read, W: Write>(
     records: &mut A,
     script: &mut B,
     out: &mut W,
-) -> Result<(), Fault> {
+) -> Result<(), Fault>
+    ensures { OnOk result (IfSome (A.remaining records.old) (λ file. IfSome (B.remaining script.old) (λ lines.
+        Serves file lines (W.contents out.old) (W.contents out.new)))) }
+{
     if options.list || options.save || options.workers > 0 {
         return Err(Fault::CommandLine);
     }
     let loaded = load(alloc, records)?;
     let script = read_script(alloc, script)?;
-    let mut engine = Engine::new(alloc, loaded)?;
-    let ran = run(alloc, &mut engine, &script, out);
-    let flushed = out.flush();
-    ran?;
-    flushed.map_err(|_| Fault::Output)
+    run_loaded(alloc, loaded, &script, out)
 }
 
 /// What the records file says.
-fn load<R: Read>(alloc: Global, reader: &mut R) -> Result<Loaded, Fault> {
+fn load<R: Read>(alloc: Global, reader: &mut R) -> Result<Loaded, Fault>
+    ensures { IfOk result (λ loaded. IfSome (R.remaining reader.old) (λ file. IsLoadedFrom file loaded)) }
+{
     match read_all(alloc, reader) {
         Ok(text) => Ok(read_records(alloc, &text)?),
         Err(InputFault::Unreadable) => Err(Fault::UnreadableRecords),
@@ -72,7 +78,8 @@ fn load<R: Read>(alloc: Global, reader: &mut R) -> Result<Loaded, Fault> {
 
 /// The script, each of its lines being of a form.
 fn read_script<R: Read>(alloc: Global, reader: &mut R) -> Result<Vec<u8>, Fault>
-    ensures { IfOk result (λ script. AllByRecursion IsGood (lines script.items)) }
+    ensures good { IfOk result (λ script. AllByRecursion IsGood (lines script.items)) }
+    ensures whole { IfOk result (λ script. IfSome (R.remaining reader.old) (λ all. script.items ≡ all)) }
 {
     match read_all(alloc, reader) {
         Ok(text) => {
@@ -81,6 +88,26 @@ fn read_script<R: Read>(alloc: Global, reader: &mut R) -> Result<Vec<u8>, Fault>
         }
         Err(InputFault::Unreadable) => Err(Fault::UnreadableScript),
         Err(InputFault::Memory) => Err(Fault::Memory),
+    }
+}
+
+/// Runs a script on what a records file says.
+fn run_loaded<W: Write>(
+    alloc: Global,
+    loaded: Loaded,
+    script: &[u8],
+    out: &mut W,
+) -> Result<(), Fault>
+    requires { AllByRecursion IsGood (lines script.now) }
+    ensures { OnOk result (Prints loaded script.now (W.contents out.old) (W.contents out.new)) }
+{
+    let mut engine = Engine::new(alloc, loaded)?;
+    let ran = run(alloc, &mut engine, script, out);
+    let flushed = out.flush();
+    match ran {
+        Ok(()) if flushed.is_ok() => Ok(()),
+        Ok(()) => Err(Fault::Output),
+        Err(fault) => Err(fault),
     }
 }
 

@@ -1,4 +1,3 @@
-use Rattle.std.proofs.Common.{length}
 use Rattle.hlr_program.specs.Script.{line_of}
 use Rattle.hlr_program.specs.Runs.{progress}
 use Rattle.hlr_program.proofs.RunLemmas.{then_on}

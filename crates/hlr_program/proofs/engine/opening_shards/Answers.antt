@@ -1,10 +1,10 @@
-use Rattle.std.proofs.Common.{rules, ◌≡◌, ◌+◌, List, [], ◌∷◌, ◌++◌, map, length, length-append, arith, sym, ap, subst, ◌∙◌, refl}
+use Rattle.std.proofs.Common.{rules, ◌≡◌, ◌+◌, List, ◌∷◌, ◌++◌, map, length, length-append, arith, sym, ap, subst, ◌∙◌, refl}
 use Rattle.std.specs.Arc.{arc_value}
 use Rattle.std.specs.List.{range_with_len}
 use Rattle.std.proofs.lemmas.List.{length_push}
 use Rattle.records.specs.Parts.{AreParts}
 use Rattle.records.specs.Maps.{RecordMap, DirectoryMap, part_of}
-use Rattle.hlrcore.specs.Shards.{ShardState, shard_of_fields}
+use Rattle.hlrcore.specs.Shards.{shard_of_fields}
 use Rattle.hlr_program.specs.Engine.{opening_shard}
 use Rattle.hlr_program.proofs.EngineLemmas.{one_shard_more, next_part, part_taken}
 use Rattle.hlr_program.proofs.engine.opening_shards.Goals as goal
