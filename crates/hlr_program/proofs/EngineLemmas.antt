@@ -1,9 +1,7 @@
 -- The shards of a run, at first and behind an event.
 use Rattle.std.proofs.Common.{◌≡◌, ℕ, zero, suc, ◌+◌, ◌<◌, List, [], ◌∷◌, ◌++◌, map, length, set, length-set, true, false, refl, sym, ap, subst, ◌∙◌, arith, inl, inr, append_assoc, length-append}
-use Rattle.std.specs.Prelude.{◌⊎◌, Some, slice_get}
-use Rattle.std.specs.List.{range_with_len}
-use Rattle.std.proofs.lemmas.Option.{slice_get_within, get_or_from_slice_get, slice_get-get_or}
-use Rattle.std.proofs.lemmas.List.FromFn.{length-map-range_with_len, get_or-map-range_with_len, map-range_with_len_more}
+use Rattle.std.specs.Prelude.{◌⊎◌, Option, Some, None, slice_get}
+use Rattle.std.proofs.lemmas.Option.{get_or_from_slice_get}
 use Rattle.std.proofs.Math.Seq.{get_or-append_seam}
 use Rattle.records.specs.Maps.{DirectoryMap, RecordMap, part_of}
 use Rattle.records.specs.Parts.{AreParts}
@@ -12,22 +10,44 @@ use Rattle.machine.specs.Events.{Event}
 use Rattle.machine.specs.Routing.{route}
 use Rattle.frames.specs.Octets.{RawEvent, RawOut, IsEvent, StepOctets}
 use Rattle.hlrcore.specs.declared.event.Event as code
-use Rattle.hlrcore.specs.declared.answer.StepAnswer.{StepAnswer}
+use Rattle.shard_state.specs.declared.answer.StepAnswer.{StepAnswer}
 use Rattle.hlrcore.specs.Events.{event_of, raw_of}
-use Rattle.hlrcore.specs.Shards.{ShardState, state_of, directory_of}
-use Rattle.hlrcore.specs.Serving.{IsSilent, is_served, entry_of, raw_out}
-use Rattle.hlrcore.specs.SameShard.{IsSameShard}
-use Rattle.hlrcore.proofs.OpeningLemmas.{opens_part}
-use Rattle.hlr_program.specs.Engine.{EngineState, AreShards, BeginsWith, Handles, Takes, engine_of_fields, opening_shard, opening_shards}
+use Rattle.machine.specs.Opening.{opening}
+use Rattle.machine.specs.Parts.{part}
+use Rattle.shard_state.specs.Shards.{ShardState, IsOpening, IsSameShard, state_of, records_of, directory_of}
+use Rattle.shard_state.specs.Answers.{entry_of, raw_out}
+use Rattle.hlr_program.specs.Engine.{AreOpening, AreShards, BeginsWith, EngineState, Handles, IsOpeningShard, Takes, engine_of_fields}
 
 -- ---- at first
 
+-- no shard yet
+pub no_shard : (loaded : Subscribers) (shards : List ShardState) → shards ≡ [] → AreOpening loaded 0 shards
+no_shard loaded shards is = subst (AreOpening loaded 0) (sym is) (record { length_is = refl; each = none_at })
+  where
+    none_at : (n : ℕ) (s : ShardState) → slice_get [] n ≡ Some s → IsOpeningShard loaded n s
+    none_at zero s e = absurd cc
+    none_at (suc n) s e = absurd cc
+
+-- the shards at the places below a longer list's last
+below_or_last : {X : Type 0} (xs : List X) (x y : X) (n : ℕ) → slice_get (xs ++ x ∷ []) n ≡ Some y → (slice_get xs n ≡ Some y) ⊎ ((n ≡ length xs) × (x ≡ y))
+below_or_last [] x y zero e = inr (refl, cc)
+below_or_last [] x y (suc n) e = absurd cc
+below_or_last (z ∷ zs) x y zero e = inl e
+below_or_last (z ∷ zs) x y (suc n) e = elim (below_or_last zs x y n e) [
+  | inl h ↦ inl h
+  | inr h ↦ inr (ap suc h.0, h.1)
+]
+
 -- one shard more
-pub one_shard_more : (loaded : Subscribers) (n : ℕ) (before after : List ShardState) (s : ShardState) → before ≡ map (opening_shard loaded) (range_with_len 0 n) → s ≡ opening_shard loaded n
-    → after ≡ before ++ s ∷ [] → after ≡ map (opening_shard loaded) (range_with_len 0 (n + 1))
-one_shard_more loaded n before after s so_far is pushed =
-    pushed ∙ ap (λ (xs : List ShardState). xs ++ s ∷ []) so_far ∙ ap (λ (t : ShardState). map (opening_shard loaded) (range_with_len 0 n) ++ t ∷ []) is
-    ∙ sym (map-range_with_len_more (opening_shard loaded) 0 n n (omega arith))
+pub one_shard_more : (loaded : Subscribers) (n : ℕ) (before after : List ShardState) (s : ShardState) → AreOpening loaded n before → IsOpeningShard loaded n s
+    → after ≡ before ++ s ∷ [] → AreOpening loaded (n + 1) after
+one_shard_more loaded n before after s so_far is pushed = subst (AreOpening loaded (n + 1)) (sym pushed) (record {
+  length_is = length-append before (s ∷ []) ∙ ap (λ k. k + 1) so_far.length_is;
+  each = λ m t e. elim (below_or_last before s t m e) [
+    | inl h ↦ so_far.each m t h
+    | inr h ↦ subst (IsOpeningShard loaded m) h.1 (subst (λ k. IsOpeningShard loaded k s) (sym (h.0 ∙ so_far.length_is)) is)
+  ];
+})
 
 -- the records that come next are those of the shard with the next number
 pub next_part : (all : RecordMap) (taken rest : List RecordMap) (r : RecordMap) → AreParts all (taken ++ r ∷ rest) → r ≡ part_of all (length taken)
@@ -39,31 +59,46 @@ next_part all taken rest r parts =
 pub part_taken : (all : RecordMap) (taken rest : List RecordMap) (r : RecordMap) → AreParts all (taken ++ r ∷ rest) → AreParts all ((taken ++ r ∷ []) ++ rest)
 part_taken all taken rest r parts = subst (AreParts all) (sym (append_assoc taken (r ∷ []) rest)) parts
 
--- the shard at a place
-opened_at : (loaded : Subscribers) (n : ℕ) (s : ShardState) → slice_get (opening_shards loaded) n ≡ Some s → s ≡ opening_shard loaded n
-opened_at loaded n s e =
-    let inside : n < length (opening_shards loaded) = slice_get_within (opening_shards loaded) n s e in
-    let small : n < 16 = omega (arith, inside, length-map-range_with_len (opening_shard loaded) 0 16) in
-    sym (get_or_from_slice_get (opening_shards loaded) n s s e) ∙ get_or-map-range_with_len (opening_shard loaded) 0 16 n n s small (omega arith)
+there_is_one : {X : Type 0} (xs : List X) (n : ℕ) → n < length xs → slice_get xs n ≡ None → ⊥
+there_is_one [] n inside e = absurd (omega (arith, inside))
+there_is_one (z ∷ zs) zero inside e = absurd cc
+there_is_one (z ∷ zs) (suc n) inside e = there_is_one zs n (omega (arith, inside)) e
 
-pub open_shards : (loaded : Subscribers) (directory : DirectoryMap) (shards : List ShardState) → directory ≡ loaded.directory → shards ≡ opening_shards loaded → AreShards directory shards
-open_shards loaded directory shards same is = subst (AreShards directory) (sym is) (record {
-  count = length-map-range_with_len (opening_shard loaded) 0 16;
-  place = λ n s e. ap (λ (t : ShardState). t.shard) (opened_at loaded n s e);
-  directory_is = λ n s e. ap (λ (t : ShardState). t.directory) (opened_at loaded n s e) ∙ sym same;
-  hlr = λ n m s t e f. ap (λ (u : ShardState). u.hlr) (opened_at loaded n s e) ∙ sym (ap (λ (u : ShardState). u.hlr) (opened_at loaded m t f));
-})
+pub open_shards : (loaded : Subscribers) (directory : DirectoryMap) (shards : List ShardState) → directory ≡ loaded.directory → AreOpening loaded 16 shards → AreShards directory shards
+open_shards loaded directory shards same are = record {
+  count = are.length_is;
+  place = λ n s e. (are.each n s e).opens_as.shard_is;
+  directory_is = λ n s e. (are.each n s e).opens_as.directory_is ∙ sym same;
+  hlr = λ n m s t e f. (are.each n s e).opens_as.hlr_is ∙ sym (are.each m t f).opens_as.hlr_is;
+}
 
-pub begins_with : (loaded : Subscribers) (directory : DirectoryMap) (shards : List ShardState) → directory ≡ loaded.directory → shards ≡ opening_shards loaded
+pub begins_with : (loaded : Subscribers) (directory : DirectoryMap) (shards : List ShardState) → directory ≡ loaded.directory → AreOpening loaded 16 shards
     → BeginsWith loaded (engine_of_fields directory shards)
-begins_with loaded directory shards same is = record {
+begins_with loaded directory shards same are = record {
   directory = same;
-  parts = λ n small.
-      let inside : n < length (opening_shards loaded) = omega (arith, small, length-map-range_with_len (opening_shard loaded) 0 16) in
-      let at : slice_get (opening_shards loaded) n ≡ Some (opening_shard loaded n) =
-      slice_get-get_or (opening_shards loaded) n (opening_shard loaded n) inside
-      ∙ ap (λ (s : ShardState). Some s) (get_or-map-range_with_len (opening_shard loaded) 0 16 n n (opening_shard loaded n) small (omega arith)) in
-      (opening_shard loaded n, subst (λ (xs : List ShardState). slice_get xs n ≡ Some (opening_shard loaded n)) (sym is) at, opens_part n loaded.records loaded.directory loaded.hlr);
+  parts = λ n small. at n (slice_get shards n) refl (omega (arith, small, are.length_is));
+}
+  where
+    at : (n : ℕ) (o : Option ShardState) → slice_get shards n ≡ o → n < length shards → (s : ShardState) × (slice_get shards n ≡ Some s)
+        × (state_of s ≡ part (opening (records_of loaded.records) (directory_of loaded.directory) loaded.hlr) n)
+    at n None e inside = absurd (there_is_one shards n inside e)
+    at n (Some s) e inside = (s, e, (are.each n s e).part_is)
+
+-- a shard that is opened with its part
+pub opened_with : (loaded : Subscribers) (n : ℕ) (records : RecordMap) (directory : DirectoryMap) (hlr : List ℕ) (s : ShardState) → records ≡ part_of loaded.records n
+    → directory ≡ loaded.directory → hlr ≡ loaded.hlr → IsOpening n records directory hlr s
+    → ((all : RecordMap) → records ≡ part_of all n → state_of s ≡ part (opening (records_of all) (directory_of directory) hlr) n)
+    → IsOpeningShard loaded n s
+opened_with loaded n records directory hlr s own shared number is is_part = record {
+  opens_as = record {
+    shard_is = is.shard_is;
+    clock = is.clock;
+    records_are = is.records_are ∙ own;
+    none_open = is.none_open;
+    directory_is = is.directory_is ∙ shared;
+    hlr_is = is.hlr_is ∙ number;
+  };
+  part_is = is_part loaded.records own ∙ (λ i. part (opening (records_of loaded.records) (directory_of (shared i)) (number i)) n);
 }
 
 -- ---- one shard changes
@@ -102,16 +137,12 @@ shard_took directory shards i before after h at same = record {
 
 -- what a shard's step answers
 pub took : (before after : ShardState) (event : code.Event) (raw : RawEvent) (a : StepAnswer) → raw_of event ≡ raw
-    → (is_served (state_of before) (event_of event) ≡ true → StepOctets (state_of before) (entry_of (raw_of event) a) (state_of after))
-    → (is_served (state_of before) (event_of event) ≡ false → IsSilent a × (after ≡ before))
-    → Takes before raw (event_of event) (map raw_out a.outs.items) after
-took before after event raw a same steps stays = record {
-  stepped = λ served. (a.id, a.subject, subst (λ (r : RawEvent). StepOctets (state_of before) (entry_of r a) (state_of after)) same (steps served));
-  unserved = λ other. (ap (map raw_out) (stays other).0.outs, (stays other).1);
-}
+    → StepOctets (state_of before) (entry_of (raw_of event) a) (state_of after)
+    → Takes before raw (map raw_out a.outs.items) after
+took before after event raw a same stepped = (a.id, a.subject, subst (λ (r : RawEvent). StepOctets (state_of before) (entry_of r a) (state_of after)) same stepped)
 
 pub handled : (before : EngineState) (directory : DirectoryMap) (shards : List ShardState) (raw : RawEvent) (event : Event) (outs : List RawOut) (i : ℕ) (s t : ShardState)
-    → engine_of_fields directory shards ≡ before → IsEvent raw event → i ≡ route (directory_of directory) event → slice_get shards i ≡ Some s → Takes s raw event outs t
+    → engine_of_fields directory shards ≡ before → IsEvent raw event → i ≡ route (directory_of directory) event → slice_get shards i ≡ Some s → Takes s raw outs t
     → Handles before raw outs (engine_of_fields directory (set shards i t))
 handled before directory shards raw event outs i s t view is routed at takes = subst (λ (e : EngineState). Handles e raw outs (engine_of_fields directory (set shards i t))) view (record {
   event = event;

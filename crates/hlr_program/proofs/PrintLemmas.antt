@@ -4,8 +4,8 @@ use Rattle.std.specs.Prelude.{slice_index, Option, Some, None}
 use Rattle.std.specs.Io.KnownBytes.{Appends}
 use Rattle.std.proofs.lemmas.List.{append-nil, take_more, map-append}
 use Rattle.frames.specs.Octets.{RawOut}
-use Rattle.hlrcore.specs.declared.answer.Out.{Out}
-use Rattle.hlrcore.specs.Serving.{raw_out}
+use Rattle.shard_state.specs.declared.answer.Out.{Out}
+use Rattle.shard_state.specs.Answers.{raw_out}
 use Rattle.hlr_program.specs.Letters.{noted, originating_id}
 use Rattle.hlr_program.specs.Printed.{sent_line, sent_lines, noted_in}
 use Rattle.hex.specs.Hex.{encode_with, encode_upper, upper_digits}

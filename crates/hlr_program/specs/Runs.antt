@@ -5,8 +5,8 @@ use Rattle.std.specs.Io.KnownBytes.{Appends}
 use Rattle.machine.specs.Numbers.{shards as shard_count}
 use Rattle.machine.specs.Events as machine
 use Rattle.frames.specs.Octets.{RawEvent, RawFrame, RawClock, RawExpire, RawChange, RawOut}
-use Rattle.hlrcore.specs.declared.answer.Out.{Out}
-use Rattle.hlrcore.specs.Serving.{raw_out}
+use Rattle.shard_state.specs.declared.answer.Out.{Out}
+use Rattle.shard_state.specs.Answers.{raw_out}
 use Rattle.hlr_program.specs.declared.group.Group.{Group}
 use Rattle.hlr_program.specs.Octets.{IsOctets, octets_of}
 use Rattle.hlr_program.specs.Script.{Line, Frame, Clock, Expire, Batch, Codes, Withdraw, IsLine}

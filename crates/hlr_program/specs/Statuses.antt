@@ -3,6 +3,10 @@
 use Rattle.std.specs.Prelude.{ℕ}
 use Rattle.hlr_program.specs.declared.fault.Fault.{Fault}
 use Rattle.hlr_program.specs.declared.fault.Fault.TheVariants.{CommandLine, UnreadableRecords, BadRecord, TwiceRecord, UnreadableScript, BadLine, NoRoom, Memory, Unaccounted, Output}
+use Rattle.frames.specs.Octets.{RawEvent}
+use Rattle.hlr_program.specs.Engine.{IsChange}
+use Rattle.hlr_program.specs.declared.engine.EngineFault.{EngineFault}
+use Rattle.hlr_program.specs.declared.engine.EngineFault.TheVariants as engine
 use Rattle.hlr_program.specs.declared.item.LineFault.{LineFault}
 use Rattle.hlr_program.specs.declared.item.LineFault.TheVariants as line
 
@@ -23,6 +27,11 @@ abbrev pub fault_at : LineFault → ℕ → Fault
 fault_at line.Bad number = BadLine number
 fault_at line.Memory number = Memory
 
+-- why an event was not handled
+abbrev pub fault_of : EngineFault → Fault
+fault_of engine.NoRoom = NoRoom
+fault_of engine.Memory = Memory
+
 -- What ends the reading of a script: a line of it, or want of memory.
 abbrev pub IsScriptFault : Fault → Type 0
 IsScriptFault (BadLine number) = Unit {0}
@@ -35,3 +44,14 @@ IsScriptFault UnreadableScript = ⊥
 IsScriptFault NoRoom = ⊥
 IsScriptFault (Unaccounted job) = ⊥
 IsScriptFault Output = ⊥
+
+-- What ends a batch: also want of room for what an operator's change would open.
+abbrev pub IsBatchFault : Fault → Type 0
+IsBatchFault NoRoom = Unit {0}
+IsBatchFault fault = IsScriptFault fault
+
+-- What ends the handling of an event: want of memory, or for a change want of room.
+abbrev pub IsEventFault : RawEvent → Fault → Type 0
+IsEventFault raw Memory = Unit {0}
+IsEventFault raw NoRoom = IsChange raw
+IsEventFault raw _ = ⊥

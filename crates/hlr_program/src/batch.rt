@@ -9,7 +9,7 @@ ghost use Rattle.hlr_program.specs.declared.group.Group.{Group};
 ghost use Rattle.hlr_program.specs.Octets.{IsOctets, octets_of, are_known};
 ghost use Rattle.hlr_program.specs.Script.{line_of};
 ghost use Rattle.hlr_program.specs.Batches.{IsGood, HasIds, LacksId, SaidLacksId, IsFirst, batch_of, behind_batch};
-ghost use Rattle.hlr_program.specs.Statuses.{IsScriptFault};
+ghost use Rattle.hlr_program.specs.Statuses.{IsBatchFault, IsEventFault};
 ghost use Rattle.hlr_program.specs.Runs.{Sends, AllSend, SaidSends, LineSends, LinesSend, progress};
 
 use crate::check::{check_letters, is_end};
@@ -39,7 +39,7 @@ pub fn handle_batch<'a>(
     ensures known { OnOk result (AllByRecursion (HasIds (length ids.now)) (batch_of (lines from.entry.rest.now))) }
     ensures unknown { (n : ℕ) → result ≡ Err (Fault.BadLine n)
         → IsFirst (HasIds (length ids.now)) (LacksId (length ids.now)) (batch_of (lines from.entry.rest.now)) from.entry.before n }
-    ensures of_script { IfErr result IsScriptFault }
+    ensures of_script { IfErr result IsBatchFault }
     ensures behind { IfOk result (λ place. lines place.rest.now ≡ behind_batch (lines from.entry.rest.now)) }
     ensures shorter { 0 < length from.entry.rest.now → IfOk result (λ place. length place.rest.now < length from.entry.rest.now) }
 {
@@ -58,7 +58,7 @@ pub fn handle_batch<'a>(
 
 /// What a batch ends with that stopped at a line.
 fn first_fault(alloc: Global, from: Place, known: usize, fault: Fault) -> Fault
-    ensures of_script { IsScriptFault fault → IsScriptFault result }
+    ensures of_script { IsBatchFault fault → IsBatchFault result }
     ensures first { (n : ℕ) → result ≡ Fault.BadLine n
         → ((fault ≡ Fault.BadLine n) × AllByRecursion (HasIds known) (batch_of (lines from.entry.rest.now)))
         ⊎ IsFirst (HasIds known) (LacksId known) (batch_of (lines from.entry.rest.now)) from.entry.before n }
@@ -82,7 +82,7 @@ fn handle_line(
         (LineSends ids.now (progress engine.old sent.old.items) line.entry.text.now (progress engine.new sent.new.items)) }
     ensures known { OnOk result (HasIds (length ids.now) line.entry.text.now) }
     ensures lacks { (n : ℕ) → result ≡ Err (Fault.BadLine n) → ¬ (HasIds (length ids.now) line.entry.text.now) }
-    ensures of_script { IfErr result IsScriptFault }
+    ensures of_script { IfErr result IsBatchFault }
 {
     match read_line(alloc, line.text) {
         Ok(item) => handle_item(alloc, engine, item, line.number, ids, sent),
@@ -101,7 +101,7 @@ fn handle_item(
     ensures sends { OnOk result
         (SaidSends ids.now (progress engine.old sent.old.items) (line_of item.entry) (progress engine.new sent.new.items)) }
     ensures lacks { (n : ℕ) → result ≡ Err (Fault.BadLine n) → SaidLacksId (length ids.now) (line_of item.entry) }
-    ensures of_script { IfErr result IsScriptFault }
+    ensures of_script { IfErr result IsBatchFault }
 {
     match item {
         Item::Frame { from, octets } => match frame(alloc, from, octets, ids) {
@@ -166,7 +166,7 @@ fn expire(engine: &mut Engine, sent: &mut Vec<Out>) -> Result<(), Fault>
 fn handle(engine: &mut Engine, event: RawEvent, sent: &mut Vec<Out>) -> Result<(), Fault>
     ensures sends { OnOk result
         (Sends (progress engine.old sent.old.items) (raw_event event) (progress engine.new sent.new.items)) }
-    ensures refused { IfErr result (λ fault. fault ≡ Fault.Memory) }
+    ensures refused { IfErr result (IsEventFault (raw_event event)) }
 {
     let outs = engine.handle(&event)?;
     put_behind(sent, outs)?;

@@ -1,9 +1,9 @@
 //! The register of a run: its shards, and the arena that frames are read in.
 
-ghost use Rattle.std.specs.Prelude.{◌≡◌, IfOk, OnErr, map};
+ghost use Rattle.std.specs.Prelude.{◌≡◌, Err, IfOk, OnErr, map};
 ghost use Rattle.hlrcore.specs.Events.{raw_event};
-ghost use Rattle.hlrcore.specs.Serving.{raw_out};
-ghost use Rattle.hlr_program.specs.Engine.{BeginsWith, Handles, opening_shards};
+ghost use Rattle.shard_state.specs.Answers.{raw_out};
+ghost use Rattle.hlr_program.specs.Engine.{AreOpening, BeginsWith, Handles, IsChange};
 
 use bumpalo::Bump;
 use hlrcore::{Event, EventFault, Out, RawEvent, State, StepFault, route};
@@ -18,6 +18,8 @@ pub const SHARDS: u8 = 16;
 /// Why an event was not handled.
 #[derive(Clone, Copy, PartialEq, Eq, Debug, Drop)]
 pub enum EngineFault {
+    /// An operator's change would open a dialogue in a shard with as many as may be.
+    NoRoom,
     /// A growth was refused, or the arena did not give its memory back.
     Memory,
 }
@@ -81,10 +83,12 @@ impl Engine {
         })
     }
 
-    /// Handles an event, and gives the frames that it sends, in their order. Where memory is refused nothing has changed.
+    /// Handles an event, and gives the frames that it sends, in their order. Where memory is refused, or an operator's change
+    /// for want of room, nothing has changed.
     pub fn handle(&mut self, raw: &RawEvent) -> Result<Vec<Out>, EngineFault>
         // The shard that the event is for takes it, and the others are as they were.
         ensures handles { IfOk result (λ outs. Handles self.old (raw_event raw.now) (map raw_out outs.items) self.new) }
+        ensures no_room { result ≡ Err EngineFault.NoRoom → IsChange (raw_event raw.now) }
         ensures err { OnErr result (self.new ≡ self.old) }
     {
         let event = Event::of(self.alloc, &mut self.bump, raw)?;
@@ -94,6 +98,7 @@ impl Engine {
             Ok(answer) => Ok(answer.outs),
             // the shard was found by the same route
             Err(StepFault::NotMine) => unreachable!(),
+            Err(StepFault::NoRoom) => Err(EngineFault::NoRoom),
             Err(StepFault::Memory) => Err(EngineFault::Memory),
         }
     }
@@ -101,7 +106,7 @@ impl Engine {
 
 /// The shards as they are when the records are loaded. No record is copied.
 fn opening_shards(alloc: Global, loaded: Loaded) -> Result<Vec<State>, AllocError>
-    ensures { IfOk result (λ shards. shards.items ≡ opening_shards loaded) }
+    ensures { IfOk result (λ shards. AreOpening loaded 16 shards.items) }
 {
     let directory = loaded.shared_directory()?;
     let hlr = *loaded.hlr();
@@ -110,7 +115,7 @@ fn opening_shards(alloc: Global, loaded: Loaded) -> Result<Vec<State>, AllocErro
     let mut shard = 0;
     for records in parts {
         let directory = Arc::try_clone(&directory)?;
-        shards.push(State::of_part(alloc, shard, records, directory, hlr))?;
+        shards.push(State::of_part(alloc, shard, records, directory, hlr)?)?;
         shard += 1;
     }
     Ok(shards)

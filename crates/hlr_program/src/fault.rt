@@ -104,12 +104,13 @@ impl From<RecordsFault> for Fault {
 
 impl From<EngineFault> for Fault {
     ghost use Rattle.std.specs.Prelude.{◌≡◌};
-    ghost use Rattle.hlr_program.specs.declared.fault.Fault.TheVariants.{Memory};
+    ghost use Rattle.hlr_program.specs.Statuses.{fault_of};
 
-    ghost from_gives = { λ _ fault. fault ≡ Memory };
+    ghost from_gives = { λ fault given. given ≡ fault_of fault };
 
     fn from(fault: EngineFault) -> Fault {
         match fault {
+            EngineFault::NoRoom => Fault::NoRoom,
             EngineFault::Memory => Fault::Memory,
         }
     }

@@ -1,7 +1,7 @@
 //! The lines that are printed.
 
 ghost use Rattle.std.specs.Prelude.{◌≡◌, ◌<◌, ◌++◌, ◌∷◌, [], map, slice_index, OnOk};
-ghost use Rattle.hlrcore.specs.Serving.{raw_out};
+ghost use Rattle.shard_state.specs.Answers.{raw_out};
 ghost use Rattle.hex.specs.Hex.{upper_digits, encode_upper};
 ghost use Rattle.std.specs.Io.KnownBytes.{Appends};
 ghost use Rattle.hlr_program.specs.Printed.{sent_line, sent_lines, noted_in};

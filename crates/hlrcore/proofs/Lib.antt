@@ -1,7 +1,6 @@
 pub mod ShardLemmas
-pub mod PrefixLemmas
-pub mod BeginLemmas
-pub mod OpeningLemmas
-pub mod StepLemmas
-pub mod PlanLemmas
 pub mod CodesLemmas
+pub mod TakenLemmas
+pub mod SettledLemmas
+pub mod TurnLemmas
+pub mod HearLemmas

@@ -1,6 +1,4 @@
 pub mod Events
 pub mod Taken
-pub mod Shards
-pub mod Serving
-pub mod Begun
-pub mod SameShard
+pub mod Leading
+pub mod Hearing

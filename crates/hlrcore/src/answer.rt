@@ -1,25 +1,9 @@
-//! What a step answers.
+//! Why a step was not taken.
 
 ghost use Rattle.std.specs.Prelude.{◌≡◌};
 
-use hlr_types::{Imsi, Peer, Tid};
 use std::alloc::{AllocError, AllocFailed};
 use thiserror::Error;
-
-/// A frame that is sent, with the address that it goes to.
-#[derive(Debug, PartialEq, Eq, Drop)]
-pub struct Out {
-    pub to: Peer,
-    pub octets: Vec<u8>,
-}
-
-/// What a step answers: the frames that it sends, in order, the local id that it took, and its subject.
-#[derive(Debug, PartialEq, Eq, Drop)]
-pub struct StepAnswer {
-    pub outs: Vec<Out>,
-    pub id: Option<Tid>,
-    pub subject: Option<Imsi>,
-}
 
 /// Why a step was not taken.
 #[derive(Clone, Copy, Debug, PartialEq, Eq, Drop, Error)]
@@ -27,6 +11,9 @@ pub enum StepFault {
     /// The event is for another shard.
     #[error("the event is for another shard")]
     NotMine,
+    /// An operator's change would open a dialogue, and as many are open as may be.
+    #[error("as many dialogues are open as may be")]
+    NoRoom,
     /// A growth was refused.
     #[error("out of memory")]
     Memory,

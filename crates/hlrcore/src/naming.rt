@@ -1,49 +1,19 @@
-//! The subscriber that an event is about, and the shard that it is for.
+//! The shard that an event is for.
 
-ghost use Rattle.std.specs.Prelude.{◌≡◌, ◌<◌, map, option_map};
-ghost use Rattle.machine.specs.Begins.{first_argument};
-ghost use Rattle.machine.specs.Routing.{asked, shard_named, shard_asked, route_message, route_verdict, route};
-ghost use Rattle.msgarena.specs.Seen.{argument, parameter, message, seen};
-ghost use Rattle.q773_comp.specs.Seen.{component};
+ghost use Rattle.std.specs.Prelude.{◌≡◌, ◌<◌};
+ghost use Rattle.machine.specs.Routing.{shard_named, shard_asked, route_message, route_verdict, route};
+ghost use Rattle.msgarena.specs.Seen.{message, seen};
 ghost use Rattle.hlrcore.specs.Events.{event_of};
-ghost use Rattle.hlrcore.specs.Shards.{directory_of};
+ghost use Rattle.shard_state.specs.Shards.{directory_of};
 
 use crate::event::Event;
 use hlr_types::{Imsi, RemoteId};
-use msgarena::{Argument, Message, Parameter, Verdict};
-use q773_comp::Component;
+use msgarena::{Message, Verdict};
 use records::{Directory, shard_of};
+use turns::asked;
 
 /// How many shards there are.
 const SHARDS: u8 = 16;
-
-/// The argument of the first component, where it is an Invoke with a parameter of its type.
-pub(crate) fn first_argument(components: &[Component<Parameter>]) -> Option<Argument>
-    ensures { option_map argument result ≡ first_argument (map (component parameter) components.now) }
-{
-    match components {
-        [
-            Component::Invoke {
-                parameter: Some(Parameter::Typed(argument)),
-                ..
-            },
-            ..
-        ] => Some(*argument),
-        _ => None,
-    }
-}
-
-/// The subscriber that a Begin asks about. An SM route is asked for by MSISDN.
-pub(crate) fn asked(directory: &Directory, components: &[Component<Parameter>]) -> Option<Imsi>
-    ensures { result ≡ asked (directory_of directory.now) (map (component parameter) components.now) }
-{
-    match first_argument(components)? {
-        Argument::BadValue => None,
-        Argument::Update(update) => Some(update.imsi),
-        Argument::Purge(purge) => Some(purge.imsi),
-        Argument::Route(route) => directory.find(&route.msisdn),
-    }
-}
 
 /// The shard of a destination id, which may be none of a local id's form.
 #[tactic(auto, unfolding(machine::specs::Keys::shard_of_id))]

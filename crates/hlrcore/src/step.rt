@@ -1,269 +1,90 @@
 //! One event of a shard.
 
-ghost use Rattle.std.specs.Prelude.{◌≡◌, ◌≢◌, ◌↔◌, ◌++◌, ◌∷◌, [], true, false, IfOk, IfSome, option_copied, option_map, min, max, OnErr, Err, Some, None, map};
+ghost use Rattle.std.specs.Prelude.{◌≡◌, ◌≢◌, ◌↔◌, [], IfOk, OnOk, OnErr, Err};
+ghost use Rattle.frames.specs.Octets.{RawChange, RawExpire};
 ghost use Rattle.machine.specs.Events as machine;
-ghost use Rattle.machine.specs.Sent.{SentAbort, Cause};
-ghost use Rattle.machine.specs.Outcome.{send};
-ghost use Rattle.machine.specs.Numbers.{latest_clock};
 ghost use Rattle.machine.specs.Routing.{route};
-ghost use Rattle.frames.specs.Octets.{RawFrame, StepOctets, spelled_out};
-ghost use Rattle.outgoing.specs.Seen.{message as said};
-ghost use Rattle.q773_comp.specs.Seen.{component};
-ghost use Rattle.msgarena.specs.Seen.{message as heard, parameter};
-ghost use Rattle.frames.specs.Frames.{IsVerdict};
-ghost use Rattle.machine.specs.Received.{Read};
-ghost use Rattle.std.specs.FinMap as finite;
-ghost use Rattle.records.specs.Subscriber.{Subscriber, placed};
-ghost use Rattle.hlrcore.specs.Begun.{IsBeginOf};
-ghost use Rattle.hlrcore.specs.Events.{event_of, raw_of};
-ghost use Rattle.hlrcore.specs.Shards.{state_of, directory_of, record_at};
-ghost use Rattle.hlrcore.specs.SameShard.{IsSameShard};
-ghost use Rattle.hlrcore.specs.Serving.{IsSilent, IsMine, IsHeard, IsPlan, IsPlanned, HasRegisterAt, Says, is_served, entry_of, raw_out};
+ghost use Rattle.machine.specs.Step.{HasNoRoom};
+ghost use Rattle.machine.specs.Turns.{Changes};
+ghost use Rattle.shard_state.specs.Shards.{IsSameShard, directory_of, state_of};
+ghost use Rattle.hlrcore.specs.Events.{change as said, event_of, raw_of};
+ghost use Rattle.hlrcore.specs.Leading.{IsMine, Leads};
+ghost use Rattle.turns.specs.Planning.{IsPlan};
 
-use crate::answer::{Out, StepAnswer, StepFault};
-use crate::begin::{Begun, begins};
+use crate::answer::StepFault;
+use crate::change::Change;
 use crate::event::Event;
-use crate::naming::{asked, route};
+use crate::naming::route;
+use crate::sending::silent;
 use crate::state::State;
-use hlr_types::{Imsi, Peer, RemoteId};
-use mapdlg::Why;
-use msgarena::{Indication, Message, Parameter, Verdict};
-use outgoing::{SentMessage, octets_of};
-use q773_comp::Component;
-use records::Record;
-use std::alloc::{AllocError, Global};
-
-/// A greater clock value counts as this one, 2^62 (profile).
-const LATEST_CLOCK: u64 = 1 << 62;
-
-/// The P-Abort cause unrecognizedTransactionID (Q.773).
-const UNRECOGNIZED_TRANSACTION_ID: u8 = 1;
-
-/// What a Begin comes to: the answer, and the subscriber whom the serving register has purged.
-#[derive(Drop)]
-pub(crate) struct Plan {
-    pub(crate) answer: StepAnswer,
-    pub(crate) purged: Option<Imsi>,
-}
+use hlr_types::Imsi;
+use shard_state::{Plan, StepAnswer};
+use std::alloc::AllocError;
+use turns::{expires, new_codes, withdraws};
 
 impl State {
-    /// Takes one event. Where it is for another shard the answer is `NotMine`; where a growth was refused, `Memory`. Then
-    /// nothing has changed.
-    ///
-    /// Limitation: an update that would open a dialogue, and an operator's change, do nothing yet.
+    /// Takes one event. Where it is for another shard the answer is `NotMine`; where it is an operator's change that would open
+    /// a dialogue, and as many are open as may be, `NoRoom`; where a growth was refused, `Memory`. Then nothing has changed.
     pub fn step(&mut self, event: &Event) -> Result<StepAnswer, StepFault>
-        // It is a step of the machine over octets, for every event that is served.
-        ensures stepped { IfOk result (λ a. is_served (state_of self.old) (event_of event.now) ≡ true
-            → StepOctets (state_of self.old) (entry_of (raw_of event.now) a) (state_of self.new)) }
-        ensures unserved { IfOk result (λ a. is_served (state_of self.old) (event_of event.now) ≡ false
-            → IsSilent a × (self.new ≡ self.old)) }
+        // It is a step of the machine over octets.
+        ensures stepped { IfOk result (λ a. Leads self.old (raw_of event.now) a self.new) }
         ensures not_mine { (result ≡ Err StepFault.NotMine)
             ↔ (route (directory_of self.old.directory) (event_of event.now) ≢ self.old.shard) }
+        // The machine has no step for it, and so it is never answered with one.
+        ensures no_room { result ≡ Err StepFault.NoRoom → HasNoRoom (state_of self.old) (event_of event.now) }
+        ensures room { HasNoRoom (state_of self.old) (event_of event.now) → OnOk result ⊥ }
         ensures err { OnErr result (self.new ≡ self.old) }
         ensures same_shard { IsSameShard self.old self.new }
     {
-        if route(&self.directory, event) != self.shard {
+        if route(self.shard.directory(), event) != self.shard.number() {
             return Err(StepFault::NotMine);
         }
         match event {
             Event::Frame(indication) => Ok(self.hear(indication)?),
             Event::Clock { now, .. } => {
-                self.tick(*now);
+                self.shard.tick(*now);
                 Ok(silent(self.alloc))
             }
-            Event::Expire { .. } => Ok(silent(self.alloc)),
-            Event::Change { .. } => Ok(silent(self.alloc)),
+            Event::Expire { .. } => Ok(self.expire()?),
+            Event::Change { imsi, change } => self.change(*imsi, change),
         }
     }
-}
 
-impl State {
-    /// The clock never goes back.
-    fn tick(&mut self, now: u64)
-        ensures { self.new ≡ record self.old { clock = max self.old.clock (min now latest_clock) } }
-    {
-        self.clock = self.clock.max(now.min(LATEST_CLOCK));
-    }
-
-    /// Takes a received frame.
-    fn hear(&mut self, indication: &Indication) -> Result<StepAnswer, AllocError>
-        requires { IsMine self.old (machine.Frame indication.now.from indication.now.verdict) }
-        ensures heard { IfOk result (λ a. IsHeard self.old indication.now a self.new) }
+    /// The least timer that is due expires, if one is.
+    fn expire(&mut self) -> Result<StepAnswer, AllocError>
+        ensures expired { IfOk result (λ a. Leads self.old (RawExpire self.old.shard) a self.new) }
         ensures err { OnErr result (self.new ≡ self.old) }
         ensures same_shard { IsSameShard self.old self.new }
     {
-        match indication.verdict() {
-            Verdict::Discard => Ok(silent(self.alloc)),
-            Verdict::Refuse(origin, cause) => {
-                abort(self.alloc, indication.from(), *origin, *cause)
-            }
-            Verdict::Read(message) => self.hear_message(indication, message),
+        match expires(self.alloc, &self.shard) {
+            Some(plan) => self.shard.settle(plan, &[]),
+            None => Ok(silent(self.alloc)),
         }
     }
 
-    /// Takes a received message. There is no open dialogue that it could be for.
-    fn hear_message(
-        &mut self,
-        indication: &Indication,
-        message: &Message,
-    ) -> Result<StepAnswer, AllocError>
-        requires mine { IsMine self.old (machine.Frame indication.now.from indication.now.verdict) }
-        requires message { indication.now.verdict ≡ Read (heard message.now) }
-        requires judged { IsVerdict indication.now.octets indication.now.verdict }
-        ensures heard { IfOk result (λ a. IsHeard self.old indication.now a self.new) }
+    /// Takes an operator's change.
+    fn change(&mut self, imsi: Imsi, change: &Change) -> Result<StepAnswer, StepFault>
+        requires { IsMine self.old (RawChange imsi (said change.now)) (machine.Operator imsi (said change.now)) }
+        ensures changed { IfOk result (λ a. Leads self.old (RawChange imsi (said change.now)) a self.new) }
+        ensures mine { result ≢ Err StepFault.NotMine }
+        ensures no_room { result ≡ Err StepFault.NoRoom → HasNoRoom (state_of self.old) (machine.Operator imsi (said change.now)) }
         ensures err { OnErr result (self.new ≡ self.old) }
         ensures same_shard { IsSameShard self.old self.new }
     {
-        match message {
-            Message::Begin {
-                origin,
-                components,
-                ..
-            } => self.begin(indication, *origin, components),
-            Message::Continue { origin, .. } => {
-                let cause = UNRECOGNIZED_TRANSACTION_ID;
-                abort(self.alloc, indication.from(), *origin, cause)
-            }
-            Message::End { .. } => Ok(silent(self.alloc)),
-            Message::Abort { .. } => Ok(silent(self.alloc)),
+        let plan = self.plan_change(imsi, change)?;
+        if !self.shard.has_room(&plan) {
+            return Err(StepFault::NoRoom);
         }
+        Ok(self.shard.settle(plan, &[])?)
     }
 
-    /// Takes a received Begin: it is planned, which may fail and changes nothing, and then done.
-    fn begin(
-        &mut self,
-        indication: &Indication,
-        origin: RemoteId,
-        components: &[Component<Parameter>],
-    ) -> Result<StepAnswer, AllocError>
-        requires mine { IsMine self.old (machine.Frame indication.now.from indication.now.verdict) }
-        requires begin { IsBeginOf indication.now.verdict origin (map (component parameter) components.now) }
-        requires judged { IsVerdict indication.now.octets indication.now.verdict }
-        ensures heard { IfOk result (λ a. IsHeard self.old indication.now a self.new) }
-        ensures err { OnErr result (self.new ≡ self.old) }
-        ensures same_shard { IsSameShard self.old self.new }
+    /// What an operator's change comes to.
+    fn plan_change(&self, imsi: Imsi, change: &Change) -> Result<Plan, AllocError>
+        ensures { IfOk result (λ plan. IsPlan self.now (Changes imsi (said change.now)) [] plan) }
     {
-        let plan = self.plan(indication, origin, components)?;
-        if let Some(imsi) = plan.purged {
-            self.purge(&imsi);
+        match change {
+            Change::Codes(codes) => new_codes(self.alloc, &self.shard, imsi, codes.as_slice()),
+            Change::Withdraw => Ok(withdraws(self.alloc, &self.shard, imsi)),
         }
-        Ok(plan.answer)
-    }
-
-    /// What a received Begin comes to.
-    fn plan(
-        &self,
-        indication: &Indication,
-        origin: RemoteId,
-        components: &[Component<Parameter>],
-    ) -> Result<Plan, AllocError>
-        requires mine { IsMine self.now (machine.Frame indication.now.from indication.now.verdict) }
-        requires begin { IsBeginOf indication.now.verdict origin (map (component parameter) components.now) }
-        requires judged { IsVerdict indication.now.octets indication.now.verdict }
-        ensures { IfOk result (λ plan. IsPlan self.now indication.now plan) }
-    {
-        let imsi = asked(&self.directory, components);
-        let subscriber = self.subscriber(imsi);
-        let begun = begins(
-            self.alloc, indication, origin, components, subscriber, self.clock,
-        )?;
-        planned(self.alloc, indication.from(), begun, known(subscriber))
-    }
-
-    /// The record of a subscriber, if there is one.
-    fn subscriber(&self, imsi: Option<Imsi>) -> Option<&Record>
-        ensures found { option_copied result ≡ record_at self.now.records imsi }
-        ensures own { IfSome result (λ found. imsi ≡ Some found.now.imsi) }
-    {
-        match imsi {
-            Some(imsi) => self.records.get(&imsi),
-            None => None,
-        }
-    }
-
-    /// The serving register has purged the subscriber.
-    fn purge(&mut self, imsi: &Imsi)
-        requires { HasRegisterAt self.old.records imsi.now }
-        ensures purged { (s : Subscriber) → finite.get self.old.records imsi.now ≡ Some s
-            → self.new ≡ record self.old { records = finite.insert self.old.records imsi.now (placed s s.register true s.current) } }
-        ensures same_shard { IsSameShard self.old self.new }
-    {
-        let Some(found) = self.records.get(imsi) else {
-            return;
-        };
-        let register = found.register;
-        let current = found.current;
-        self.records.set(imsi, register, true, current);
-    }
-}
-
-/// The IMSI of a record, if there is one.
-fn known(subscriber: Option<&Record>) -> Option<Imsi>
-    ensures { result ≡ option_map (λ found. found.now.imsi) subscriber.entry }
-{
-    match subscriber {
-        Some(subscriber) => Some(subscriber.imsi),
-        None => None,
-    }
-}
-
-/// What is planned for a Begin: nothing yet where it opens a dialogue.
-fn planned(alloc: Global, to: Peer, begun: Begun, known: Option<Imsi>) -> Result<Plan, AllocError>
-    ensures { IfOk result (λ plan. IsPlanned to begun known plan) }
-{
-    match begun {
-        Begun::Opens => Ok(Plan {
-            answer: silent(alloc),
-            purged: None,
-        }),
-        Begun::Answered { purges, message } => Ok(Plan {
-            answer: StepAnswer {
-                outs: one_out(alloc, to, &message)?,
-                id: None,
-                subject: known,
-            },
-            purged: if purges { known } else { None },
-        }),
-    }
-}
-
-/// An Abort with this cause.
-fn abort(
-    alloc: Global,
-    to: Peer,
-    destination: RemoteId,
-    cause: u8,
-) -> Result<StepAnswer, AllocError>
-    ensures { IfOk result (λ a. Says a None (send to (SentAbort destination (Cause cause)))) }
-{
-    let message = SentMessage::Abort {
-        destination,
-        why: Why::Cause(cause),
-    };
-    Ok(StepAnswer {
-        outs: one_out(alloc, to, &message)?,
-        id: None,
-        subject: None,
-    })
-}
-
-/// One message to one address.
-fn one_out(alloc: Global, to: Peer, message: &SentMessage) -> Result<Vec<Out>, AllocError>
-    ensures { IfOk result (λ outs. map raw_out outs.items ≡ map spelled_out (send to (said message.now))) }
-{
-    let Ok(octets) = octets_of(alloc, message) else {
-        return Err(AllocError);
-    };
-    Ok(vec![in alloc; Out { to, octets }]?)
-}
-
-/// Nothing is sent.
-fn silent(alloc: Global) -> StepAnswer
-    ensures { IsSilent result }
-{
-    StepAnswer {
-        outs: Vec::new(alloc),
-        id: None,
-        subject: None,
     }
 }

@@ -4,7 +4,7 @@ ghost use Rattle.std.specs.Prelude.{◌<◌};
 
 use crate::*;
 use bumpalo::Bump;
-use hlr_types::{Digits, Imsi, Peer};
+use hlr_types::{Digits, Imsi, Peer, Tid};
 use records::read_records;
 use std::alloc::Global;
 use std::test::Fail;
@@ -68,6 +68,11 @@ const UPDATE: [u8; 80] = [
     0x01, 0x02, 0x30, 0x1C, 0x04, 0x08, 0x32, 0x14, 0x05, 0x00, 0x00, 0x00, 0x00, 0xF1, 0x81, 0x07,
     0x91, 0x44, 0x77, 0x00, 0x09, 0x00, 0x20, 0x04, 0x07, 0x91, 0x44, 0x77, 0x00, 0x09, 0x00, 0x21,
 ];
+
+/// A Continue with the last result of the first insert, around the local id.
+const RESULT_BEFORE_ID: [u8; 10] = [0x65, 0x13, 0x48, 0x04, 0x00, 0x00, 0x00, 0x0B, 0x49, 0x04];
+
+const RESULT_BEHIND_ID: [u8; 7] = [0x6C, 0x05, 0xA2, 0x03, 0x02, 0x01, 0x01];
 
 /// A Continue for a dialogue of shard 1 that is not open.
 const CONTINUE: [u8; 14] = [
@@ -151,7 +156,57 @@ fn what_is_for_no_dialogue(rt: HostRuntime) -> Result<(), Fail> {
     let mut state = state(rt.alloc(), 1)?;
     assert!(rt; answers(rt.alloc(), &mut state, &CONTINUE, &UNKNOWN_ID)?);
     assert!(rt; answers(rt.alloc(), &mut state, &END, &[])?);
-    assert!(rt; answers(rt.alloc(), &mut state, &UPDATE, &[])?);
+    Ok(())
+}
+
+/// The Continue with the last result of the first insert, for the dialogue of this id.
+fn result_in(alloc: Global, id: Tid) -> Result<Event, Fail> {
+    let mut octets = Vec::new(alloc);
+    octets.extend_from_slice(&RESULT_BEFORE_ID)?;
+    octets.extend_from_slice(&id.0)?;
+    octets.extend_from_slice(&RESULT_BEHIND_ID)?;
+    frame(alloc, &octets)
+}
+
+#[test]
+fn an_update_opens_and_completes(rt: HostRuntime) -> Result<(), Fail> {
+    let mut state = state(rt.alloc(), 1)?;
+    let opened = state.step(&frame(rt.alloc(), &UPDATE)?)?;
+    let id = opened.id.ok_or("no id")?;
+    assert_eq!(rt; (opened.outs.len(), state.dialogues().len()), (1, 1));
+    let completed = state.step(&result_in(rt.alloc(), id)?)?;
+    assert_eq!(rt; completed.outs.len(), 2);
+    assert!(rt; completed.id.is_some());
+    assert!(rt; state.dialogues().get(id).is_none());
+    let late = state.step(&result_in(rt.alloc(), id)?)?;
+    assert_eq!(rt; (late.outs.len(), state.dialogues().len()), (1, 1));
+    Ok(())
+}
+
+#[test]
+fn a_timer_runs_out(rt: HostRuntime) -> Result<(), Fail> {
+    let mut state = state(rt.alloc(), 1)?;
+    let shard = ShardNumber::new(1).ok_or("shard")?;
+    state.step(&frame(rt.alloc(), &UPDATE)?)?;
+    let early = state.step(&Event::Expire { shard })?;
+    assert!(rt; early.outs.is_empty());
+    state.step(&Event::Clock { shard, now: 20 })?;
+    let failed = state.step(&Event::Expire { shard })?;
+    assert_eq!(rt; (failed.outs.len(), state.dialogues().len()), (1, 0));
+    Ok(())
+}
+
+#[test]
+fn a_change_opens(rt: HostRuntime) -> Result<(), Fail> {
+    let mut state = state(rt.alloc(), 1)?;
+    let imsi = Imsi::from_digits(digits(b"234150000000001")?)?;
+    let codes = Codes::read(rt.alloc(), b"22")?.ok_or("codes")?;
+    let change = Change::Codes(codes);
+    let told = state.step(&Event::Change { imsi, change })?;
+    assert_eq!(rt; (told.outs.len(), told.subject), (1, Some(imsi)));
+    let change = Change::Withdraw;
+    let ended = state.step(&Event::Change { imsi, change })?;
+    assert_eq!(rt; (ended.outs.len(), state.dialogues().len()), (1, 2));
     Ok(())
 }
 

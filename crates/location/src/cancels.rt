@@ -8,6 +8,7 @@ ghost use Rattle.mapargs_loc.specs.Seen.{cancellation};
 ghost use Rattle.outgoing.specs.Seen.{out};
 ghost use Rattle.location.specs.Seen.{after_of, one, opening_of, outcome_of};
 ghost use Rattle.location.specs.Cancelling.{then_cancel};
+ghost use Rattle.location.specs.Staying.{ForgetsNothing};
 
 use crate::outcome::{After, Opening, Outcome, Stays};
 use dialogues::{Dialogue, Kind};
@@ -69,6 +70,7 @@ pub(crate) fn then_cancel(
     ensures leaves { (here : Local) (named : Option machine.Dialogue) (codes : List ℕ) → imsi ≡ here.imsi
         → outcome_of here named codes result ≡ then_cancel here (after_of codes after here.record_of) (one first) next new }
     ensures record_after { result.after ≡ after }
+    ensures keeps { ForgetsNothing result.stays }
 {
     match &next {
         Some(sent) => Outcome {

@@ -9,6 +9,7 @@ ghost use Rattle.mapargs_loc.specs.Seen.{register as register_of};
 ghost use Rattle.csl.specs.Effects.{IsEffect, concluded, offered};
 ghost use Rattle.dialogues.specs.Seen.{dialogue_with, kind_of};
 ghost use Rattle.location.specs.Seen.{effect_with, known, outcome_of};
+ghost use Rattle.location.specs.Staying.{ForgetsNothing};
 ghost use Rattle.location.specs.Writing.{CanBeWritten};
 ghost use Rattle.records.specs.Subscriber.{Subscriber};
 
@@ -46,6 +47,7 @@ fn goes_on(id: Tid, dialogue: &Dialogue, rejects: Vec<Rejection>) -> Outcome
         → outcome_of here (Some (dialogue_with after dialogue.now)) [] result
         ≡ goes_on here id (dialogue_with vs dialogue.now) (map rejection rejects.items) after }
     ensures writable { (s : Option Subscriber) → CanBeWritten result.after s }
+    ensures keeps { ForgetsNothing result.stays }
 {
     Outcome {
         after: After::Same,
@@ -61,6 +63,7 @@ fn other_continues(id: Tid, dialogue: &Dialogue, effect: Effect) -> Outcome
         → outcome_of here (Some (dialogue_with after dialogue.now)) [] result
         ≡ other_continues here id (dialogue_with vs dialogue.now) (effect_with after effect) (concluded effect.conclusion) }
     ensures writable { (s : Option Subscriber) → CanBeWritten result.after s }
+    ensures keeps { ForgetsNothing result.stays }
 {
     match effect.conclusion {
         Conclusion::GoesOn => goes_on(id, dialogue, effect.rejects),
@@ -88,6 +91,7 @@ fn update_continues(
         ≡ update_continues here id (dialogue_with vs dialogue.now) (register_of update.register) update.invoke
         (effect_with after effect) (concluded effect.conclusion) new }
     ensures writable { CanBeWritten result.after (option_copied subscriber.entry) }
+    ensures keeps { ForgetsNothing result.stays }
 {
     let rejects = effect.rejects;
     match effect.conclusion {
@@ -112,6 +116,7 @@ fn continues_by(
         → here.record_of ≡ known subscriber.entry → outcome_of here (Some (dialogue_with after dialogue.now)) [] result
         ≡ continues_as here id (dialogue_with vs dialogue.now) (kind_of dialogue.now.kind) (effect_with after effect) new }
     ensures writable { CanBeWritten result.after (option_copied subscriber.entry) }
+    ensures keeps { ForgetsNothing result.stays }
 {
     match dialogue.kind {
         Kind::Update { register, invoke } => {
@@ -137,6 +142,7 @@ pub fn continues(
         → outcome_of here (Some (dialogue_with did.invocations dialogue.now)) [] result
         ≡ continues_as here id (dialogue_with vs dialogue.now) (kind_of dialogue.now.kind) did new }
     ensures writable { CanBeWritten result.after (option_copied subscriber.entry) }
+    ensures keeps { ForgetsNothing result.stays }
 {
     continues_by(hlr, subscriber, id, dialogue, effect, new)
 }

@@ -13,6 +13,7 @@ ghost use Rattle.smroute.specs.Seen.{machine_register, machine_subscriber};
 ghost use Rattle.dialogues.specs.Seen.{dialogue_with};
 ghost use Rattle.location.specs.Cancelling.{to_old};
 ghost use Rattle.location.specs.Seen.{after_of, known, outcome_of};
+ghost use Rattle.location.specs.Staying.{ForgetsNothing};
 ghost use Rattle.location.specs.Writing.{CanBeWritten};
 
 use crate::answers::{ended, peer_of};
@@ -69,6 +70,7 @@ pub(crate) fn update_fails(
         → here.record_of ≡ known subscriber.entry → outcome_of here named [] result
         ≡ update_fails here id (dialogue_with vs dialogue.now) invoke (map rejection rejects.items) }
     ensures writable { CanBeWritten result.after (option_copied subscriber.entry) }
+    ensures keeps { ForgetsNothing result.stays }
 {
     let failure = Components::One(error(invoke, SYSTEM_FAILURE));
     Outcome {
@@ -112,6 +114,7 @@ fn update_done(
         (UpdateResult update.invoke hlr ∷ []))
         new (option_map machine_register subscriber.now.register) }
     ensures writable { CanBeWritten result.after (Some subscriber.now) }
+    ensures keeps { ForgetsNothing result.stays }
 {
     let after = After::Placed {
         register: Some(update.register),
@@ -139,6 +142,7 @@ pub(crate) fn update_completes(
         ≡ update_completes here id (dialogue_with vs dialogue.now) (register_of update.register) update.invoke
         (map rejection rejects.items) new (known subscriber.entry) }
     ensures writable { CanBeWritten result.after (option_copied subscriber.entry) }
+    ensures keeps { ForgetsNothing result.stays }
 {
     match subscriber {
         Some(found) if is_marked(found, id) => {

@@ -69,6 +69,10 @@ placed s register purged current = record s { register = register; purged = purg
 abbrev pub allowed : Subscriber → List ℕ → Bool → Subscriber
 allowed s codes withdrawn = record s { codes = codes; withdrawn = withdrawn }
 
+-- The record of a subscription that has ended: it has neither a register nor a current update.
+abbrev pub ended : Subscriber → Subscriber
+ended s = record s { register = None; purged = false; current = None; withdrawn = true }
+
 -- The record without a current update.
 abbrev pub unmarked : Subscriber → Subscriber
 unmarked s = record s { current = None }

@@ -64,7 +64,7 @@ impl Clone for Record {
 
 impl Record {
     ghost use Rattle.std.specs.Prelude.{◌≡◌};
-    ghost use Rattle.records.specs.Subscriber.{IsPlace, AreAllowed, placed, allowed};
+    ghost use Rattle.records.specs.Subscriber.{IsPlace, AreAllowed, placed, allowed, ended};
 
     /// Changes the serving register, the purged flag and the current update.
     pub(crate) fn place(&mut self, register: Option<Register>, purged: bool, current: Option<Tid>)
@@ -85,5 +85,15 @@ impl Record {
     {
         self.codes = codes;
         self.withdrawn = withdrawn;
+    }
+
+    /// Ends the subscription: there is then neither a register nor a current update.
+    pub(crate) fn withdraw(&mut self)
+        ensures { self.new ≡ ended self.old }
+    {
+        self.register = None;
+        self.purged = false;
+        self.current = None;
+        self.withdrawn = true;
     }
 }

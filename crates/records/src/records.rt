@@ -34,7 +34,7 @@ impl Model for Records {
 }
 
 impl Records {
-    ghost use Rattle.records.specs.Subscriber.{Subscriber, IsRecord, IsPlace, AreAllowed, placed, allowed};
+    ghost use Rattle.records.specs.Subscriber.{Subscriber, IsRecord, IsPlace, AreAllowed, placed, allowed, ended};
     ghost use Rattle.records.specs.Maps.{part_of};
 
     /// No record.
@@ -102,6 +102,18 @@ impl Records {
             return;
         };
         found.allow(codes, withdrawn);
+    }
+
+    /// Ends a subscription: the record then has neither a register nor a current update. Takes no memory.
+    pub fn withdraw(&mut self, imsi: &Imsi)
+        requires known { IsSome (map.get self.old imsi.now) }
+        ensures { (s : Subscriber) → map.get self.old imsi.now ≡ Some s
+            → self.new ≡ map.insert self.old imsi.now (ended s) }
+    {
+        let Some(found) = self.by_imsi.get_mut(imsi) else {
+            return;
+        };
+        found.withdraw();
     }
 
     /// All records, by IMSI, which are ordered as texts.

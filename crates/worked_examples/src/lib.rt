@@ -3,7 +3,13 @@
 #![tactic(auto)]
 
 #[cfg(test)]
+mod dialogue_parts;
+#[cfg(test)]
+mod dialogue_runs;
+#[cfg(test)]
 mod files;
+#[cfg(test)]
+mod full_shard;
 #[cfg(test)]
 mod hostile;
 #[cfg(test)]

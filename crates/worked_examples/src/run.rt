@@ -85,7 +85,7 @@ pub fn repeated(alloc: Global, digits: &str, times: usize) -> Result<String, All
 }
 
 /// Puts a line for a frame behind a text: its kind, the address, and the octets, `-` where there is none.
-fn push_line(text: &mut String, kind: &str, frame: &Frame) -> Result<(), AllocError> {
+pub fn push_line(text: &mut String, kind: &str, frame: &Frame) -> Result<(), AllocError> {
     text.push_str(kind)?;
     text.push_str(" ")?;
     text.push_str(frame.address)?;
@@ -102,6 +102,93 @@ fn push_line(text: &mut String, kind: &str, frame: &Frame) -> Result<(), AllocEr
     text.push_str("\n")
 }
 
+/// A line of a script: a frame that comes, or what the line says.
+#[derive(Clone, Copy)]
+pub enum Line<'a> {
+    Received(Frame<'a>),
+    Said(&'a str),
+}
+
+/// The script of these lines, each a batch of its own.
+fn script_of(alloc: Global, lines: &[Line]) -> Result<String, AllocError> {
+    let mut script = String::new(alloc);
+    for line in lines {
+        match line {
+            Line::Received(frame) => push_line(&mut script, "F", frame)?,
+            Line::Said(said) => {
+                script.push_str(said)?;
+                script.push_str("\n")?;
+            }
+        }
+        script.push_str("W\n")?;
+    }
+    Ok(script)
+}
+
+/// The lines of these frames as they are sent.
+fn lines_of(alloc: Global, sent: &[Frame]) -> Result<String, AllocError> {
+    let mut lines = String::new(alloc);
+    for frame in sent {
+        push_line(&mut lines, "S", frame)?;
+    }
+    Ok(lines)
+}
+
+/// Whether the text is the wanted one. A small letter there stands for the eight digits of a local id, the same letter for the
+/// same id and another for another; `?` stands for those of any id.
+pub fn is_as_wanted(text: &[u8], wanted: &[u8]) -> bool {
+    let mut ids: [Option<&[u8]>; 26] = [None; 26];
+    let mut rest = text;
+    for sign in wanted {
+        let is_letter = sign.is_ascii_lowercase();
+        let count = if is_letter || *sign == b'?' { 8 } else { 1 };
+        let Some((found, behind)) = rest.split_at_checked(count) else {
+            return false;
+        };
+        rest = behind;
+        if is_letter && !is_id_of(&mut ids, *sign, found) {
+            return false;
+        }
+        if count == 1 && found.first() != Some(sign) {
+            return false;
+        }
+    }
+    rest.is_empty()
+}
+
+/// Whether these may be the digits of the id of a letter: those that it stood for before, or new ones.
+fn is_id_of<'a>(ids: &mut [Option<&'a [u8]>; 26], letter: u8, found: &'a [u8]) -> bool {
+    let place = usize::from(letter.wrapping_sub(b'a'));
+    match ids.get(place) {
+        Some(Some(known)) => *known == found,
+        Some(None) => {
+            let is_new = ids.iter().all(|other| *other != Some(found));
+            ids[place] = Some(found);
+            is_new
+        }
+        None => false,
+    }
+}
+
+/// Runs the program on lines, each a batch of its own, and compares what it sends.
+pub fn plays(
+    rt: &(impl Abort + AllocGlobal),
+    records: &str,
+    lines: &[Line],
+    sent: &[Frame],
+) -> Result<(), Fail> {
+    let script = script_of(rt.alloc(), lines)?;
+    let wanted = lines_of(rt.alloc(), sent)?;
+    let ran = run(rt.alloc(), records, &script)?;
+    assert_eq!(rt; ran.fault.as_slice(), b"".as_slice());
+    assert_eq!(rt; ran.status, 0);
+    if !is_as_wanted(&ran.printed, wanted.as_bytes()) {
+        let printed = str::from_utf8(&ran.printed).ok().ok_or("no text")?;
+        assert_eq!(rt; printed, wanted.as_str());
+    }
+    Ok(())
+}
+
 /// Runs the program on frames, each a batch of its own, and compares what it sends.
 pub fn answers(
     rt: &(impl Abort + AllocGlobal),
@@ -109,19 +196,9 @@ pub fn answers(
     received: &[Frame],
     sent: &[Frame],
 ) -> Result<(), Fail> {
-    let mut script = String::new(rt.alloc());
+    let mut lines = Vec::new(rt.alloc());
     for frame in received {
-        push_line(&mut script, "F", frame)?;
-        script.push_str("W\n")?;
+        lines.push(Line::Received(*frame))?;
     }
-    let mut wanted = String::new(rt.alloc());
-    for frame in sent {
-        push_line(&mut wanted, "S", frame)?;
-    }
-    let ran = run(rt.alloc(), records, &script)?;
-    assert_eq!(rt; ran.fault.as_slice(), b"".as_slice());
-    assert_eq!(rt; ran.status, 0);
-    let printed = str::from_utf8(&ran.printed).ok().ok_or("no text")?;
-    assert_eq!(rt; printed, wanted.as_str());
-    Ok(())
+    plays(rt, records, &lines, sent)
 }

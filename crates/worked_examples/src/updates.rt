@@ -6,16 +6,16 @@ use crate::run::{Frame, RECORDS, answers};
 use std::process::Abort;
 use std::test::Fail;
 
-const BEGIN: &str = "62 4E 48 04 00 00 00 0B";
+pub const BEGIN: &str = "62 4E 48 04 00 00 00 0B";
 
 /// An Invoke of updateLocation up to the last octet of the IMSI.
-const UPDATE: &str = "6C 26 A1 24 02 01 01 02 01 02 30 1C 04 08 32 14 05 00 00 00 00";
+pub const UPDATE: &str = "6C 26 A1 24 02 01 01 02 01 02 30 1C 04 08 32 14 05 00 00 00 00";
 
 /// The numbers of the MSC and of the VLR.
-const NUMBERS: &str = "81 07 91 44 77 00 09 00 20 04 07 91 44 77 00 09 00 21";
+pub const NUMBERS: &str = "81 07 91 44 77 00 09 00 20 04 07 91 44 77 00 09 00 21";
 
 /// A frame between the register and a VLR.
-fn at<'a>(address: &'a str, parts: &'a [&'a str]) -> Frame<'a> {
+pub fn at<'a>(address: &'a str, parts: &'a [&'a str]) -> Frame<'a> {
     Frame { address, parts }
 }
 

@@ -1,7 +1,7 @@
 use Rattle.std.proofs.Common.{List, ◌++◌, sym, ap, ◌∙◌}
 use Rattle.std.proofs.lemmas.Iterator.Adapters.{YieldsList-from_vec, fact_from_extend}
 use Rattle.std.proofs.lemmas.List.{map-id}
-use Rattle.hlrcore.specs.declared.answer.Out.{Out}
+use Rattle.shard_state.specs.declared.answer.Out.{Out}
 use Rattle.hlr_program.proofs.batch.put_behind.Goals as goal
 
 pub returns : goal.returns

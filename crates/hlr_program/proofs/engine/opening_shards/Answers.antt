@@ -1,18 +1,16 @@
-use Rattle.std.proofs.Common.{rules, ◌≡◌, ◌+◌, List, ◌∷◌, ◌++◌, map, length, length-append, arith, sym, ap, subst, ◌∙◌, refl}
+use Rattle.std.proofs.Common.{rules, ◌≡◌, ◌+◌, List, ◌∷◌, ◌++◌, length, length-append, arith, sym, ap, subst, ◌∙◌, refl}
 use Rattle.std.specs.Arc.{arc_value}
-use Rattle.std.specs.List.{range_with_len}
 use Rattle.std.proofs.lemmas.List.{length_push}
 use Rattle.records.specs.Parts.{AreParts}
-use Rattle.records.specs.Maps.{RecordMap, DirectoryMap, part_of}
-use Rattle.hlrcore.specs.Shards.{shard_of_fields}
-use Rattle.hlr_program.specs.Engine.{opening_shard}
-use Rattle.hlr_program.proofs.EngineLemmas.{one_shard_more, next_part, part_taken}
+use Rattle.records.specs.Maps.{RecordMap, part_of}
+use Rattle.hlr_program.specs.Engine.{AreOpening, IsOpeningShard}
+use Rattle.hlr_program.proofs.EngineLemmas.{no_shard, one_shard_more, next_part, part_taken, opened_with}
 use Rattle.hlr_program.proofs.engine.opening_shards.Goals as goal
 
 pub loop-records-init : goal.loop-records-init
 loop-records-init c =
     let same : c.into_iter-records-iterator.result.rest.items ≡ c.in_ok-parts.parts.items = search rules in
-    (tt, tt, refl, c.in_ok-shards.ensures.items, subst (AreParts c.args.loaded.records) (sym same) c.in_ok-parts.ensures)
+    (tt, tt, refl, no_shard c.args.loaded c.in_ok-shards.shards.items c.in_ok-shards.ensures.items, subst (AreParts c.args.loaded.records) (sym same) c.in_ok-parts.ensures)
 
 pub loop-records-preserved : goal.loop-records-preserved
 loop-records-preserved c =
@@ -28,11 +26,8 @@ loop-records-preserved c =
       tt,
       tt,
       ap (λ n. n + 1) at.2 ∙ sym (length_push c.loop-records.yielded c.in-Some.records),
-      one_shard_more c.args.loaded c.loop-records.shard _ _ c.of_part.result at.3
-          (c.of_part.ensures.fields
-          ∙ ap (λ (r : RecordMap). shard_of_fields c.loop-records.shard 0 r (arc_value c.in_ok-directory-2.directory) c.hlr-hlr.result.now) own
-          ∙ ap (λ (d : DirectoryMap). shard_of_fields c.loop-records.shard 0 (part_of c.args.loaded.records c.loop-records.shard) d c.hlr-hlr.result.now) shared
-          ∙ ap (λ n. shard_of_fields c.loop-records.shard 0 (part_of c.args.loaded.records c.loop-records.shard) c.args.loaded.directory n) number)
+      one_shard_more c.args.loaded c.loop-records.shard _ _ c.in_ok-of_part.field-0 at.3
+          (opened_with c.args.loaded c.loop-records.shard c.in-Some.records _ _ c.in_ok-of_part.field-0 own shared number c.in_ok-of_part.ensures.opening c.in_ok-of_part.ensures.part)
           c.in_ok-push.ensures.items,
       part_taken c.args.loaded.records c.loop-records.yielded c.next.new.self.rest.items c.in-Some.records parts,
     )
@@ -42,4 +37,4 @@ returns c =
     let at = c.loop-records.invariant in
     let none_left : length c.loop-records.records-iterator.rest.items ≡ 0 = search rules in
     let all : c.loop-records.shard ≡ 16 = omega (arith, at.2, at.4.sixteen, length-append c.loop-records.yielded c.loop-records.records-iterator.rest.items, none_left) in
-    at.3 ∙ ap (λ n. map (opening_shard c.args.loaded) (range_with_len 0 n)) all
+    subst (λ n. AreOpening c.args.loaded n c.loop-records.shards.items) all at.3

@@ -1,6 +1,6 @@
 use Rattle.std.proofs.Common.{◌≡◌, map, take}
 use Rattle.std.specs.Io.KnownBytes.{Appends}
-use Rattle.hlrcore.specs.Serving.{raw_out}
+use Rattle.shard_state.specs.Answers.{raw_out}
 use Rattle.hlr_program.specs.Printed.{sent_lines, noted_in}
 use Rattle.hlr_program.proofs.printed.print_sent.Given as goal
 

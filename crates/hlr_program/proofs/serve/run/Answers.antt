@@ -4,8 +4,8 @@ use Rattle.std.proofs.lemmas.Grind.{common_steps}
 use Rattle.std.specs.Io.KnownBytes.{Appends}
 use Rattle.records.specs.File.{lines}
 use Rattle.records.proofs.LinesLemmas.{lines_nil}
-use Rattle.hlrcore.specs.declared.answer.Out.{Out}
-use Rattle.hlrcore.specs.Serving.{raw_out}
+use Rattle.shard_state.specs.declared.answer.Out.{Out}
+use Rattle.shard_state.specs.Answers.{raw_out}
 use Rattle.hlr_program.specs.Batches.{batch_of, behind_batch}
 use Rattle.hlr_program.specs.Printed.{sent_lines, noted_in}
 use Rattle.hlr_program.specs.Runs.{LinesSend, progress}

@@ -1,20 +1,25 @@
-use Rattle.std.proofs.Common.{◌≡◌, List, ℕ, Option, sym, ap, ◌∙◌, subst}
-use Rattle.std.specs.Prelude.{IfSome}
-use Rattle.records.specs.Subscriber.{Subscriber}
-use Rattle.hlrcore.specs.Shards.{ShardState, purged_at, purged_in}
-use Rattle.hlrcore.specs.Serving.{HasRegisterAt, IsHeard}
-use Rattle.hlrcore.proofs.state.State.begin.Goals.{in-Some, in_default}
+use Rattle.std.proofs.Common.{◌≡◌, map, false, true, rules}
+use Rattle.q773_comp.specs.Seen.{component}
+use Rattle.msgarena.specs.Seen.{parameter}
+use Rattle.hlrcore.proofs.HearLemmas.{begin_refused, begin_taken, both_ok, has_no}
+use Rattle.hlrcore.proofs.TakenLemmas.{then_ok}
 use Rattle.hlrcore.proofs.state.State.begin.Goals as goal
 
+pub settle-requires-clause-can : goal.settle-requires-clause-can
+settle-requires-clause-can c = (c.in_ok-plan.ensures c.requires.begin.0 c.requires.begin.1).can
+
+pub returns-then-not-has_room-clause-heard : goal.returns-then-not-has_room-clause-heard
+returns-then-not-has_room-clause-heard c =
+    let none : c.has_room.result ≡ false = search rules in
+    then_ok c.aborted.result
+    (λ a says. begin_refused c.self.inside.shard c.args.self.now c.args.indication.now c.from-from.result c.args.origin (map (component parameter) c.args.components.now) c.in_ok-plan.plan a
+    c.self.view_is c.requires.mine c.requires.begin c.from-from.ensures c.in_ok-plan.ensures (c.has_room.ensures.full.0 none) says)
+    c.aborted.ensures
+
 pub returns-clause-heard : goal.returns-clause-heard
-returns-clause-heard c = elim c.match-plan.branch [
-  | in-Some w ↦
-      let (r, at, some) = subst (λ p. IfSome p (HasRegisterAt c.args.self.now.records)) w.in-Some.is c.in_ok-plan.ensures.has_register in
-      let after : purged_in c.args.self.now c.in_ok-plan.plan.purged ≡ c.match-plan.self =
-      ap (purged_in c.args.self.now) w.in-Some.is
-      ∙ ap (λ (o : Option Subscriber). record c.args.self.now { records = purged_at c.args.self.now.records w.in-Some.imsi o }) at
-      ∙ sym (w.purge.ensures.purged r at) ∙ sym w.self-is in
-      subst (IsHeard c.args.self.now c.args.indication.now c.in_ok-plan.plan.answer) after c.in_ok-plan.ensures.leads
-  | in_default w ↦
-      subst (IsHeard c.args.self.now c.args.indication.now c.in_ok-plan.plan.answer) (ap (purged_in c.args.self.now) w.in_default.is ∙ sym w.self-is) c.in_ok-plan.ensures.leads
-]
+returns-clause-heard c =
+    let some : c.has_room.result ≡ true = search rules in
+    both_ok c.settle.result
+    (λ a settled says. begin_taken c.self.inside.shard c.args.self.now c.settle.new.self c.args.indication.now c.args.origin (map (component parameter) c.args.components.now) c.in_ok-plan.plan a
+    c.self.view_is c.requires.mine c.requires.begin c.in_ok-plan.ensures c.settle.ensures.own (search rules) (has_no c.has_room.result some c.has_room.ensures.full.1) (settled, says))
+    c.settle.ensures.settled c.settle.ensures.says

@@ -1,0 +1,131 @@
+-- A plan that is settled, as a step of the machine over octets; and one for which there is no room.
+use Rattle.std.proofs.Common.{◌≡◌, ◌≢◌, ℕ, List, [], Option, Some, None, is_some, IsTrue, refl, sym, ap, ◌∙◌, subst}
+use Rattle.std.specs.Prelude.{IfSome}
+use Rattle.machine.specs.Received.{Component}
+use Rattle.machine.specs.Received as received
+use Rattle.machine.specs.Sent.{SentAbort, Cause}
+use Rattle.machine.specs.Events.{Change, Event, Operator}
+use Rattle.machine.specs.State.{IsIdOf, State}
+use Rattle.machine.specs.Outcome.{Outcome, send}
+use Rattle.machine.specs.Turns.{Turn, Begins, Changes, TurnsTo, concern, named}
+use Rattle.machine.specs.Keys.{shard_of}
+use Rattle.machine.specs.Routing.{route}
+use Rattle.machine.specs.Step.{Answer, Full, HasNoRoom, IsNewId, Step, TurnedAway, WouldOverflow, moved, outcome_in, subject_of, taken, ticked}
+use Rattle.frames.specs.Octets.{RawEvent, IsEvent, StepOctets}
+use Rattle.q773_comp.specs.declared.component.Component as code
+use Rattle.msgarena.specs.declared.parameter.Parameter.{Parameter}
+use Rattle.dialogues.specs.Dialogues.{OpenDialogues, IsNew}
+use Rattle.location.specs.declared.outcome.Stays.{Stays}
+use Rattle.location.specs.declared.outcome.Stays.TheVariants.{Gone, GoesOn, Forgets}
+use Rattle.location.specs.Seen.{opens_of}
+use Rattle.shard_state.specs.declared.answer.StepAnswer.{StepAnswer}
+use Rattle.shard_state.specs.declared.plan.Plan.{Plan}
+use Rattle.shard_state.specs.declared.plan.Named.{Named}
+use Rattle.shard_state.specs.declared.plan.Named.TheVariants.{Nothing, Open, Continued}
+use Rattle.shard_state.specs.Answers.{Says, entry_of}
+use Rattle.shard_state.specs.Plans.{CanSettle, HasRoom, IsNextId, Opens, Overflows, id_of, left, settled}
+use Rattle.shard_state.specs.Shards.{ShardState, directory_of, state_of}
+use Rattle.turns.specs.Planning.{IsPlan}
+use Rattle.hlrcore.specs.Leading.{IsMine, Leads}
+use Rattle.hlrcore.proofs.TakenLemmas.{routed_here, taken_step}
+use Rattle.hlrcore.proofs.TurnLemmas.{IsForOpen}
+
+-- ---- whether a dialogue opens
+
+opens_in : (clock : ℕ) (stays : Stays) → IsTrue (is_some (opens_of clock stays)) → Opens stays
+opens_in clock (Gone None) e = absurd cc
+opens_in clock (Gone (Some o)) e = tt
+opens_in clock GoesOn e = absurd cc
+opens_in clock (Forgets invoke) e = absurd cc
+
+opens_out : (clock : ℕ) (stays : Stays) → Opens stays → IsTrue (is_some (opens_of clock stays))
+opens_out clock (Gone None) e = absurd e
+opens_out clock (Gone (Some o)) e = cc
+opens_out clock GoesOn e = absurd e
+opens_out clock (Forgets invoke) e = absurd e
+
+-- ---- the id that it takes is new
+
+next_new : (s : ShardState) (named : Named) (new : List ℕ) → IsNextId s named new → (id_of named ≡ None → s.dialogues.next ≢ None) → IsNew s.dialogues new
+next_new s Nothing new is room = at s.dialogues.next is (room refl)
+  where
+    at : (o : Option (List ℕ)) → IfSome o (λ id. (id ≡ new) × IsNew s.dialogues id) → o ≢ None → IsNew s.dialogues new
+    at None is some = absurd (some refl)
+    at (Some id) is some = subst (IsNew s.dialogues) is.0 is.1
+next_new s (Open id) new is room = is.1
+next_new s (Continued id peer remote) new is room = is.1
+
+new_here : (s : ShardState) (new : List ℕ) → s.dialogues.shard ≡ s.shard → IsNew s.dialogues new → IsNewId (state_of s) s.shard new
+unfolding state_of
+new_here s new own is = record { of_shard = subst (λ n. IsIdOf n new) own is.of_shard; is_new = is.not_open }
+
+-- ---- what is settled
+
+concern_here : (s : ShardState) (turn : Turn) (c : Option (List ℕ)) → concern (directory_of s.directory) turn ≡ c → concern (state_of s).directory turn ≡ c
+unfolding state_of
+concern_here s turn c e = e
+
+pub settled_step : (s t : ShardState) (raw : RawEvent) (e : Event) (turn : Turn) (cs : List (code.Component Parameter)) (plan : Plan) (a : StepAnswer)
+    → IsMine s raw e → TurnsTo (state_of s) e turn → s.dialogues.shard ≡ s.shard → ((S : State) → ticked turn S ≡ S)
+    → IsPlan s turn cs plan → HasRoom s plan → (Overflows s plan → ⊥)
+    → state_of t ≡ settled s cs plan → Says a (taken plan.new (left s cs plan).opens) plan.subject (left s cs plan).sent
+    → Leads s raw a t
+settled_step s t raw e turn cs plan a mine turns own still is room not_over after says =
+    let concerned : concern (state_of s).directory turn ≡ plan.imsi = concern_here s turn plan.imsi is.concern_is in
+    taken_step (state_of s) (state_of t) s.shard raw e turn plan.new (left s cs plan) a mine.is_event (routed_here s e mine.routed) turns is.leaves
+    (λ some. new_here s plan.new own (next_new s plan.named plan.new is.can.next_id (room (opens_in _ plan.left.stays some))))
+    (λ over. not_over (record { opens = opens_in _ plan.left.stays over.opens; beside = sym is.named_is ∙ over.beside; full = over.full }))
+    (after ∙ (λ i. moved (state_of s) (sym concerned i) (sym is.named_is i) plan.new (left s cs plan)) ∙ sym (still _))
+    (subst (λ (x : Option (List ℕ)). Says a (taken plan.new (left s cs plan).opens) x (left s cs plan).sent) is.subject_is says)
+
+-- ---- no room
+
+overflows_at : (s : ShardState) (n : ℕ) (turn : Turn) (cs : List (code.Component Parameter)) (plan : Plan) → n ≡ s.shard → IsPlan s turn cs plan → Overflows s plan
+    → WouldOverflow (state_of s) n turn (outcome_in (state_of s) n turn plan.new)
+overflows_at s n turn cs plan here is over =
+    subst (λ m. WouldOverflow (state_of s) m turn (outcome_in (state_of s) m turn plan.new)) (sym here)
+    (subst (λ (o : Outcome). WouldOverflow (state_of s) s.shard turn o) (sym is.leaves)
+    (record { opens = opens_out _ plan.left.stays over.opens; beside = is.named_is ∙ over.beside; full = over.full }))
+
+-- A Begin that is turned away.
+pub turned_step : (s : ShardState) (raw : RawEvent) (e : Event) (from origin : List ℕ) (name : Option (List ℕ)) (components : List Component) (plan : Plan) (a : StepAnswer)
+    → IsMine s raw e → TurnsTo (state_of s) e (Begins from origin name components)
+    → IsPlan s (Begins from origin name components) [] plan → Overflows s plan
+    → Says a None plan.subject (send from (SentAbort origin (Cause 4))) → Leads s raw a s
+turned_step s raw e from origin name components plan a mine turns is over says =
+    let answer : Answer = record { id = None; subject = plan.subject; sent = send from (SentAbort origin (Cause 4)) } in (
+      record { event = e; answer = answer },
+      record { event = mine.is_event; id = says.id_is; subject = says.subject_is; outs = says.outs },
+      Full (Begins from origin name components) plan.new turns (record {
+        from = from;
+        origin = origin;
+        name = name;
+        components = components;
+        begins = refl;
+        overflows = overflows_at s (route (state_of s).directory e) (Begins from origin name components) [] plan (routed_here s e mine.routed) is over;
+        state = refl;
+        id = refl;
+        subject = is.subject_is;
+        sent = refl;
+      }),
+    )
+
+-- A change that is refused.
+pub no_room : (s : ShardState) (imsi : List ℕ) (change : Change) (plan : Plan) → shard_of imsi ≡ s.shard
+    → IsPlan s (Changes imsi change) [] plan → Overflows s plan → HasNoRoom (state_of s) (Operator imsi change)
+no_room s imsi change plan here is over = (plan.new, overflows_at s (shard_of imsi) (Changes imsi change) [] plan here is over)
+
+-- What is for an open dialogue has room.
+opens_not : (clock : ℕ) (stays : Stays) → opens_of clock stays ≡ None → Opens stays → ⊥
+opens_not clock (Gone None) e o = o
+opens_not clock (Gone (Some p)) e o = absurd cc
+opens_not clock GoesOn e o = o
+opens_not clock (Forgets invoke) e o = o
+
+pub open_has_room : (s : ShardState) (turn : Turn) (cs : List (code.Component Parameter)) (plan : Plan) → IsPlan s turn cs plan → IsForOpen turn → HasRoom s plan
+open_has_room s turn cs plan is for opens beside =
+    absurd (opens_not _ plan.left.stays (sym (ap (λ (o : Outcome). o.opens) is.leaves) ∙ for (is.named_is ∙ beside) (state_of s) s.shard plan.new) opens)
+
+pub open_never_overflows : (s : ShardState) (turn : Turn) (cs : List (code.Component Parameter)) (plan : Plan) → IsPlan s turn cs plan → IsForOpen turn → Overflows s plan → ⊥
+open_never_overflows s turn cs plan is for over =
+    opens_not _ plan.left.stays (sym (ap (λ (o : Outcome). o.opens) is.leaves) ∙ for (is.named_is ∙ over.beside) (state_of s) s.shard plan.new) over.opens

@@ -1,0 +1,32 @@
+-- A received frame, for a shard.
+use Rattle.std.specs.Prelude.{◌≡◌, ℕ, List, Option}
+use Rattle.machine.specs.Events.{Frame}
+use Rattle.machine.specs.Received.{Component, Response, Verdict, Read, Continue}
+use Rattle.machine.specs.State.{Dialogue}
+use Rattle.machine.specs.Turns.{turn_of_verdict, close_at}
+use Rattle.machine.specs.Routing.{route}
+use Rattle.frames.specs.Frames.{IsVerdict}
+use Rattle.frames.specs.Octets.{RawFrame}
+use Rattle.msgarena.specs.Hearing.{Hearing}
+use Rattle.shard_state.specs.declared.answer.StepAnswer.{StepAnswer}
+use Rattle.shard_state.specs.Shards.{ShardState, directory_of}
+use Rattle.hlrcore.specs.Leading.{Leads}
+
+-- The frame is for this shard, and its octets read to its verdict.
+pub record IsForMe (s : ShardState) (heard : Hearing) : Type 0 where
+  pub routed : route (directory_of s.directory) (Frame heard.from heard.verdict) ≡ s.shard
+  pub judged : IsVerdict heard.octets heard.verdict
+
+-- The shard takes the frame with this answer.
+abbrev pub Hears : ShardState → Hearing → StepAnswer → ShardState → Type 0
+Hears s heard a t = Leads s (RawFrame heard.from heard.octets) a t
+
+-- A Continue with these ids and components, wherever it comes from.
+abbrev pub IsContinueOf : Verdict → (origin destination : List ℕ) → List Component → Type 0
+IsContinueOf v origin destination components =
+    (response : Option Response) × (v ≡ Read (Continue origin destination response components))
+
+-- An End or an Abort with this destination id.
+abbrev pub IsClosing : Verdict → (destination : List ℕ) → Type 0
+IsClosing v destination =
+    (dialogues : List ℕ → Option Dialogue) (from : List ℕ) → turn_of_verdict dialogues from v ≡ close_at destination (dialogues destination)

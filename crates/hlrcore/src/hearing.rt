@@ -1,0 +1,144 @@
+//! A received frame.
+
+ghost use Rattle.std.specs.Prelude.{◌≡◌, IfOk, OnErr, map};
+ghost use Rattle.machine.specs.Events.{Frame};
+ghost use Rattle.machine.specs.Received.{Read};
+ghost use Rattle.machine.specs.Routing.{route};
+ghost use Rattle.msgarena.specs.Seen.{message as heard, parameter};
+ghost use Rattle.q773_comp.specs.Seen.{component};
+ghost use Rattle.location.specs.Asking.{IsBeginOf};
+ghost use Rattle.shard_state.specs.Shards.{IsSameShard, directory_of};
+ghost use Rattle.hlrcore.specs.Hearing.{Hears, IsForMe, IsClosing, IsContinueOf};
+
+use crate::sending::{aborted, silent};
+use crate::state::State;
+use hlr_types::RemoteId;
+use msgarena::{Indication, Message, Parameter, Verdict};
+use q773_comp::Component;
+use shard_state::StepAnswer;
+use std::alloc::AllocError;
+use turns::{begins, closes, continues};
+
+/// P-Abort causes (Q.773).
+const UNRECOGNIZED_TRANSACTION_ID: u8 = 1;
+
+const RESOURCE_LIMITATION: u8 = 4;
+
+impl State {
+    /// Takes a received frame.
+    pub(crate) fn hear(&mut self, indication: &Indication) -> Result<StepAnswer, AllocError>
+        requires { route (directory_of self.old.directory) (Frame indication.now.from indication.now.verdict) ≡ self.old.shard }
+        ensures heard { IfOk result (λ a. Hears self.old indication.now a self.new) }
+        ensures err { OnErr result (self.new ≡ self.old) }
+        ensures same_shard { IsSameShard self.old self.new }
+    {
+        match indication.verdict() {
+            Verdict::Discard => Ok(silent(self.alloc)),
+            Verdict::Refuse(origin, cause) => {
+                aborted(self.alloc, indication.from(), *origin, *cause, None)
+            }
+            Verdict::Read(message) => self.hear_message(indication, message),
+        }
+    }
+
+    /// Takes a received message.
+    fn hear_message(
+        &mut self,
+        indication: &Indication,
+        message: &Message,
+    ) -> Result<StepAnswer, AllocError>
+        requires mine { IsForMe self.old indication.now }
+        requires message { indication.now.verdict ≡ Read (heard message.now) }
+        ensures heard { IfOk result (λ a. Hears self.old indication.now a self.new) }
+        ensures err { OnErr result (self.new ≡ self.old) }
+        ensures same_shard { IsSameShard self.old self.new }
+    {
+        match message {
+            Message::Begin {
+                origin,
+                components,
+                ..
+            } => self.begin(indication, *origin, components),
+            Message::Continue {
+                origin,
+                destination,
+                components,
+                ..
+            } => self.continue_(indication, *origin, *destination, components),
+            Message::End { destination, .. } | Message::Abort { destination } => {
+                self.close(indication, *destination)
+            }
+        }
+    }
+
+    /// Takes a Begin. In a full shard one that would open a dialogue is aborted (profile).
+    fn begin(
+        &mut self,
+        indication: &Indication,
+        origin: RemoteId,
+        components: &[Component<Parameter>],
+    ) -> Result<StepAnswer, AllocError>
+        requires mine { IsForMe self.old indication.now }
+        requires begin { IsBeginOf indication.now.verdict origin (map (component parameter) components.now) }
+        ensures heard { IfOk result (λ a. Hears self.old indication.now a self.new) }
+        ensures err { OnErr result (self.new ≡ self.old) }
+        ensures same_shard { IsSameShard self.old self.new }
+    {
+        let plan = begins(self.alloc, &self.shard, indication, origin, components)?;
+        if !self.shard.has_room(&plan) {
+            let from = indication.from();
+            return aborted(self.alloc, from, origin, RESOURCE_LIMITATION, plan.subject);
+        }
+        self.shard.settle(plan, &[])
+    }
+
+    /// Takes a Continue. One for no open dialogue is aborted.
+    fn continue_(
+        &mut self,
+        indication: &Indication,
+        origin: RemoteId,
+        destination: RemoteId,
+        components: &[Component<Parameter>],
+    ) -> Result<StepAnswer, AllocError>
+        requires mine { IsForMe self.old indication.now }
+        requires continues { IsContinueOf indication.now.verdict origin destination (map (component parameter) components.now) }
+        ensures heard { IfOk result (λ a. Hears self.old indication.now a self.new) }
+        ensures err { OnErr result (self.new ≡ self.old) }
+        ensures same_shard { IsSameShard self.old self.new }
+    {
+        let from = indication.from();
+        let found = continues(
+            self.alloc,
+            &self.shard,
+            from,
+            origin,
+            destination,
+            components,
+        )?;
+        match found {
+            Some(plan) => self.shard.settle(plan, components),
+            None => {
+                let cause = UNRECOGNIZED_TRANSACTION_ID;
+                aborted(self.alloc, from, origin, cause, None)
+            }
+        }
+    }
+
+    /// Takes an End or an Abort. One for no open dialogue is discarded.
+    fn close(
+        &mut self,
+        indication: &Indication,
+        destination: RemoteId,
+    ) -> Result<StepAnswer, AllocError>
+        requires mine { IsForMe self.old indication.now }
+        requires closes { IsClosing indication.now.verdict destination }
+        ensures heard { IfOk result (λ a. Hears self.old indication.now a self.new) }
+        ensures err { OnErr result (self.new ≡ self.old) }
+        ensures same_shard { IsSameShard self.old self.new }
+    {
+        match closes(self.alloc, &self.shard, destination) {
+            Some(plan) => self.shard.settle(plan, &[]),
+            None => Ok(silent(self.alloc)),
+        }
+    }
+}

@@ -1,0 +1,56 @@
+//! What is answered where nothing changes.
+
+ghost use Rattle.std.specs.Prelude.{◌≡◌, [], None, IfOk, map};
+ghost use Rattle.machine.specs.Sent.{SentAbort, Cause};
+ghost use Rattle.machine.specs.Outcome.{send};
+ghost use Rattle.frames.specs.Octets.{spelled_out};
+ghost use Rattle.outgoing.specs.Seen.{message as said};
+ghost use Rattle.shard_state.specs.Answers.{Says, raw_out};
+
+use hlr_types::{Imsi, Peer, RemoteId};
+use mapdlg::Why;
+use outgoing::{SentMessage, octets_of};
+use shard_state::{Out, StepAnswer};
+use std::alloc::{AllocError, Global};
+
+/// Nothing is sent.
+pub(crate) fn silent(alloc: Global) -> StepAnswer
+    ensures { Says result None None [] }
+{
+    StepAnswer {
+        outs: Vec::new(alloc),
+        id: None,
+        subject: None,
+    }
+}
+
+/// An Abort with this P-Abort cause (Q.773), and nothing else.
+pub(crate) fn aborted(
+    alloc: Global,
+    to: Peer,
+    destination: RemoteId,
+    cause: u8,
+    subject: Option<Imsi>,
+) -> Result<StepAnswer, AllocError>
+    ensures { IfOk result (λ a. Says a None subject (send to (SentAbort destination (Cause cause)))) }
+{
+    let message = SentMessage::Abort {
+        destination,
+        why: Why::Cause(cause),
+    };
+    Ok(StepAnswer {
+        outs: one_out(alloc, to, &message)?,
+        id: None,
+        subject,
+    })
+}
+
+/// One message to one address.
+fn one_out(alloc: Global, to: Peer, message: &SentMessage) -> Result<Vec<Out>, AllocError>
+    ensures { IfOk result (λ outs. map raw_out outs.items ≡ map spelled_out (send to (said message.now))) }
+{
+    let Ok(octets) = octets_of(alloc, message) else {
+        return Err(AllocError);
+    };
+    Ok(vec![in alloc; Out { to, octets }]?)
+}

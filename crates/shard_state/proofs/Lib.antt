@@ -1,0 +1,4 @@
+pub mod OpeningLemmas
+pub mod RecordLemmas
+pub mod SettleLemmas
+pub mod RoomLemmas

@@ -1,0 +1,4 @@
+pub mod Shards
+pub mod Plans
+pub mod Answers
+pub mod Changing

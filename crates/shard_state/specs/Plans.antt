@@ -1,0 +1,85 @@
+-- What an event comes to before anything is done, and what is then done.
+use Rattle.std.specs.Prelude.{◌≡◌, ◌≢◌, ℕ, List, Option, Some, None, option_map, map, IfSome}
+use Rattle.machine.specs.State as machine
+use Rattle.machine.specs.State.{Local, IsFull}
+use Rattle.machine.specs.Outcome.{Outcome}
+use Rattle.machine.specs.Step.{moved, seen}
+use Rattle.tidalloc.specs.LiveIds.{next_use}
+use Rattle.q773_comp.specs.declared.component.Component.{Component}
+use Rattle.msgarena.specs.declared.parameter.Parameter.{Parameter}
+use Rattle.csl.specs.Seen.{heard}
+use Rattle.dialogues.specs.Dialogues.{IsNew, dialogues_of, gone_on}
+use Rattle.records.specs.Subscriber.{AreAllowed}
+use Rattle.location.specs.declared.outcome.After.TheVariants.{NewCodes}
+use Rattle.location.specs.declared.outcome.Stays.{Stays}
+use Rattle.location.specs.declared.outcome.Stays.TheVariants.{Gone, Forgets}
+use Rattle.location.specs.Seen.{outcome_of}
+use Rattle.location.specs.Writing.{CanBeWritten}
+use Rattle.shard_state.specs.declared.plan.Named.{Named}
+use Rattle.shard_state.specs.declared.plan.Named.TheVariants.{Nothing, Open, Continued}
+use Rattle.shard_state.specs.declared.plan.Plan.{Plan}
+use Rattle.shard_state.specs.Shards.{ShardState, state_of, record_at}
+
+-- the id of the open dialogue that an event names, if any
+abbrev pub id_of : Named → Option (List ℕ)
+id_of Nothing = None
+id_of (Open id) = Some id
+id_of (Continued id peer remote) = Some id
+
+-- that dialogue as what was received leaves it
+abbrev pub named_as : ShardState → List (Component Parameter) → Named → Option machine.Dialogue
+named_as s components Nothing = None
+named_as s components (Open id) = dialogues_of s.dialogues id
+named_as s components (Continued id peer remote) =
+    option_map (gone_on peer remote s.clock (map heard components)) (dialogues_of s.dialogues id)
+
+-- what the procedure sees of the subscriber whom the event concerns, if any
+abbrev pub here : ShardState → Plan → Local
+here s plan = seen (state_of s) s.shard plan.imsi
+
+-- what the procedure leaves
+abbrev pub left : ShardState → List (Component Parameter) → Plan → Outcome
+left s components plan = outcome_of (here s plan) (named_as s components plan.named) plan.codes.items plan.left
+
+-- the state of the machine after
+abbrev pub settled : ShardState → List (Component Parameter) → Plan → machine.State
+settled s components plan = moved (state_of s) plan.imsi (id_of plan.named) plan.new (left s components plan)
+
+-- whether a dialogue opens
+abbrev pub Opens : Stays → Type 0
+Opens (Gone (Some opening)) = Unit {0}
+Opens _ = ⊥
+
+-- An invocation is forgotten only in a dialogue that is as it was.
+abbrev pub IsForgetting : Named → Stays → Type 0
+IsForgetting (Continued id peer remote) (Forgets invoke) = ⊥
+IsForgetting named stays = Unit {0}
+
+-- The id that a dialogue takes which opens: the next one, where there is one, and where the named dialogue closes in the same
+-- step the one that then is next.
+abbrev pub IsNextId : ShardState → Named → (new : List ℕ) → Type 0
+IsNextId s named new = after (id_of named)
+  where
+    after : Option (List ℕ) → Type 0
+    after None = IfSome s.dialogues.next (λ id. (id ≡ new) × IsNew s.dialogues id)
+    after (Some id) = (new ≡ next_use id) × IsNew s.dialogues new
+
+-- What the plan names is there: the dialogue is open; the record may be written so; new codes may be had; and what opens or
+-- changes a dialogue is about a subscriber.
+pub record CanSettle (s : ShardState) (plan : Plan) : Type 0 where
+  pub is_open : IfSome (id_of plan.named) (λ id. dialogues_of s.dialogues id ≢ None)
+  pub writable : CanBeWritten plan.left.after (record_at s.records plan.imsi)
+  pub codes : plan.left.after ≡ NewCodes → AreAllowed plan.codes.items
+  pub forgetting : IsForgetting plan.named plan.left.stays
+  pub next_id : IsNextId s plan.named plan.new
+  pub concerned : plan.imsi ≡ None → (plan.named ≡ Nothing) × (Opens plan.left.stays → ⊥)
+
+-- There is room: a dialogue that would open beside the open ones has an id.
+abbrev pub HasRoom : ShardState → Plan → Type 0
+HasRoom s plan = Opens plan.left.stays → id_of plan.named ≡ None → s.dialogues.next ≢ None
+
+-- A dialogue would open beside the open ones, of which there are as many as may be.
+pub record Overflows (s : ShardState) (plan : Plan) : Type 0 where
+  pub opens : Opens plan.left.stays
+  pub beside : id_of plan.named ≡ None
+  pub full : IsFull (state_of s) s.shard

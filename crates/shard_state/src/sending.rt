@@ -1,0 +1,48 @@
+//! The frames of what a procedure sends.
+
+ghost use Rattle.std.specs.Prelude.{◌≡◌, ◌++◌, IfOk, OnOk, map};
+ghost use Rattle.frames.specs.Octets.{spelled_out};
+ghost use Rattle.outgoing.specs.Seen.{out};
+ghost use Rattle.location.specs.Seen.{one, sent_of};
+ghost use Rattle.shard_state.specs.Answers.{raw_out};
+
+use crate::answer::Out;
+use outgoing::{Out as Sent, octets_of};
+use std::alloc::{AllocError, Global};
+
+/// A message as it goes out.
+fn spelled(alloc: Global, sent: &Sent) -> Result<Out, AllocError>
+    ensures { IfOk result (λ frame. raw_out frame ≡ spelled_out (out sent.now)) }
+{
+    let Ok(octets) = octets_of(alloc, &sent.message) else {
+        return Err(AllocError);
+    };
+    Ok(Out {
+        to: sent.to,
+        octets,
+    })
+}
+
+/// One more message, if there is one.
+fn push(outs: &mut Vec<Out>, alloc: Global, sent: &Option<Sent>) -> Result<(), AllocError>
+    ensures { OnOk result (map raw_out outs.new.items ≡ map raw_out outs.old.items ++ map spelled_out (one sent.now)) }
+{
+    if let Some(sent) = sent {
+        outs.push(spelled(alloc, sent)?)?;
+    }
+    Ok(())
+}
+
+/// The messages in order, as they go out.
+pub(crate) fn outs_of(
+    alloc: Global,
+    first: &Option<Sent>,
+    second: &Option<Sent>,
+) -> Result<Vec<Out>, AllocError>
+    ensures { IfOk result (λ outs. map raw_out outs.items ≡ map spelled_out (sent_of first.now second.now)) }
+{
+    let mut outs = Vec::new(alloc);
+    push(&mut outs, alloc, first)?;
+    push(&mut outs, alloc, second)?;
+    Ok(outs)
+}

@@ -1,0 +1,63 @@
+//! Doing what a procedure leaves.
+
+ghost use Rattle.std.specs.Prelude.{◌≡◌, ◌↔◌, IfOk, OnOk, OnErr, IsTrue, false};
+ghost use Rattle.machine.specs.Step.{taken};
+ghost use Rattle.shard_state.specs.Answers.{Says};
+ghost use Rattle.shard_state.specs.Plans.{CanSettle, HasRoom, Overflows, left, settled};
+ghost use Rattle.shard_state.specs.Shards.{IsSameShard, state_of};
+
+use crate::answer::StepAnswer;
+use crate::changing::change;
+use crate::plan::Plan;
+use crate::sending::outs_of;
+use crate::shard::Shard;
+use crate::writing::write;
+use msgarena::Parameter;
+use q773_comp::Component;
+use std::alloc::AllocError;
+
+impl Shard {
+    /// Whether there is room for what a plan opens. There is none exactly where a dialogue would open beside the open ones,
+    /// of which there are as many as may be.
+    pub fn has_room(&self, plan: &Plan) -> bool
+        ensures room { IsTrue result ↔ HasRoom self.now plan.now }
+        ensures full { (result ≡ false) ↔ Overflows self.now plan.now }
+    {
+        if !plan.opens_beside() {
+            return true;
+        }
+        !self.dialogues().is_full()
+    }
+
+    /// Does what a plan leaves: the record, the dialogue that is named and the one that opens are then as the procedure leaves
+    /// them. `components` are those of the Continue that came, if one came. Where a growth is refused nothing has changed.
+    pub fn settle(
+        &mut self,
+        plan: Plan,
+        components: &[Component<Parameter>],
+    ) -> Result<StepAnswer, AllocError>
+        requires can { CanSettle self.old plan }
+        requires room { HasRoom self.old plan }
+        ensures settled { OnOk result (state_of self.new ≡ settled self.old components.now plan) }
+        ensures says { IfOk result (λ a. Says a (taken plan.new (left self.old components.now plan).opens) plan.subject
+            (left self.old components.now plan).sent) }
+        // The ids of its dialogues are those of its number.
+        ensures own { self.old.dialogues.shard ≡ self.old.shard }
+        ensures err { OnErr result (self.new ≡ self.old) }
+        ensures same_shard { IsSameShard self.old self.new }
+    {
+        let Plan {
+            imsi,
+            subject,
+            named,
+            codes,
+            left,
+            ..
+        } = plan;
+        let outs = outs_of(self.alloc, &left.first, &left.second)?;
+        let clock = self.clock();
+        let id = change(&mut self.dialogues, clock, named, &left.stays, components)?;
+        write(&mut self.records, imsi, left.after, codes);
+        Ok(StepAnswer { outs, id, subject })
+    }
+}

@@ -1,0 +1,67 @@
+//! Writing the record of a subscriber (TS 23.012).
+
+ghost use Rattle.std.specs.Prelude.{◌≡◌, [], IsSome, Some, option_map, true};
+ghost use Rattle.std.specs.FinMap as finite;
+ghost use Rattle.machine.specs.Keys.{put};
+ghost use Rattle.records.specs.Subscriber.{AreAllowed};
+ghost use Rattle.location.specs.Seen.{after_of};
+ghost use Rattle.location.specs.Writing.{CanBeWritten};
+ghost use Rattle.shard_state.specs.Changing.{written};
+ghost use Rattle.shard_state.specs.Shards.{record_at, records_of};
+
+use hlr_types::Imsi;
+use location::After;
+use records::Records;
+
+/// The serving register has purged the subscriber.
+fn purge(records: &mut Records, imsi: &Imsi)
+    requires { CanBeWritten After.Purged (finite.get records.old imsi.now) }
+    ensures { records_of records.new
+        ≡ put (records_of records.old) imsi.now (after_of [] After.Purged (records_of records.old imsi.now)) }
+{
+    let Some(found) = records.get(imsi) else {
+        return;
+    };
+    let register = found.register;
+    let current = found.current;
+    records.set(imsi, register, true, current);
+}
+
+/// The operator has named these codes, and no update counts any more.
+fn recode(records: &mut Records, imsi: &Imsi, codes: Vec<u8>)
+    requires known { IsSome (finite.get records.old imsi.now) }
+    requires codes { AreAllowed codes.items }
+    ensures { records_of records.new
+        ≡ put (records_of records.old) imsi.now (after_of codes.items After.NewCodes (records_of records.old imsi.now)) }
+{
+    let Some(found) = records.get(imsi) else {
+        return;
+    };
+    let register = found.register;
+    let purged = found.purged;
+    let withdrawn = found.withdrawn;
+    records.put(imsi, codes, withdrawn);
+    records.set(imsi, register, purged, None);
+}
+
+/// Writes the record of a subscriber, if any, as a procedure leaves it. Takes no memory.
+pub(crate) fn write(records: &mut Records, imsi: Option<Imsi>, after: After, codes: Vec<u8>)
+    requires writable { CanBeWritten after (record_at records.old imsi) }
+    requires codes { after ≡ After.NewCodes → AreAllowed codes.items }
+    ensures { records_of records.new ≡ written codes.items after imsi (records_of records.old) }
+{
+    let Some(imsi) = imsi else {
+        return;
+    };
+    match after {
+        After::Same => {}
+        After::Purged => purge(records, &imsi),
+        After::Placed {
+            register,
+            purged,
+            current,
+        } => records.set(&imsi, register, purged, current),
+        After::NewCodes => recode(records, &imsi, codes),
+        After::Withdrawn => records.withdraw(&imsi),
+    }
+}

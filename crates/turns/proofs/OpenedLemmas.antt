@@ -1,0 +1,100 @@
+-- A plan for an open dialogue is what its turn does.
+use Rattle.std.proofs.Common.{◌≡◌, ◌≢◌, ℕ, List, [], cond, Option, Some, None, refl, sym, ap, ◌∙◌, subst, eq-eqb, lit≤}
+use Rattle.std.specs.Prelude.{IfSome, option_map, option_copied}
+use Rattle.std.specs.Borrow.{Bor}
+use Rattle.std.specs.List.{IsDistinct}
+use Rattle.std.specs.FinMap as finite
+use Rattle.machine.specs.State.{local_of}
+use Rattle.machine.specs.Step.{outcome_in, subject_of}
+use Rattle.machine.specs.Turns.{Turn, concern, named}
+use Rattle.q773_comp.specs.declared.component.Component.{Component}
+use Rattle.msgarena.specs.declared.parameter.Parameter.{Parameter}
+use Rattle.records.specs.Subscriber.{Subscriber, AreAllowed}
+use Rattle.smroute.specs.Seen.{machine_subscriber}
+use Rattle.dialogues.specs.Dialogues.{dialogues_of}
+use Rattle.location.specs.declared.outcome.Outcome.{Outcome}
+use Rattle.location.specs.Seen.{known, outcome_of}
+use Rattle.location.specs.Writing.{CanBeWritten}
+use Rattle.shard_state.specs.declared.plan.Named.{Named}
+use Rattle.shard_state.specs.declared.plan.Plan.{Plan}
+use Rattle.shard_state.specs.Plans.{IsForgetting, IsNextId, id_of, named_as}
+use Rattle.shard_state.specs.Shards.{ShardState, directory_of, state_of}
+use Rattle.turns.specs.declared.opened.Opened.{Opened}
+use Rattle.turns.specs.OpenOnes.{IsOpened, IsPlanFor}
+use Rattle.turns.specs.Planning.{IsPlan}
+
+no_codes : AreAllowed []
+unfolding IsDistinct
+no_codes = record { most = lit≤ tt; different = tt }
+
+-- ---- what the procedure sees
+
+pub imsi_seen : (s : ShardState) (imsi : List ℕ) → imsi ≡ (local_of (state_of s) s.shard imsi).imsi
+unfolding local_of
+imsi_seen s imsi = refl
+
+pub hlr_seen : (s : ShardState) (imsi : List ℕ) → (local_of (state_of s) s.shard imsi).hlr ≡ s.hlr
+unfolding local_of state_of
+hlr_seen s imsi = refl
+
+pub clock_seen : (s : ShardState) (imsi : List ℕ) → (local_of (state_of s) s.shard imsi).clock ≡ s.clock
+unfolding local_of state_of
+clock_seen s imsi = ap (λ b. cond b s.clock 0) (eq-eqb s.shard s.shard refl)
+
+known_as : (found : Option (Bor Subscriber)) → option_map machine_subscriber (option_copied found) ≡ known found
+known_as None = refl
+known_as (Some s) = refl
+
+pub record_seen : (s : ShardState) (imsi : List ℕ) (found : Option (Bor Subscriber)) → option_copied found ≡ finite.get s.records imsi
+    → (local_of (state_of s) s.shard imsi).record_of ≡ known found
+unfolding local_of state_of
+record_seen s imsi found e = ap (option_map machine_subscriber) (sym e) ∙ known_as found
+
+-- ---- the plan
+
+abbrev with_parts : Plan → (subscriber : List ℕ) → Named → (new : List ℕ) → Outcome → Plan
+with_parts plan subscriber name new o =
+    record plan { imsi = Some subscriber; subject = Some subscriber; named = name; new = new; left = o }
+
+from_parts : (plan : Plan) (subscriber : List ℕ) (name : Named) (new : List ℕ) (o : Outcome) → IsPlanFor subscriber name new o plan
+    → with_parts plan subscriber name new o ≡ plan
+from_parts plan subscriber name new o h = λ i. record plan {
+  imsi = sym h.imsi_is i;
+  subject = sym h.subject_is i;
+  named = sym h.named_is i;
+  new = sym h.new_is i;
+  left = sym h.left_is i;
+}
+
+some≢none : {X : Type 0} {x : X} → Some x ≡ None → ⊥
+some≢none e = absurd cc
+
+pub planned : (s : ShardState) (turn : Turn) (cs : List (Component Parameter)) (subscriber : List ℕ) (name : Named) (new : List ℕ) (o : Outcome) (plan : Plan)
+    → IsPlanFor subscriber name new o plan
+    → IfSome (id_of name) (λ id. dialogues_of s.dialogues id ≢ None) → IsNextId s name new
+    → CanBeWritten o.after (finite.get s.records subscriber) → IsForgetting name o.stays
+    → concern (directory_of s.directory) turn ≡ Some subscriber → named turn ≡ id_of name → subject_of (state_of s) turn ≡ Some subscriber
+    → outcome_in (state_of s) s.shard turn new ≡ outcome_of (local_of (state_of s) s.shard subscriber) (named_as s cs name) [] o
+    → IsPlan s turn cs plan
+planned s turn cs subscriber name new o plan h open_one next can_write keeps concerned names subject does =
+    subst (λ (p : Plan). IsPlan s turn cs p) (from_parts plan subscriber name new o h) (record {
+      can = record {
+        is_open = open_one;
+        writable = can_write;
+        codes = λ _. subst AreAllowed (sym h.no_codes) no_codes;
+        forgetting = keeps;
+        next_id = next;
+        concerned = λ e. absurd (some≢none e);
+      };
+      concern_is = concerned;
+      named_is = names;
+      leaves = does ∙ ap (λ codes. outcome_of (local_of (state_of s) s.shard subscriber) (named_as s cs name) codes o) (sym h.no_codes);
+      subject_is = sym subject;
+    })
+
+pub is_there : (s : ShardState) (o : Opened) → IsOpened s.dialogues o → dialogues_of s.dialogues o.id ≢ None
+is_there s o h none = some≢none (sym h.is_open ∙ none)
+
+pub written : (s : ShardState) (imsi : List ℕ) (found : Option (Bor Subscriber)) (o : Outcome) → option_copied found ≡ finite.get s.records imsi
+    → CanBeWritten o.after (option_copied found) → CanBeWritten o.after (finite.get s.records imsi)
+written s imsi found o e h = subst (λ (r : Option Subscriber). CanBeWritten o.after r) e h

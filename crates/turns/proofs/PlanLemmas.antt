@@ -1,0 +1,148 @@
+-- A plan for an event that names no open dialogue, as a step of the machine has it.
+use Rattle.std.proofs.Common.{◌≡◌, ◌∙◌, ℕ, List, [], Option, Some, None, is_some, IsTrue, cond, refl, sym, ap, subst, eq-eqb, arith}
+use Rattle.std.specs.Prelude.{IfSome, option_map, option_copied}
+use Rattle.std.specs.Borrow.{Bor}
+use Rattle.std.specs.Global.{Vec}
+use Rattle.std.specs.List.{IsDistinct}
+use Rattle.records.specs.Subscriber.{Subscriber, AreAllowed}
+use Rattle.machine.specs.Events.{Change, Withdraw}
+use Rattle.machine.specs.Received.{Component}
+use Rattle.machine.specs.State.{Local, local_of, local_of_nobody}
+use Rattle.machine.specs.Begins.{begins}
+use Rattle.machine.specs.Changes.{changes}
+use Rattle.machine.specs.Routing.{asked}
+use Rattle.machine.specs.Turns.{Turn, Begins, Changes, concern, named}
+use Rattle.machine.specs.Step.{if_known, known_in, outcome_in, seen, subject_of}
+use Rattle.machine_laws.proofs.Refusing.{begins_opens}
+use Rattle.smroute.specs.Seen.{machine_subscriber}
+use Rattle.dialogues.specs.Dialogues.{IsNew}
+use Rattle.location.specs.declared.outcome.After.TheVariants.{NewCodes}
+use Rattle.location.specs.declared.outcome.Outcome.{Outcome}
+use Rattle.location.specs.declared.outcome.Stays.{Stays}
+use Rattle.location.specs.declared.outcome.Stays.TheVariants.{Gone, GoesOn, Forgets}
+use Rattle.location.specs.Seen.{known, opens_of, outcome_of}
+use Rattle.location.specs.Writing.{CanBeWritten}
+use Rattle.shard_state.specs.declared.plan.Plan.{Plan}
+use Rattle.shard_state.specs.Plans.{CanSettle, Opens}
+use Rattle.shard_state.specs.Shards.{ShardState, directory_of, record_at, state_of}
+use Rattle.turns.specs.Planning.{IsPlan}
+use Rattle.turns.specs.Unnamed.{known_imsi, unnamed_plan}
+
+-- ---- what a procedure sees
+
+here_clock : (s : ShardState) (c : Option (List ℕ)) → (seen (state_of s) s.shard c).clock ≡ s.clock
+unfolding state_of local_of local_of_nobody
+here_clock s None = ap (λ b. cond b s.clock 0) (eq-eqb s.shard s.shard refl)
+here_clock s (Some x) = ap (λ b. cond b s.clock 0) (eq-eqb s.shard s.shard refl)
+
+record_seen : (s : ShardState) (c : Option (List ℕ)) → (seen (state_of s) s.shard c).record_of ≡ option_map machine_subscriber (record_at s.records c)
+unfolding state_of local_of local_of_nobody
+record_seen s None = refl
+record_seen s (Some x) = refl
+
+imsi_seen : (s : ShardState) (x : List ℕ) → (seen (state_of s) s.shard (Some x)).imsi ≡ x
+unfolding local_of
+imsi_seen s x = refl
+
+known_copied : (found : Option (Bor Subscriber)) → known found ≡ option_map machine_subscriber (option_copied found)
+known_copied None = refl
+known_copied (Some f) = refl
+
+module _ (s : ShardState) (c : Option (List ℕ)) (found : Option (Bor Subscriber)) (found_is : option_copied found ≡ record_at s.records c) where
+  here_record : (seen (state_of s) s.shard c).record_of ≡ known found
+  here_record = record_seen s c ∙ ap (option_map machine_subscriber) (sym found_is) ∙ sym (known_copied found)
+
+own_here : (s : ShardState) (c : Option (List ℕ)) (found : Option (Bor Subscriber)) → IfSome found (λ f. c ≡ Some f.now.imsi) → IfSome found (λ f. f.now.imsi ≡ (seen (state_of s) s.shard c).imsi)
+own_here s c None own = tt
+own_here s None (Some f) own = absurd cc
+own_here s (Some x) (Some f) own = let same : x ≡ f.now.imsi = cc in sym same ∙ sym (imsi_seen s x)
+
+-- the subject
+subject_is : (s : ShardState) (c : Option (List ℕ)) (found : Option (Bor Subscriber)) → option_copied found ≡ record_at s.records c → IfSome found (λ f. c ≡ Some f.now.imsi)
+    → known_imsi found ≡ known_in (state_of s) c
+unfolding state_of
+subject_is s None None is own = refl
+subject_is s None (Some f) is own = absurd cc
+subject_is s (Some x) None is own = ap (λ o. if_known x (option_map machine_subscriber o)) is
+subject_is s (Some x) (Some f) is own = sym own ∙ ap (λ o. if_known x (option_map machine_subscriber o)) is
+
+-- ---- what opens
+
+opens_some : (clock : ℕ) (stays : Stays) → Opens stays → IsTrue (is_some (opens_of clock stays))
+opens_some clock (Gone None) h = absurd h
+opens_some clock (Gone (Some opening)) h = refl
+opens_some clock GoesOn h = absurd h
+opens_some clock (Forgets invoke) h = absurd h
+
+nobody_known : (s : ShardState) (c : Option (List ℕ)) → c ≡ None → IsTrue (is_some (seen (state_of s) s.shard c).record_of) → ⊥
+nobody_known s None e h = let none = record_seen s None in cc
+nobody_known s (Some x) e h = absurd cc
+
+-- no codes
+none_allowed : AreAllowed []
+unfolding IsDistinct
+none_allowed = record { most = omega arith; different = tt }
+
+-- ---- the plans
+
+module _ (s : ShardState) (imsi : Option (List ℕ)) (found : Option (Bor Subscriber)) (new : List ℕ) (codes : Vec ℕ) (left : Outcome) (plan : Plan)
+    (plan_is : plan ≡ unnamed_plan imsi found new codes left)
+    (found_is : option_copied found ≡ record_at s.records imsi)
+    (own : IfSome found (λ f. imsi ≡ Some f.now.imsi))
+    (next : IfSome s.dialogues.next (λ id. (id ≡ new) × IsNew s.dialogues id))
+    (writable : CanBeWritten left.after (option_copied found)) where
+  abbrev here : Local
+  here = seen (state_of s) s.shard imsi
+
+  can_settle : (left.after ≡ NewCodes → AreAllowed codes.items) → (imsi ≡ None → Opens left.stays → ⊥) → CanSettle s (unnamed_plan imsi found new codes left)
+  can_settle allowed concerned = record {
+    is_open = tt;
+    writable = subst (CanBeWritten left.after) found_is writable;
+    codes = allowed;
+    forgetting = tt;
+    next_id = next;
+    concerned = λ none. (refl, concerned none);
+  }
+
+  -- The plan is what the turn does.
+  made : (turn : Turn) → concern (directory_of s.directory) turn ≡ imsi → named turn ≡ None → subject_of (state_of s) turn ≡ known_in (state_of s) imsi
+      → (left.after ≡ NewCodes → AreAllowed codes.items) → (imsi ≡ None → Opens left.stays → ⊥)
+      → outcome_in (state_of s) s.shard turn new ≡ outcome_of here None codes.items left → IsPlan s turn [] plan
+  made turn concern_is named_is subject allowed concerned leaves = subst (IsPlan s turn []) (sym plan_is) (record {
+    can = can_settle allowed concerned;
+    concern_is = concern_is;
+    named_is = named_is;
+    leaves = leaves;
+    subject_is = subject_is s imsi found found_is own ∙ sym subject;
+  })
+
+  -- A Begin.
+  pub begin_plan : (from origin : List ℕ) (name : Option (List ℕ)) (cs : List Component) → imsi ≡ asked (directory_of s.directory) cs → codes.items ≡ []
+      → ((here : Local) → here.clock ≡ s.clock → IfSome found (λ f. f.now.imsi ≡ here.imsi) → here.record_of ≡ known found
+      → outcome_of here None [] left ≡ begins here from origin name cs new)
+      → IsPlan s (Begins from origin name cs) [] plan
+  unfolding state_of
+  begin_plan from origin name cs asked_is none leaves =
+      let left_here : outcome_of here None [] left ≡ begins here from origin name cs new
+      = leaves here (here_clock s imsi) (own_here s imsi found own) (here_record s imsi found found_is) in
+      made (Begins from origin name cs) (sym asked_is) refl (ap (known_in (state_of s)) (sym asked_is)) (λ _. subst AreAllowed (sym none) none_allowed)
+      (λ nobody opens. nobody_known s imsi nobody
+      (begins_opens here new from origin name cs (sym (ap (λ o. is_some o.opens) left_here) ∙ opens_some here.clock left.stays opens)).known)
+      (ap (λ c. begins (seen (state_of s) s.shard c) from origin name cs new) (sym asked_is) ∙ sym left_here ∙ ap (λ items. outcome_of here None items left) (sym none))
+
+  -- An operator's change, of these codes or of none.
+  pub change_plan : (x items : List ℕ) (change : Change) → imsi ≡ Some x → codes.items ≡ items → AreAllowed items
+      → ((here : Local) → IfSome found (λ f. f.now.imsi ≡ here.imsi) → here.record_of ≡ known found → outcome_of here None items left ≡ changes here change (known found) new)
+      → IsPlan s (Changes x change) [] plan
+  unfolding state_of
+  change_plan x items change imsi_is has allowed leaves =
+      let known_is = here_record s imsi found found_is in
+      made (Changes x change) (sym imsi_is) refl (ap (known_in (state_of s)) (sym imsi_is)) (λ _. subst AreAllowed (sym has) allowed) (λ nobody. absurd cc)
+      (ap (λ c. changes (seen (state_of s) s.shard c) change (seen (state_of s) s.shard c).record_of new) (sym imsi_is) ∙ ap (λ r. changes here change r new) known_is
+      ∙ sym (leaves here (own_here s imsi found own) known_is) ∙ ap (λ is. outcome_of here None is left) (sym has))
+
+  -- The end of a subscription.
+  pub withdrawal_plan : (x : List ℕ) → imsi ≡ Some x → codes.items ≡ []
+      → ((here : Local) → IfSome found (λ f. f.now.imsi ≡ here.imsi) → here.record_of ≡ known found → outcome_of here None [] left ≡ changes here Withdraw (known found) new)
+      → IsPlan s (Changes x Withdraw) [] plan
+  withdrawal_plan x imsi_is none leaves = change_plan x [] Withdraw imsi_is none none_allowed leaves

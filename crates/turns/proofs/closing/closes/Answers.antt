@@ -1,0 +1,18 @@
+use Rattle.std.proofs.Common.{[], ap, ◌∙◌}
+use Rattle.std.specs.FinMap as finite
+use Rattle.records.specs.Maps.{RecordMap}
+use Rattle.dialogues.specs.Dialogues.{dialogues_of}
+use Rattle.turns.proofs.ClosingLemmas.{closing_planned}
+use Rattle.turns.proofs.LookLemmas.{close_for_none}
+use Rattle.turns.proofs.closing.closes.Goals as goal
+
+pub returns-in_err-id : goal.returns-in_err-id
+returns-in_err-id c =
+    rw c.from_residual.ensures (close_for_none [] c.args.destination (dialogues_of c.args.shard.now.dialogues c.args.destination) (c.in_err-id.ensures []))
+
+pub returns : goal.returns
+returns c =
+    let o = c.in_ok-id.field-0 in
+    closing_planned c.args.shard.now c.args.destination o c.get-subscriber.result c.closes-left.result c.plan_for.result c.in_ok-id.ensures
+    (c.get-subscriber.ensures.found ∙ ap (λ (m : RecordMap). finite.get m o.dialogue.subscriber) c.records.ensures)
+    c.closes-left.ensures.leaves c.closes-left.ensures.writable c.plan_for.ensures

@@ -1,0 +1,41 @@
+//! A received Begin.
+
+ghost use Rattle.std.specs.Prelude.{◌≡◌, [], List, ℕ, Option, IfOk, map};
+ghost use Rattle.machine.specs.Received as machine;
+ghost use Rattle.machine.specs.Received.{Read};
+ghost use Rattle.machine.specs.Turns.{Begins};
+ghost use Rattle.q773_comp.specs.Seen.{component};
+ghost use Rattle.msgarena.specs.Seen.{parameter};
+ghost use Rattle.location.specs.Asking.{IsBeginOf};
+ghost use Rattle.turns.specs.Planning.{IsPlan};
+
+use crate::naming::asked;
+use crate::new_id::next_or_any;
+use crate::subscriber::record_of;
+use crate::unnamed::unnamed;
+use hlr_types::RemoteId;
+use msgarena::{Indication, Parameter};
+use q773_comp::Component;
+use shard_state::{Plan, Shard};
+use std::alloc::{AllocError, Global};
+
+/// What a received Begin comes to.
+pub fn begins(
+    alloc: Global,
+    shard: &Shard,
+    indication: &Indication,
+    origin: RemoteId,
+    components: &[Component<Parameter>],
+) -> Result<Plan, AllocError>
+    requires { IsBeginOf indication.now.verdict origin (map (component parameter) components.now) }
+    ensures { IfOk result (λ plan. (name : Option (List ℕ))
+        → indication.now.verdict ≡ Read (machine.Begin origin name (map (component parameter) components.now))
+        → IsPlan shard.now (Begins indication.now.from origin name (map (component parameter) components.now)) [] plan) }
+{
+    let imsi = asked(shard.directory(), components);
+    let subscriber = record_of(shard, imsi.as_ref());
+    let new = next_or_any(shard);
+    let now = shard.clock();
+    let left = location::begins(alloc, indication, origin, components, subscriber, now, new)?;
+    Ok(unnamed(imsi, subscriber, new, Vec::new(alloc), left))
+}

@@ -1,0 +1,36 @@
+//! An operator's change of one subscriber.
+
+ghost use Rattle.std.specs.Prelude.{[], IfOk};
+ghost use Rattle.machine.specs.Events as events;
+ghost use Rattle.machine.specs.Turns.{Changes};
+ghost use Rattle.records.specs.Subscriber.{AreAllowed};
+ghost use Rattle.turns.specs.Planning.{IsPlan};
+
+use crate::new_id::next_or_any;
+use crate::subscriber::record_of;
+use crate::unnamed::unnamed;
+use hlr_types::Imsi;
+use shard_state::{Plan, Shard};
+use std::alloc::{AllocError, Global};
+
+/// What new codes of a subscriber come to.
+pub fn new_codes(alloc: Global, shard: &Shard, imsi: Imsi, codes: &[u8]) -> Result<Plan, AllocError>
+    requires { AreAllowed codes.now }
+    ensures { IfOk result (λ plan. IsPlan shard.now (Changes imsi (events.Codes codes.now)) [] plan) }
+{
+    let kept = codes.to_vec(alloc)?;
+    let subscriber = record_of(shard, Some(&imsi));
+    let new = next_or_any(shard);
+    let left = location::new_codes(subscriber, codes, new);
+    Ok(unnamed(Some(imsi), subscriber, new, kept, left))
+}
+
+/// What the end of a subscription comes to.
+pub fn withdraws(alloc: Global, shard: &Shard, imsi: Imsi) -> Plan
+    ensures { IsPlan shard.now (Changes imsi events.Withdraw) [] result }
+{
+    let subscriber = record_of(shard, Some(&imsi));
+    let new = next_or_any(shard);
+    let left = location::withdraws(subscriber, new);
+    unnamed(Some(imsi), subscriber, new, Vec::new(alloc), left)
+}

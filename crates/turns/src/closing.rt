@@ -1,0 +1,22 @@
+//! A received End or Abort.
+
+ghost use Rattle.std.specs.Prelude.{[]};
+ghost use Rattle.machine.specs.Turns.{close_at};
+ghost use Rattle.dialogues.specs.Dialogues.{dialogues_of};
+ghost use Rattle.turns.specs.Planning.{IsPlanOr};
+
+use crate::opened::{Opened, opened_for, plan_for};
+use hlr_types::RemoteId;
+use shard_state::{Named, Plan, Shard};
+use std::alloc::Global;
+use tsl::Head;
+
+/// What a received End or Abort comes to: nothing is planned where it is for no open dialogue, and then it is discarded.
+pub fn closes(alloc: Global, shard: &Shard, destination: RemoteId) -> Option<Plan>
+    ensures { IsPlanOr shard.now (close_at destination (dialogues_of shard.now.dialogues destination)) [] [] result }
+{
+    let Opened { id, dialogue, new } = opened_for(shard, &Head::End { destination })?;
+    let subscriber = shard.records().get(&dialogue.subscriber);
+    let left = location::closes(subscriber, id);
+    Some(plan_for(alloc, &dialogue, Named::Open(id), new, left))
+}

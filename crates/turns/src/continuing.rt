@@ -1,0 +1,101 @@
+//! A received Continue.
+
+ghost use Rattle.std.specs.Prelude.{◌≡◌, IfOk, Some, map};
+ghost use Rattle.machine.specs.Numbers.{unrecognized_transaction_id};
+ghost use Rattle.machine.specs.Outcome.{send};
+ghost use Rattle.machine.specs.Sent.{Cause, SentAbort};
+ghost use Rattle.machine.specs.State as machine;
+ghost use Rattle.machine.specs.Transactions.{ContinueComes, transact};
+ghost use Rattle.machine.specs.Turns.{Continues, continue_at, for_it};
+ghost use Rattle.q773_comp.specs.Seen.{component};
+ghost use Rattle.msgarena.specs.Seen.{parameter};
+ghost use Rattle.tsl.specs.Transactions.{transaction_of};
+ghost use Rattle.dialogues.specs.Dialogues.{dialogues_of};
+ghost use Rattle.turns.specs.OpenOnes.{IsOpened, with_transaction};
+ghost use Rattle.turns.specs.Planning.{IsPlan, IsPlanOr};
+
+use crate::opened::{Opened, opened_for, plan_for};
+use dialogues::Dialogue;
+use hlr_types::{Peer, RemoteId};
+use location::offer_to;
+use msgarena::Parameter;
+use q773_comp::Component;
+use shard_state::{Named, Plan, Shard};
+use std::alloc::{AllocError, Global};
+use tsl::{Head, Transaction};
+
+/// The transaction after a Continue that is for it (Q.774): in Initiation Sent it becomes Active, and its peer is where the
+/// Continue came from; in Active it stays.
+fn heard_from(transaction: Transaction, from: Peer, origin: RemoteId) -> Transaction
+    ensures row { (t : machine.Transaction)
+        → for_it (transact (Some (transaction_of transaction)) (ContinueComes from origin)) ≡ Some t → transaction_of result ≡ t }
+    ensures active { result.remote ≡ Some origin }
+{
+    let peer = match transaction.remote {
+        Some(_) => transaction.peer,
+        None => from,
+    };
+    Transaction {
+        peer,
+        remote: Some(origin),
+    }
+}
+
+/// What a Continue that is for an open dialogue comes to.
+fn continued(
+    alloc: Global,
+    shard: &Shard,
+    opened: Opened,
+    from: Peer,
+    origin: RemoteId,
+    components: &[Component<Parameter>],
+) -> Result<Plan, AllocError>
+    requires { IsOpened shard.now.dialogues opened }
+    ensures { IfOk result (λ plan. (t : machine.Transaction)
+        → for_it (transact (Some (transaction_of opened.dialogue.transaction)) (ContinueComes from origin)) ≡ Some t
+        → IsPlan shard.now (Continues opened.id (with_transaction shard.now.dialogues opened t) (map (component parameter) components.now))
+        components.now plan) }
+{
+    let Opened { id, dialogue, new } = opened;
+    let transaction = heard_from(dialogue.transaction, from, origin);
+    let named = Named::Continued {
+        id,
+        peer: transaction.peer,
+        remote: origin,
+    };
+    let dialogue = Dialogue {
+        transaction,
+        ..dialogue
+    };
+    let offer = offer_to(&dialogue.kind);
+    let effect = shard
+        .dialogues()
+        .effect(id, &offer, components, shard.clock())?;
+    let subscriber = shard.records().get(&dialogue.subscriber);
+    let left = location::continues(shard.hlr(), subscriber, id, &dialogue, effect, new);
+    Ok(plan_for(alloc, &dialogue, named, new, left))
+}
+
+/// What a received Continue comes to: nothing is planned where it is for no open dialogue, and then it is answered with an Abort,
+/// cause unrecognizedTransactionID.
+pub fn continues(
+    alloc: Global,
+    shard: &Shard,
+    from: Peer,
+    origin: RemoteId,
+    destination: RemoteId,
+    components: &[Component<Parameter>],
+) -> Result<Option<Plan>, AllocError>
+    ensures { IfOk result (IsPlanOr shard.now
+        (continue_at from origin destination (map (component parameter) components.now) (dialogues_of shard.now.dialogues destination))
+        components.now (send from (SentAbort origin (Cause unrecognized_transaction_id)))) }
+{
+    let head = Head::Continue {
+        origin,
+        destination,
+    };
+    let Some(opened) = opened_for(shard, &head) else {
+        return Ok(None);
+    };
+    Ok(Some(continued(alloc, shard, opened, from, origin, components)?))
+}

@@ -1,0 +1,36 @@
+//! An expiry of a shard's least timer that is due.
+
+ghost use Rattle.std.specs.Prelude.{◌≡◌, IfSome, option_map};
+ghost use Rattle.machine.specs.State.{local_of};
+ghost use Rattle.machine.specs.Expiries.{current_register};
+ghost use Rattle.smroute.specs.Seen.{machine_register};
+ghost use Rattle.shard_state.specs.Shards.{state_of};
+ghost use Rattle.turns.specs.Planning.{IsExpiry};
+
+use crate::opened::{Opened, opened_at, plan_for};
+use hlr_types::{Imsi, Register};
+use location::register_of;
+use records::Record;
+use shard_state::{Named, Plan, Shard};
+use std::alloc::Global;
+
+/// The register of a subscriber's current update.
+fn current_register(shard: &Shard, imsi: &Imsi, subscriber: Option<&Record>) -> Option<Register>
+    ensures { IfSome subscriber.entry (λ s. current_register (local_of (state_of shard.now) shard.now.shard imsi.now) s.now.current
+        ≡ option_map machine_register result) }
+{
+    let current = subscriber?.current?;
+    register_of(*imsi, shard.dialogues().get(current))
+}
+
+/// What an expiry comes to: nothing is planned where nothing is due.
+pub fn expires(alloc: Global, shard: &Shard) -> Option<Plan>
+    ensures { IsExpiry shard.now result }
+{
+    let due = shard.dialogues().least_due(shard.clock())?;
+    let Opened { id, dialogue, new } = opened_at(shard, due.id)?;
+    let subscriber = shard.records().get(&dialogue.subscriber);
+    let current = current_register(shard, &dialogue.subscriber, subscriber);
+    let left = location::expires(alloc, subscriber, current, &dialogue, due, new);
+    Some(plan_for(alloc, &dialogue, Named::Open(id), new, left))
+}

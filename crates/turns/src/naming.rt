@@ -1,0 +1,26 @@
+//! The subscriber that a Begin asks about.
+
+ghost use Rattle.std.specs.Prelude.{◌≡◌, map};
+ghost use Rattle.machine.specs.Routing.{asked};
+ghost use Rattle.msgarena.specs.Seen.{parameter};
+ghost use Rattle.q773_comp.specs.Seen.{component};
+ghost use Rattle.shard_state.specs.Shards.{directory_of};
+
+use hlr_types::Imsi;
+use location::first_argument;
+use msgarena::{Argument, Parameter};
+use q773_comp::Component;
+use records::Directory;
+
+/// The subscriber that a Begin asks about, by its first component alone. An SM route is asked for by MSISDN (TS 29.002,
+/// sendRoutingInfoForSM).
+pub fn asked(directory: &Directory, components: &[Component<Parameter>]) -> Option<Imsi>
+    ensures { result ≡ asked (directory_of directory.now) (map (component parameter) components.now) }
+{
+    match first_argument(components)? {
+        Argument::BadValue => None,
+        Argument::Update(update) => Some(update.imsi),
+        Argument::Purge(purge) => Some(purge.imsi),
+        Argument::Route(route) => directory.find(&route.msisdn),
+    }
+}

@@ -1,0 +1,62 @@
+//! The open dialogue that an event is for, and what is planned for it.
+
+ghost use Rattle.tsl.specs.Received.{destination_of};
+ghost use Rattle.turns.specs.OpenOnes.{IsFor, IsOpenAt, IsPlanFor};
+
+use dialogues::Dialogue;
+use hlr_types::Tid;
+use location::Outcome;
+use shard_state::{Named, Plan, Shard};
+use std::alloc::Global;
+use tsl::{Head, Received};
+
+/// An open dialogue, with its id, and the id that a dialogue takes which opens as this one closes.
+#[derive(Clone, Copy)]
+pub(crate) struct Opened {
+    pub(crate) id: Tid,
+    pub(crate) dialogue: Dialogue,
+    pub(crate) new: Tid,
+}
+
+/// The dialogue that is open at an id, if one is.
+pub(crate) fn opened_at(shard: &Shard, id: Tid) -> Option<Opened>
+    ensures { IsOpenAt shard.now.dialogues id result }
+{
+    let dialogues = shard.dialogues();
+    let dialogue = dialogues.get(id)?;
+    Some(Opened {
+        id,
+        dialogue,
+        new: dialogues.next_after(id),
+    })
+}
+
+/// The open dialogue that a Continue, an End or an Abort is for, if it is for one (Q.774).
+pub(crate) fn opened_for(shard: &Shard, head: &Head) -> Option<Opened>
+    ensures { IsFor shard.now.dialogues head.now result }
+{
+    match shard.dialogues().look(head) {
+        Received::For(id) => opened_at(shard, id),
+        Received::NotAssigned(_) | Received::Nothing => None,
+    }
+}
+
+/// A plan for an open dialogue: it is about the dialogue's subscriber.
+pub(crate) fn plan_for(
+    alloc: Global,
+    dialogue: &Dialogue,
+    named: Named,
+    new: Tid,
+    left: Outcome,
+) -> Plan
+    ensures { IsPlanFor dialogue.now.subscriber named new left result }
+{
+    Plan {
+        imsi: Some(dialogue.subscriber),
+        subject: Some(dialogue.subscriber),
+        named,
+        new,
+        codes: Vec::new(alloc),
+        left,
+    }
+}

@@ -1,0 +1,39 @@
+//! The plan of an event that names no open dialogue.
+
+ghost use Rattle.std.specs.Prelude.{◌≡◌};
+ghost use Rattle.turns.specs.Unnamed.{known_imsi, unnamed_plan};
+
+use hlr_types::{Imsi, Tid};
+use location::Outcome;
+use records::Record;
+use shard_state::{Named, Plan};
+
+/// The IMSI of a record, if there is one.
+fn known(subscriber: Option<&Record>) -> Option<Imsi>
+    ensures { result ≡ known_imsi subscriber.entry }
+{
+    match subscriber {
+        Some(subscriber) => Some(subscriber.imsi),
+        None => None,
+    }
+}
+
+/// The plan of an event that names no open dialogue. Its subject is the subscriber, where there is a record.
+pub(crate) fn unnamed(
+    imsi: Option<Imsi>,
+    subscriber: Option<&Record>,
+    new: Tid,
+    codes: Vec<u8>,
+    left: Outcome,
+) -> Plan
+    ensures { result ≡ unnamed_plan imsi subscriber.entry new codes left }
+{
+    Plan {
+        imsi,
+        subject: known(subscriber),
+        named: Named::Nothing,
+        new,
+        codes,
+        left,
+    }
+}
