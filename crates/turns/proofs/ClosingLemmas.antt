@@ -1,5 +1,5 @@
 -- An End or an Abort of an open dialogue.
-use Rattle.std.proofs.Common.{◌≡◌, ℕ, List, [], Option, refl, sym, ap, ◌∙◌, subst}
+use Rattle.std.proofs.Common.{◌≡◌, ℕ, List, [], Option, Some, refl, sym, ap, ◌∙◌, subst}
 use Rattle.std.specs.Prelude.{option_copied}
 use Rattle.std.specs.Borrow.{Bor}
 use Rattle.std.specs.FinMap as finite
@@ -18,7 +18,8 @@ use Rattle.shard_state.specs.Shards.{ShardState, state_of}
 use Rattle.turns.specs.declared.opened.Opened.{Opened}
 use Rattle.turns.specs.OpenOnes.{IsForIt, IsPlanFor, seen_as}
 use Rattle.turns.specs.Planning.{IsPlan}
-use Rattle.turns.proofs.OpenedLemmas.{is_there, planned, record_seen, written}
+use Rattle.turns.proofs.OpenedLemmas.{is_there, planned, written}
+use Rattle.turns.proofs.SeenLemmas.{record_seen}
 
 pub closing_planned : (s : ShardState) (destination : List ℕ) (o : Opened) (found : Option (Bor Subscriber)) (does : Outcome) (plan : Plan)
     → IsForIt s.dialogues (End destination) o → option_copied found ≡ finite.get s.records o.dialogue.subscriber
@@ -32,4 +33,4 @@ closing_planned s destination o found does plan for_it copied leaves can_write p
     subst (λ (t : Turn). IsPlan s t [] plan) turn
     (planned s (Closes o.id (seen_as s.dialogues o)) [] imsi (Open o.id) o.new does plan parts
     (is_there s o for_it.opened) (for_it.opened.next, for_it.opened.is_new) (written s imsi found does copied can_write) tt refl refl refl
-    (sym (leaves (local_of (state_of s) s.shard imsi) (dialogues_of s.dialogues o.id) (record_seen s imsi found copied))))
+    (sym (leaves (local_of (state_of s) s.shard imsi) (dialogues_of s.dialogues o.id) (record_seen s (Some imsi) found copied))))

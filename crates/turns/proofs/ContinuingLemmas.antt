@@ -40,7 +40,8 @@ use Rattle.turns.specs.declared.opened.Opened.{Opened}
 use Rattle.turns.specs.OpenOnes.{IsForIt, IsOpened, IsPlanFor, seen_as, with_transaction}
 use Rattle.turns.specs.Planning.{IsPlan}
 use Rattle.turns.proofs.LookLemmas.{continue_is, transaction_after}
-use Rattle.turns.proofs.OpenedLemmas.{clock_seen, hlr_seen, imsi_seen, is_there, planned, record_seen, written}
+use Rattle.turns.proofs.OpenedLemmas.{is_there, planned, written}
+use Rattle.turns.proofs.SeenLemmas.{clock_seen, hlr_seen, imsi_seen, record_seen}
 
 module _ (s : ShardState) (o : Opened) (after : Transaction) (origin : List ℕ) (cs : List (Component Parameter)) (opened : IsOpened s.dialogues o)
     (active : after.remote ≡ Some origin) where
@@ -75,12 +76,12 @@ module _ (s : ShardState) (o : Opened) (after : Transaction) (origin : List ℕ)
       let here = local_of (state_of s) s.shard imsi in
       let kind = kind_of o.dialogue.kind in
       let same : effect here.clock (offer_to kind) before (map (component parameter) cs) ≡ done =
-      ap (λ now. effect now (offer_to kind) before (map (component parameter) cs)) (clock_seen s imsi) ∙ parameters_have_no_effect parameter s.clock (offer_to kind) before cs in
+      ap (λ now. effect now (offer_to kind) before (map (component parameter) cs)) (clock_seen s (Some imsi)) ∙ parameters_have_no_effect parameter s.clock (offer_to kind) before cs in
       planned s (Continues o.id (with_transaction s.dialogues o t) (map (component parameter) cs)) cs imsi (Continued o.id after.peer origin) o.new does plan parts
       (is_there s o opened) (opened.next, opened.is_new) (written s imsi found does copied can_write) (forgets does.stays keeps) refl refl refl
       (ap (λ (w : effects.Effect). continues_as here o.id (with_transaction s.dialogues o t) kind w o.new) same
       ∙ ap (λ (u : machine.Transaction). continues_as here o.id (with_transaction s.dialogues o u) kind done o.new) (sym is)
-      ∙ sym (leaves here before done (imsi_seen s imsi) (hlr_seen s imsi) (record_seen s imsi found copied) did)
+      ∙ sym (leaves here before done (imsi_seen s imsi) (hlr_seen s imsi) (record_seen s (Some imsi) found copied) did)
       ∙ ap (λ (d : Option machine.Dialogue). outcome_of here d [] does) left_open)
     where
       forgets : (stays : Stays) → ForgetsNothing stays → IsForgetting (Continued o.id after.peer origin) stays

@@ -25,7 +25,8 @@ use Rattle.shard_state.specs.Shards.{ShardState, state_of}
 use Rattle.turns.specs.declared.opened.Opened.{Opened}
 use Rattle.turns.specs.OpenOnes.{IsOpened, IsPlanFor, seen_as}
 use Rattle.turns.specs.Planning.{IsExpiry}
-use Rattle.turns.proofs.OpenedLemmas.{imsi_seen, is_there, planned, record_seen, written}
+use Rattle.turns.proofs.OpenedLemmas.{is_there, planned, written}
+use Rattle.turns.proofs.SeenLemmas.{imsi_seen, record_seen}
 
 -- The state of the machine has the dialogues of the shard, and its clock.
 pub has_dialogues : (s : ShardState) → s.dialogues.shard ≡ s.shard → HasDialogues (state_of s) s.dialogues s.clock
@@ -84,6 +85,6 @@ expiry_planned s due o found current does plan expiry_is same opened copied regi
       planned =
           planned s (Expires due.id d due.invoke (was due.was)) [] imsi (Open o.id) o.new does plan parts
           (is_there s o opened) (opened.next, opened.is_new) (written s imsi found does copied can_write) tt refl (λ i. Some (sym same i)) refl
-          (sym (leaves here (invocations_in (dialogues_of s.dialogues o.id)) (imsi_seen s imsi) (record_seen s imsi found copied) register)
+          (sym (leaves here (invocations_in (dialogues_of s.dialogues o.id)) (imsi_seen s imsi) (record_seen s (Some imsi) found copied) register)
           ∙ ap (λ (x : Option machine.Dialogue). outcome_of here x [] does) (sym opened.is_open));
     }

@@ -1,3 +1,4 @@
+pub mod SeenLemmas
 pub mod LookLemmas
 pub mod OpenedLemmas
 pub mod ClosingLemmas

@@ -1,8 +1,7 @@
 -- A plan for an open dialogue is what its turn does.
-use Rattle.std.proofs.Common.{◌≡◌, ◌≢◌, ℕ, List, [], cond, Option, Some, None, refl, sym, ap, ◌∙◌, subst, eq-eqb, lit≤}
-use Rattle.std.specs.Prelude.{IfSome, option_map, option_copied}
+use Rattle.std.proofs.Common.{◌≡◌, ◌≢◌, ℕ, List, [], Option, Some, None, refl, sym, ap, ◌∙◌, subst}
+use Rattle.std.specs.Prelude.{IfSome, option_copied}
 use Rattle.std.specs.Borrow.{Bor}
-use Rattle.std.specs.List.{IsDistinct}
 use Rattle.std.specs.FinMap as finite
 use Rattle.machine.specs.State.{local_of}
 use Rattle.machine.specs.Step.{outcome_in, subject_of}
@@ -10,10 +9,9 @@ use Rattle.machine.specs.Turns.{Turn, concern, named}
 use Rattle.q773_comp.specs.declared.component.Component.{Component}
 use Rattle.msgarena.specs.declared.parameter.Parameter.{Parameter}
 use Rattle.records.specs.Subscriber.{Subscriber, AreAllowed}
-use Rattle.smroute.specs.Seen.{machine_subscriber}
 use Rattle.dialogues.specs.Dialogues.{dialogues_of}
 use Rattle.location.specs.declared.outcome.Outcome.{Outcome}
-use Rattle.location.specs.Seen.{known, outcome_of}
+use Rattle.location.specs.Seen.{outcome_of}
 use Rattle.location.specs.Writing.{CanBeWritten}
 use Rattle.shard_state.specs.declared.plan.Named.{Named}
 use Rattle.shard_state.specs.declared.plan.Plan.{Plan}
@@ -22,33 +20,7 @@ use Rattle.shard_state.specs.Shards.{ShardState, directory_of, state_of}
 use Rattle.turns.specs.declared.opened.Opened.{Opened}
 use Rattle.turns.specs.OpenOnes.{IsOpened, IsPlanFor}
 use Rattle.turns.specs.Planning.{IsPlan}
-
-no_codes : AreAllowed []
-unfolding IsDistinct
-no_codes = record { most = lit≤ tt; different = tt }
-
--- ---- what the procedure sees
-
-pub imsi_seen : (s : ShardState) (imsi : List ℕ) → imsi ≡ (local_of (state_of s) s.shard imsi).imsi
-unfolding local_of
-imsi_seen s imsi = refl
-
-pub hlr_seen : (s : ShardState) (imsi : List ℕ) → (local_of (state_of s) s.shard imsi).hlr ≡ s.hlr
-unfolding local_of state_of
-hlr_seen s imsi = refl
-
-pub clock_seen : (s : ShardState) (imsi : List ℕ) → (local_of (state_of s) s.shard imsi).clock ≡ s.clock
-unfolding local_of state_of
-clock_seen s imsi = ap (λ b. cond b s.clock 0) (eq-eqb s.shard s.shard refl)
-
-known_as : (found : Option (Bor Subscriber)) → option_map machine_subscriber (option_copied found) ≡ known found
-known_as None = refl
-known_as (Some s) = refl
-
-pub record_seen : (s : ShardState) (imsi : List ℕ) (found : Option (Bor Subscriber)) → option_copied found ≡ finite.get s.records imsi
-    → (local_of (state_of s) s.shard imsi).record_of ≡ known found
-unfolding local_of state_of
-record_seen s imsi found e = ap (option_map machine_subscriber) (sym e) ∙ known_as found
+use Rattle.turns.proofs.SeenLemmas.{none_allowed}
 
 -- ---- the plan
 
@@ -81,7 +53,7 @@ planned s turn cs subscriber name new o plan h open_one next can_write keeps con
       can = record {
         is_open = open_one;
         writable = can_write;
-        codes = λ _. subst AreAllowed (sym h.no_codes) no_codes;
+        codes = λ _. subst AreAllowed (sym h.no_codes) none_allowed;
         forgetting = keeps;
         next_id = next;
         concerned = λ e. absurd (some≢none e);

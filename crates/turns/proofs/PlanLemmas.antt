@@ -1,13 +1,12 @@
 -- A plan for an event that names no open dialogue, as a step of the machine has it.
-use Rattle.std.proofs.Common.{◌≡◌, ◌∙◌, ℕ, List, [], Option, Some, None, is_some, IsTrue, cond, refl, sym, ap, subst, eq-eqb, arith}
+use Rattle.std.proofs.Common.{◌≡◌, ◌∙◌, ℕ, List, [], Option, Some, None, is_some, IsTrue, refl, sym, ap, subst}
 use Rattle.std.specs.Prelude.{IfSome, option_map, option_copied}
 use Rattle.std.specs.Borrow.{Bor}
 use Rattle.std.specs.Global.{Vec}
-use Rattle.std.specs.List.{IsDistinct}
 use Rattle.records.specs.Subscriber.{Subscriber, AreAllowed}
 use Rattle.machine.specs.Events.{Change, Withdraw}
 use Rattle.machine.specs.Received.{Component}
-use Rattle.machine.specs.State.{Local, local_of, local_of_nobody}
+use Rattle.machine.specs.State.{Local}
 use Rattle.machine.specs.Begins.{begins}
 use Rattle.machine.specs.Changes.{changes}
 use Rattle.machine.specs.Routing.{asked}
@@ -27,35 +26,12 @@ use Rattle.shard_state.specs.Plans.{CanSettle, Opens}
 use Rattle.shard_state.specs.Shards.{ShardState, directory_of, record_at, state_of}
 use Rattle.turns.specs.Planning.{IsPlan}
 use Rattle.turns.specs.Unnamed.{known_imsi, unnamed_plan}
-
--- ---- what a procedure sees
-
-here_clock : (s : ShardState) (c : Option (List ℕ)) → (seen (state_of s) s.shard c).clock ≡ s.clock
-unfolding state_of local_of local_of_nobody
-here_clock s None = ap (λ b. cond b s.clock 0) (eq-eqb s.shard s.shard refl)
-here_clock s (Some x) = ap (λ b. cond b s.clock 0) (eq-eqb s.shard s.shard refl)
-
-record_seen : (s : ShardState) (c : Option (List ℕ)) → (seen (state_of s) s.shard c).record_of ≡ option_map machine_subscriber (record_at s.records c)
-unfolding state_of local_of local_of_nobody
-record_seen s None = refl
-record_seen s (Some x) = refl
-
-imsi_seen : (s : ShardState) (x : List ℕ) → (seen (state_of s) s.shard (Some x)).imsi ≡ x
-unfolding local_of
-imsi_seen s x = refl
-
-known_copied : (found : Option (Bor Subscriber)) → known found ≡ option_map machine_subscriber (option_copied found)
-known_copied None = refl
-known_copied (Some f) = refl
-
-module _ (s : ShardState) (c : Option (List ℕ)) (found : Option (Bor Subscriber)) (found_is : option_copied found ≡ record_at s.records c) where
-  here_record : (seen (state_of s) s.shard c).record_of ≡ known found
-  here_record = record_seen s c ∙ ap (option_map machine_subscriber) (sym found_is) ∙ sym (known_copied found)
+use Rattle.turns.proofs.SeenLemmas.{clock_seen, imsi_seen, none_allowed, record_seen, record_there}
 
 own_here : (s : ShardState) (c : Option (List ℕ)) (found : Option (Bor Subscriber)) → IfSome found (λ f. c ≡ Some f.now.imsi) → IfSome found (λ f. f.now.imsi ≡ (seen (state_of s) s.shard c).imsi)
 own_here s c None own = tt
 own_here s None (Some f) own = absurd cc
-own_here s (Some x) (Some f) own = let same : x ≡ f.now.imsi = cc in sym same ∙ sym (imsi_seen s x)
+own_here s (Some x) (Some f) own = let same : x ≡ f.now.imsi = cc in sym same ∙ imsi_seen s x
 
 -- the subject
 subject_is : (s : ShardState) (c : Option (List ℕ)) (found : Option (Bor Subscriber)) → option_copied found ≡ record_at s.records c → IfSome found (λ f. c ≡ Some f.now.imsi)
@@ -75,13 +51,8 @@ opens_some clock GoesOn h = absurd h
 opens_some clock (Forgets invoke) h = absurd h
 
 nobody_known : (s : ShardState) (c : Option (List ℕ)) → c ≡ None → IsTrue (is_some (seen (state_of s) s.shard c).record_of) → ⊥
-nobody_known s None e h = let none = record_seen s None in cc
+nobody_known s None e h = let none = record_there s None in cc
 nobody_known s (Some x) e h = absurd cc
-
--- no codes
-none_allowed : AreAllowed []
-unfolding IsDistinct
-none_allowed = record { most = omega arith; different = tt }
 
 -- ---- the plans
 
@@ -124,7 +95,7 @@ module _ (s : ShardState) (imsi : Option (List ℕ)) (found : Option (Bor Subscr
   unfolding state_of
   begin_plan from origin name cs asked_is none leaves =
       let left_here : outcome_of here None [] left ≡ begins here from origin name cs new
-      = leaves here (here_clock s imsi) (own_here s imsi found own) (here_record s imsi found found_is) in
+      = leaves here (clock_seen s imsi) (own_here s imsi found own) (record_seen s imsi found found_is) in
       made (Begins from origin name cs) (sym asked_is) refl (ap (known_in (state_of s)) (sym asked_is)) (λ _. subst AreAllowed (sym none) none_allowed)
       (λ nobody opens. nobody_known s imsi nobody
       (begins_opens here new from origin name cs (sym (ap (λ o. is_some o.opens) left_here) ∙ opens_some here.clock left.stays opens)).known)
@@ -136,7 +107,7 @@ module _ (s : ShardState) (imsi : Option (List ℕ)) (found : Option (Bor Subscr
       → IsPlan s (Changes x change) [] plan
   unfolding state_of
   change_plan x items change imsi_is has allowed leaves =
-      let known_is = here_record s imsi found found_is in
+      let known_is = record_seen s imsi found found_is in
       made (Changes x change) (sym imsi_is) refl (ap (known_in (state_of s)) (sym imsi_is)) (λ _. subst AreAllowed (sym has) allowed) (λ nobody. absurd cc)
       (ap (λ c. changes (seen (state_of s) s.shard c) change (seen (state_of s) s.shard c).record_of new) (sym imsi_is) ∙ ap (λ r. changes here change r new) known_is
       ∙ sym (leaves here (own_here s imsi found own) known_is) ∙ ap (λ is. outcome_of here None is left) (sym has))
