@@ -81,12 +81,12 @@ const EXAMPLES: [(&str, &str, &str); 13] = [
     ),
     (
         "most_components: seventeen",
-        "62 7F 48 04 00 00 00 01 6C 77 R17",
+        "62 7F 48 04 00 00 00 01 6C 77 REJECT*17",
         "abort 00000001 4",
     ),
     (
         "most_components: sixteen",
-        "62 78 48 04 00 00 00 01 6C 70 R16",
+        "62 78 48 04 00 00 00 01 6C 70 REJECT*16",
         "begin 00000001 -, reject - general 0, reject - general 0, reject - general 0, reject - general 0, reject - general 0, reject - general 0, reject - general 0, reject - general 0, reject - general 0, reject - general 0, reject - general 0, reject - general 0, reject - general 0, reject - general 0, reject - general 0, reject - general 0",
     ),
 ];

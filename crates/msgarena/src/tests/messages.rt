@@ -3,7 +3,7 @@ use super::told::become_so;
 use std::test::Fail;
 
 /// A Begin: what it is, its octets, what becomes of it. `DQ` is the portion that asks for the context of shortMsgGateway, `DA` the
-/// one that accepts it, and `R17` are 17 Rejects.
+/// one that accepts it, and `REJECT*17` are 17 Rejects.
 const BEGINS: [(&str, &str, &str); 41] = [
     ("no child", "62 00", "discarded"),
     (
@@ -169,17 +169,17 @@ const BEGINS: [(&str, &str, &str); 41] = [
     ),
     (
         "seventeen components",
-        "62 81 9F 48 04 00 00 00 01 DQ 6C 77 R17",
+        "62 81 9F 48 04 00 00 00 01 DQ 6C 77 REJECT*17",
         "abort 00000001 4",
     ),
     (
         "seventeen components and the accepting portion",
-        "62 81 AB 48 04 00 00 00 01 DA 6C 77 R17",
+        "62 81 AB 48 04 00 00 00 01 DA 6C 77 REJECT*17",
         "abort 00000001 3",
     ),
     (
         "seventeen components and an element behind",
-        "62 81 A1 48 04 00 00 00 01 DQ 6C 77 R17 05 00",
+        "62 81 A1 48 04 00 00 00 01 DQ 6C 77 REJECT*17 05 00",
         "abort 00000001 3",
     ),
 ];
@@ -319,12 +319,12 @@ const CONTINUES: [(&str, &str, &str); 29] = [
     ),
     (
         "seventeen components",
-        "65 81 85 48 04 00 00 00 01 49 04 01 00 00 07 6C 77 R17",
+        "65 81 85 48 04 00 00 00 01 49 04 01 00 00 07 6C 77 REJECT*17",
         "abort 00000001 4",
     ),
     (
         "seventeen components and the asking portion",
-        "65 81 A5 48 04 00 00 00 01 49 04 01 00 00 07 DQ 6C 77 R17",
+        "65 81 A5 48 04 00 00 00 01 49 04 01 00 00 07 DQ 6C 77 REJECT*17",
         "abort 00000001 3",
     ),
 ];
@@ -408,7 +408,7 @@ const ENDS: [(&str, &str, &str); 20] = [
     ("a primitive End", "44 06 49 04 01 00 00 07", "discarded"),
     (
         "seventeen components",
-        "64 7F 49 04 01 00 00 07 6C 77 R17",
+        "64 7F 49 04 01 00 00 07 6C 77 REJECT*17",
         "discarded",
     ),
 ];

@@ -32,15 +32,15 @@ fn push_times(octets: &mut Vec<u8>, same: &[u8], times: usize) -> Result<(), All
     Ok(())
 }
 
-/// Adds the octets of a word: two hexadecimal digits, or `DQ`, the portion that asks, `DA`, the one that accepts, `R16` and
-/// `R17`, so many Rejects, `2A*32` and `2A*33`, so many octets 2A.
+/// Adds the octets of a word: two hexadecimal digits, or `DQ`, the portion that asks, `DA`, the one that accepts, `REJECT*16` and
+/// `REJECT*17`, so many Rejects, `2A*32` and `2A*33`, so many octets 2A.
 fn push_word(octets: &mut Vec<u8>, word: &str) -> Result<(), Fail> {
     match word {
         "" => {}
         "DQ" => octets.extend_from_slice(&ASKING)?,
         "DA" => octets.extend_from_slice(&ACCEPTING)?,
-        "R16" => push_times(octets, &REJECT, 16)?,
-        "R17" => push_times(octets, &REJECT, 17)?,
+        "REJECT*16" => push_times(octets, &REJECT, 16)?,
+        "REJECT*17" => push_times(octets, &REJECT, 17)?,
         "2A*32" => push_times(octets, &[0x2A], 32)?,
         "2A*33" => push_times(octets, &[0x2A], 33)?,
         _ => octets.push(u8::from_str_radix(word, 16)?)?,
