@@ -1,7 +1,7 @@
 //! What a line of a script says.
 
 use hlr_types::{Imsi, Peer};
-use hlrcore::Codes;
+use records::Codes;
 
 /// One line of a script.
 #[derive(Drop)]

@@ -13,8 +13,7 @@ use crate::item::{Item, LineFault};
 use crate::octets::are_octets;
 use crate::ticks::ticks;
 use hlr_types::{Digits, Imsi, Peer};
-use hlrcore::Codes;
-use records::cut;
+use records::{Codes, cut};
 use std::alloc::Global;
 
 /// Reads a line, which has its fields with one space between them:

@@ -1,5 +1,4 @@
 pub mod ShardLemmas
-pub mod CodesLemmas
 pub mod TakenLemmas
 pub mod SettledLemmas
 pub mod TurnLemmas

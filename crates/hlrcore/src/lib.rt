@@ -16,7 +16,7 @@ mod step;
 mod tests;
 
 pub use answer::StepFault;
-pub use change::{Change, Codes};
+pub use change::Change;
 pub use event::{Event, EventFault, RawEvent};
 pub use naming::route;
 pub use shard_number::ShardNumber;

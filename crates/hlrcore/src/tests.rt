@@ -5,7 +5,7 @@ ghost use Rattle.std.specs.Prelude.{◌<◌};
 use crate::*;
 use bumpalo::Bump;
 use hlr_types::{Digits, Imsi, Peer, Tid};
-use records::read_records;
+use records::{Codes, read_records};
 use std::alloc::Global;
 use std::test::Fail;
 

@@ -16,3 +16,4 @@ pub mod Readings
 pub mod WrittenLemmas
 pub mod SavedLaws
 pub mod SplitLemmas
+pub mod CodesLemmas

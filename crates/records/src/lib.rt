@@ -4,6 +4,7 @@
 //! Contracts see a `Record` as a `Subscriber` of `specs`, `Records` and the `Directory` as finite maps from digits.
 #![tactic(auto)]
 
+mod code_list;
 mod codes;
 mod directory;
 mod fault;
@@ -21,6 +22,7 @@ mod shard;
 mod version;
 mod write;
 
+pub use code_list::Codes;
 pub use codes::read_codes;
 pub use directory::Directory;
 pub use fault::RecordsFault;

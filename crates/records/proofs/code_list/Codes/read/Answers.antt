@@ -1,7 +1,7 @@
 use Rattle.std.proofs.Common.{rules, ap, ◌≡◌}
 use Rattle.std.specs.Prelude.{Some}
-use Rattle.hlrcore.proofs.CodesLemmas.{some_read, not_read}
-use Rattle.hlrcore.proofs.change.Codes.read.Goals as goal
+use Rattle.records.proofs.CodesLemmas.{some_read, not_read}
+use Rattle.records.proofs.code_list.Codes.read.Goals as goal
 
 pub returns-in_default-clause-only : goal.returns-in_default-clause-only
 returns-in_default-clause-only c codes is = absurd (not_read (λ v. v.items) c.in_ok-codes.field-0 codes c.in_default.not-Some (c.in_ok-codes.ensures.only codes is))
