@@ -12,8 +12,6 @@ mod sending;
 mod shard_number;
 mod state;
 mod step;
-#[cfg(test)]
-mod tests;
 
 pub use answer::StepFault;
 pub use change::Change;

@@ -17,8 +17,6 @@ mod expiry;
 mod inserts;
 mod outcome;
 mod purge;
-#[cfg(test)]
-mod tests;
 mod update;
 mod update_end;
 

@@ -11,8 +11,6 @@ mod plan;
 mod sending;
 mod settle;
 mod shard;
-#[cfg(test)]
-mod tests;
 mod writing;
 
 pub use answer::{Out, StepAnswer};

@@ -12,11 +12,7 @@ mod expiry;
 mod naming;
 mod new_id;
 mod opened;
-#[cfg(test)]
-mod opened_tests;
 mod subscriber;
-#[cfg(test)]
-mod tests;
 mod unnamed;
 
 pub use begin::begins;

@@ -2,46 +2,28 @@
 
 ghost use Rattle.std.specs.Prelude.{◌≡◌, IfSome};
 
-use crate::*;
+use crate::given::{self, FIRST, shard};
+use crate::octets::RECORDS;
 use dialogues::{Dialogue, Kind};
-use hlr_types::{Digits, Imsi, Peer, RemoteId, Tid};
+use hlr_types::{Imsi, Peer, RemoteId, Tid};
 use location::{After, Opening, Outcome, Stays};
 use mapargs_loc::CancellationType;
-use outgoing::{Components, Out as Sent, SentMessage};
-use records::read_records;
+use outgoing::{Components, Out, SentMessage};
+use shard_state::{Named, Plan, Shard, StepAnswer};
 use std::alloc::Global;
 use std::process::Abort;
 use std::test::Fail;
 use tsl::Transaction;
 
-/// A subscriber of shard 1 with a register.
-const RECORDS: &[u8] = b"HLR1 447700900100
-234150000000001 447700900000 11,21 * 447700900011,447700900001,-,s
-";
-
-/// The first id of the shard.
-const FIRST: Tid = Tid([1, 0, 0x10, 0]);
-
 /// An End with nothing in it.
 const END: [u8; 8] = [0x64, 0x06, 0x49, 0x04, 0x00, 0x00, 0x00, 0x0B];
 
-fn digits(text: &[u8]) -> Option<Digits> {
-    Digits::from_text(text)
-}
-
 fn imsi() -> Option<Imsi> {
-    Imsi::from_digits(digits(b"234150000000001")?).ok()
+    given::imsi(b"234150000000001").ok()
 }
 
 fn peer() -> Option<Peer> {
-    Some(Peer::new(digits(b"447700900011")?))
-}
-
-fn shard(alloc: Global) -> Option<Shard> {
-    let loaded = read_records(alloc, RECORDS).ok()?;
-    let records = loaded.part(1).ok()?;
-    let directory = loaded.shared_directory().ok()?;
-    Shard::of_part(alloc, 1, records, directory, *loaded.hlr()).ok()
+    given::peer(b"447700900011").ok()
 }
 
 /// A cancel in Initiation Sent.
@@ -61,8 +43,8 @@ fn cancel() -> Option<Dialogue> {
 }
 
 /// The End.
-fn end(alloc: Global) -> Option<Sent> {
-    Some(Sent {
+fn end(alloc: Global) -> Option<Out> {
+    Some(Out {
         to: peer()?,
         message: SentMessage::End {
             destination: RemoteId::read(&[0, 0, 0, 0x0B])?,
@@ -151,7 +133,7 @@ fn withdraws(alloc: Global, shard: &mut Shard) -> Option<StepAnswer> {
 
 #[test]
 fn a_cancel_opens_and_closes(rt: HostRuntime) -> Result<(), Fail> {
-    let mut shard = shard(rt.alloc()).ok_or("shard")?;
+    let mut shard = shard(rt.alloc(), RECORDS)?;
     let answer = opens(rt.alloc(), &mut shard).ok_or("opens")?;
     assert_eq!(rt; answer.id, Some(FIRST));
     assert_eq!(rt; answer.subject, imsi());
@@ -166,7 +148,7 @@ fn a_cancel_opens_and_closes(rt: HostRuntime) -> Result<(), Fail> {
 
 #[test]
 fn a_subscription_ends(rt: HostRuntime) -> Result<(), Fail> {
-    let mut shard = shard(rt.alloc()).ok_or("shard")?;
+    let mut shard = shard(rt.alloc(), RECORDS)?;
     let answer = withdraws(rt.alloc(), &mut shard).ok_or("withdraws")?;
     assert!(rt; answer.outs.is_empty());
     let subscriber = imsi().ok_or("digits")?;
@@ -178,7 +160,7 @@ fn a_subscription_ends(rt: HostRuntime) -> Result<(), Fail> {
 
 #[test]
 fn a_copy_is_a_state_of_its_own(rt: HostRuntime) -> Result<(), Fail> {
-    let mut shard = shard(rt.alloc()).ok_or("shard")?;
+    let mut shard = shard(rt.alloc(), RECORDS)?;
     shard.tick(7);
     let copy = shard.try_copy()?;
     opens(rt.alloc(), &mut shard).ok_or("opens")?;
@@ -205,7 +187,7 @@ fn open_or_stay(rt: &impl Abort, alloc: Global, shard: &mut Shard) {
 /// Each growth is refused in turn by `rt try --test --fail-alloc N`.
 #[test]
 fn refused_growths(rt: HostRuntime) {
-    let Some(mut shard) = shard(rt.alloc()) else {
+    let Ok(mut shard) = shard(rt.alloc(), RECORDS) else {
         return;
     };
     for _number in 0..4 {
