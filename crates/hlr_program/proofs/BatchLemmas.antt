@@ -3,10 +3,10 @@ use Rattle.std.proofs.Common.{◌≡◌, ℕ, ◌+◌, false, List, [], ◌∷�
 use Rattle.std.specs.Prelude.{codes}
 use Rattle.std.specs.List.{AllByRecursion}
 use Rattle.records.specs.Reading.{is_text}
-use Rattle.hlr_program.specs.Script.{Line, Frame, IsLine}
+use Rattle.hlr_input.specs.Script.{Line, Frame, IsLine}
 use Rattle.hlr_program.specs.Batches.{IsGood, HasIds, LacksId, batch_of, behind_batch}
 use Rattle.hlr_program.specs.Runs.{Progress, SaidSends, LineSends, LinesSend}
-use Rattle.hlr_program.proofs.OctetLaws.{octets_again}
+use Rattle.hlr_input.proofs.OctetLaws.{octets_again}
 use Rattle.hlr_program.proofs.CheckLaws.{Completes, goes_on, ends, batch_goes_on, behind_goes_on}
 use Rattle.hlr_program.proofs.RunLemmas.{GoesOn, sending_goes_on, sending_ends, known_octets}
 

@@ -5,8 +5,8 @@ use Rattle.std.proofs.lemmas.Bool.{or_parts, cond-true, cond-false}
 use Rattle.std.specs.Prelude.{◌==◌, codes}
 use Rattle.records.specs.Reading.{is_text}
 use Rattle.hlr_program.specs.Batches.{HasIds, IsFirst, batch_of, behind_batch}
-use Rattle.hlr_program.specs.Script.{Say, Frame, IsLine}
-use Rattle.hlr_program.proofs.OctetLaws.{known_without}
+use Rattle.hlr_input.specs.Script.{Say, Frame, IsLine}
+use Rattle.hlr_input.proofs.OctetLaws.{known_without}
 use Rattle.records.specs.File.{parts}
 use Rattle.records.proofs.FieldLaws.{joined_again}
 

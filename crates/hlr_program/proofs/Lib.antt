@@ -1,9 +1,5 @@
-pub mod OctetLaws
-pub mod LineLaws
-pub mod TickLaws
 pub mod CheckLaws
 pub mod PrintLemmas
-pub mod LetterLemmas
 pub mod EngineLemmas
 pub mod RunLemmas
 pub mod BatchLemmas

@@ -6,7 +6,7 @@ use Rattle.std.proofs.lemmas.List.{append-nil, take_more, map-append}
 use Rattle.frames.specs.Octets.{RawOut}
 use Rattle.shard_state.specs.declared.answer.Out.{Out}
 use Rattle.shard_state.specs.Answers.{raw_out}
-use Rattle.hlr_program.specs.Letters.{noted, originating_id}
+use Rattle.hlr_input.specs.Letters.{noted, originating_id}
 use Rattle.hlr_program.specs.Printed.{sent_line, sent_lines, noted_in}
 use Rattle.hex.specs.Hex.{encode_with, encode_upper, upper_digits}
 

@@ -6,10 +6,10 @@ use Rattle.std.proofs.lemmas.Bool.{lt-ltb, le-ltb, and_from, and_left}
 use Rattle.std.proofs.lemmas.Option.{slice_get_within}
 use Rattle.std.proofs.lemmas.List.FromFn.{map-range_with_len_more}
 use Rattle.frames.specs.Octets.{RawEvent, RawFrame}
-use Rattle.hlr_program.specs.declared.group.Group.{Group}
-use Rattle.hlr_program.specs.declared.group.Group.TheVariants.{Octet, Letter}
-use Rattle.hlr_program.specs.Octets.{IsOctets, octets_of_group, octets_of, is_known, are_known}
-use Rattle.hlr_program.specs.Script.{Line, Frame}
+use Rattle.hlr_input.specs.declared.group.Group.{Group}
+use Rattle.hlr_input.specs.declared.group.Group.TheVariants.{Octet, Letter}
+use Rattle.hlr_input.specs.Octets.{IsOctets, octets_of_group, octets_of, is_known, are_known}
+use Rattle.hlr_input.specs.Script.{Line, Frame}
 use Rattle.hlr_program.specs.Runs.{Progress, Sends, AllSend, AreEvents, SaidSends, LineSends, LinesSend}
 
 -- ---- one event more

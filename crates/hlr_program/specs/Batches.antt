@@ -1,9 +1,9 @@
 -- The batches of a script, and what is checked before anything is handled (profile).
 use Rattle.std.specs.Prelude.{◌≡◌, ◌⊎◌, ℕ, ◌+◌, true, false, List, [], ◌∷◌, if◌then◌else◌, codes as text}
 use Rattle.records.specs.Reading.{is_text}
-use Rattle.hlr_program.specs.declared.group.Group.{Group}
-use Rattle.hlr_program.specs.Octets.{IsOctets, are_known}
-use Rattle.hlr_program.specs.Script.{Line, Frame, IsLine, IsGoodLine}
+use Rattle.hlr_input.specs.declared.group.Group.{Group}
+use Rattle.hlr_input.specs.Octets.{IsOctets, are_known}
+use Rattle.hlr_input.specs.Script.{Line, Frame, IsLine, IsGoodLine}
 
 -- The lines of the first batch, without the `W` that ends it.
 abbrev pub batch_of : List (List ℕ) → List (List ℕ)

@@ -1,9 +1,5 @@
-pub mod Octets
-pub mod Script
-pub mod Letters
 pub mod Printed
 pub mod Statuses
 pub mod Batches
-pub mod Reading
 pub mod Engine
 pub mod Runs

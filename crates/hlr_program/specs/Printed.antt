@@ -4,7 +4,7 @@ use Rattle.hex.specs.Hex.{encode_upper}
 use Rattle.std.specs.List.{flat_map}
 use Rattle.hlr_types.specs.DigitTexts.{text_of}
 use Rattle.frames.specs.Octets.{RawOut}
-use Rattle.hlr_program.specs.Letters.{noted, originating_id}
+use Rattle.hlr_input.specs.Letters.{noted, originating_id}
 
 -- `S <to> <octets in upper case>`, and a line feed.
 abbrev pub sent_line : List ℕ → List ℕ → List ℕ

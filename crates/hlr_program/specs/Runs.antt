@@ -7,9 +7,9 @@ use Rattle.machine.specs.Events as machine
 use Rattle.frames.specs.Octets.{RawEvent, RawFrame, RawClock, RawExpire, RawChange, RawOut}
 use Rattle.shard_state.specs.declared.answer.Out.{Out}
 use Rattle.shard_state.specs.Answers.{raw_out}
-use Rattle.hlr_program.specs.declared.group.Group.{Group}
-use Rattle.hlr_program.specs.Octets.{IsOctets, octets_of}
-use Rattle.hlr_program.specs.Script.{Line, Frame, Clock, Expire, Batch, Codes, Withdraw, IsLine}
+use Rattle.hlr_input.specs.declared.group.Group.{Group}
+use Rattle.hlr_input.specs.Octets.{IsOctets, octets_of}
+use Rattle.hlr_input.specs.Script.{Line, Frame, Clock, Expire, Batch, Codes, Withdraw, IsLine}
 use Rattle.records.specs.File.{Contents, File, lines}
 use Rattle.records.specs.Loaded.{Subscribers, loaded_from}
 use Rattle.hlr_program.specs.Batches.{IsGood, batches_of}

@@ -7,8 +7,8 @@ use Rattle.frames.specs.Octets.{RawEvent}
 use Rattle.hlr_program.specs.Engine.{IsChange}
 use Rattle.hlr_program.specs.declared.engine.EngineFault.{EngineFault}
 use Rattle.hlr_program.specs.declared.engine.EngineFault.TheVariants as engine
-use Rattle.hlr_program.specs.declared.item.LineFault.{LineFault}
-use Rattle.hlr_program.specs.declared.item.LineFault.TheVariants as line
+use Rattle.hlr_input.specs.declared.item.LineFault.{LineFault}
+use Rattle.hlr_input.specs.declared.item.LineFault.TheVariants as line
 
 abbrev pub status_of : Fault → ℕ
 status_of Memory = 2

@@ -8,10 +8,7 @@ ghost use Rattle.hlr_program.specs.Statuses.{IsScriptFault};
 ghost use Rattle.hlr_program.specs.Batches.{IsGood, IsBad, HasIds, LacksId, IsFirst, batch_of};
 
 use crate::fault::Fault;
-use crate::item::{Item, LineFault};
-use crate::line::{check_line, read_line};
-use crate::octets::{has_letter, have_ids};
-use crate::place::Place;
+use hlr_input::{Item, LineFault, Place, check_line, has_letter, have_ids, read_line};
 use std::alloc::{AllocError, Global};
 
 /// Finds the first line of a script that is of no form.

@@ -1,8 +1,7 @@
 //! What ends a run before its end.
 
 use crate::engine::EngineFault;
-use crate::item::LineFault;
-use crate::options::WordsFault;
+use hlr_input::{LineFault, WordsFault};
 use records::RecordsFault;
 use std::alloc::{AllocError, AllocFailed};
 use thiserror::Error;

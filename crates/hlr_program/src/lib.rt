@@ -1,25 +1,16 @@
-//! The program's parts: the command line, the records file and the script that are read, the register that they are given
-//! to, and the lines that are printed. `main` alone is elsewhere, so that a whole run can be tried in memory.
+//! A run of the program: the register that is given a records file and the events of a script, and the lines that are printed. What
+//! is given is read in `hlr_input`. `main` alone is elsewhere, so that a whole run can be tried in memory.
 #![tactic(auto)]
 
 mod batch;
 mod check;
 mod engine;
 mod fault;
-mod group;
-mod input;
-mod item;
-mod letters;
-mod line;
-mod octets;
-mod options;
-mod place;
 mod printed;
 mod serve;
-mod ticks;
 
 pub use fault::Fault;
-pub use options::{Options, WordsFault, read_words};
+pub use hlr_input::{Options, WordsFault, read_words};
 pub use serve::serve_script;
 
 #[cfg(test)]

@@ -7,7 +7,7 @@ ghost use Rattle.std.specs.Io.KnownBytes.{Appends};
 ghost use Rattle.hlr_program.specs.Printed.{sent_line, sent_lines, noted_in};
 
 use crate::fault::Fault;
-use crate::letters::Letters;
+use hlr_input::Letters;
 use hlrcore::Out;
 use std::alloc::{AllocError, Global};
 use std::io::Write;

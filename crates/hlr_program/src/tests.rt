@@ -1,10 +1,8 @@
 //! Whole runs, with readers and writers that fail at each call in turn, and what is printed.
 
 use super::*;
-use crate::input::MOST_OCTETS;
-use crate::letters::Letters;
-use crate::octets::read_octets;
 use crate::printed::print_sent;
+use hlr_input::{Letters, MOST_OCTETS, read_octets};
 use hlr_types::{Digits, Peer, Tid};
 use hlrcore::Out;
 use std::alloc::Global;
@@ -129,33 +127,6 @@ fn ends_on(
     };
     let mut out = Kept::new(alloc, NEVER);
     ends(alloc, text, &mut records, &mut script, &mut out)
-}
-
-#[test]
-fn command_lines(rt: HostRuntime) {
-    for (text, fits) in [
-        ("hlr a", false),
-        ("hlr a b", true),
-        ("hlr a b c", false),
-        ("hlr a b --list", true),
-        ("hlr --workers 2 a b", true),
-        ("hlr a b --workers 0", true),
-        ("hlr a b --workers 16", true),
-        ("hlr a b --workers 17", false),
-        ("hlr a b --workers 02", false),
-        ("hlr a b --workers +2", false),
-        ("hlr a b --workers", false),
-        ("hlr a b --workers 1 --workers 1", false),
-        ("hlr a b --workers=3 --save", true),
-        ("hlr a b --list --list", false),
-        ("hlr -- --list b", true),
-        ("hlr a b --help", false),
-        ("hlr a b --version", false),
-        ("hlr a b --other", false),
-    ] {
-        let read = options_of(rt.alloc(), text);
-        assert_eq!(rt; read.is_ok(), fits, "{text}");
-    }
 }
 
 #[test]

@@ -3,7 +3,7 @@ use Rattle.std.specs.List.{range_with_len}
 use Rattle.machine.specs.Events as machine
 use Rattle.frames.specs.Octets.{RawClock, RawExpire, RawChange}
 use Rattle.hlrcore.specs.Events.{raw_event}
-use Rattle.hlr_program.specs.Script.{Clock, Expire, Codes, Withdraw, line_of}
+use Rattle.hlr_input.specs.Script.{Clock, Expire, Codes, Withdraw, line_of}
 use Rattle.hlr_program.specs.Runs.{progress}
 use Rattle.hlr_program.proofs.RunLemmas.{then_on, said_sends, said_frame}
 use Rattle.hlr_program.proofs.batch.handle_item.Goals as goal

@@ -1,4 +1,4 @@
-use Rattle.hlr_program.specs.Script.{line_of}
+use Rattle.hlr_input.specs.Script.{line_of}
 use Rattle.hlr_program.specs.Runs.{progress}
 use Rattle.hlr_program.proofs.RunLemmas.{then_on}
 use Rattle.hlr_program.proofs.BatchLemmas.{has_ids}

@@ -1,6 +1,6 @@
 use Rattle.std.proofs.Common.{◌≡◌, ◌<◌, length, get_or, rules}
 use Rattle.hlr_program.specs.Printed.{sent_line}
-use Rattle.hlr_program.specs.Letters.{noted, originating_id}
+use Rattle.hlr_input.specs.Letters.{noted, originating_id}
 use Rattle.hlr_program.proofs.PrintLemmas.{printed_more, noted_more}
 use Rattle.hlr_program.proofs.printed.print_sent.Goals as goal
 

@@ -1,0 +1,4 @@
+pub mod OctetLaws
+pub mod LineLaws
+pub mod TickLaws
+pub mod LetterLemmas

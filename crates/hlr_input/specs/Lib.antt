@@ -1,0 +1,4 @@
+pub mod Octets
+pub mod Script
+pub mod Letters
+pub mod Reading

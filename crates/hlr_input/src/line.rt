@@ -1,0 +1,146 @@
+//! One line of a script.
+
+ghost use Rattle.std.specs.Prelude.{◌≡◌, IfOk, MatchResult, OnOk, OnErr, Err, ℕ, List, Some, IfSome};
+ghost use Rattle.records.specs.Spelling.{IsImsiNumber};
+ghost use Rattle.hlr_input.specs.declared.group.Group.{Group};
+ghost use Rattle.hlr_input.specs.Octets.{IsOctets};
+ghost use Rattle.hlr_input.specs.Script.{Line, IsLine, IsGoodLine, line_of};
+ghost use Rattle.hlr_input.specs.Reading.{Reads, says_word, says_two, says_three};
+ghost use Rattle.records.specs.Reading.{imsi_in};
+ghost use Rattle.hlr_input.specs.declared.item.LineFault.TheVariants.{Bad, Memory};
+
+use crate::item::{Item, LineFault};
+use crate::octets::are_octets;
+use crate::ticks::ticks;
+use hlr_types::{Digits, Imsi, Peer};
+use records::{Codes, cut};
+use std::alloc::Global;
+
+/// Reads a line, which has its fields with one space between them:
+///
+/// - `F <from> <octets>`: a frame from 1 to 16 digits, its octets not looked at here;
+/// - `C <ticks>`: a clock value;
+/// - `E`: an expiry;
+/// - `W`: the end of a batch;
+/// - `O <imsi> <codes>`: other teleservice codes, in the form of the records file;
+/// - `X <imsi>`: the end of a subscription.
+#[tactic(auto, using(crate::proofs::LineLaws::reads_found, crate::proofs::LineLaws::reads_only))]
+pub fn read_line<'a>(alloc: Global, line: &'a [u8]) -> Result<Item<'a>, LineFault>
+    // What is read is what the line says, and what it says is read, unless memory runs out.
+    ensures found { IfOk result (λ item. IsLine line.now (line_of item)) }
+    ensures only { (said : Line) → IsLine line.now said
+        → MatchResult result (λ item. line_of item ≡ said) (λ fault. fault ≡ Memory) }
+{
+    read_fields(alloc, line)
+}
+
+/// Whether a line is of a form, its octets too.
+pub fn check_line(alloc: Global, line: &[u8]) -> Result<(), LineFault>
+    ensures good { OnOk result ((said : Line) × IsGoodLine line.now said) }
+    ensures bad { result ≡ Err LineFault.Bad → (said : Line) → IsGoodLine line.now said → ⊥ }
+{
+    match read_line(alloc, line) {
+        Ok(Item::Frame { octets, .. }) => check_octets(octets),
+        Ok(_) => Ok(()),
+        Err(fault) => Err(fault),
+    }
+}
+
+fn check_octets(octets: &[u8]) -> Result<(), LineFault>
+    ensures good { OnOk result ((groups : List Group) × IsOctets octets.now groups) }
+    ensures bad { OnErr result ((groups : List Group) → IsOctets octets.now groups → ⊥) }
+{
+    if are_octets(octets) {
+        Ok(())
+    } else {
+        Err(LineFault::Bad)
+    }
+}
+
+#[tactic(auto, using(crate::proofs::LineLaws::too_many))]
+fn read_fields<'a>(alloc: Global, line: &'a [u8]) -> Result<Item<'a>, LineFault>
+    ensures { Reads (IsLine line.now) result }
+{
+    let (kind, rest) = cut(line, b' ');
+    let Some(rest) = rest else {
+        return read_word(kind);
+    };
+    let (first, rest) = cut(rest, b' ');
+    let Some(rest) = rest else {
+        return read_two(kind, first);
+    };
+    let (second, rest) = cut(rest, b' ');
+    if let Some(_further) = rest {
+        return Err(LineFault::Bad);
+    }
+    read_three(alloc, kind, first, second)
+}
+
+/// A line of one field.
+fn read_word<'a>(kind: &[u8]) -> Result<Item<'a>, LineFault>
+    ensures { Reads (says_word kind.now) result }
+{
+    if kind == b"E".as_slice() {
+        return Ok(Item::Expire);
+    }
+    if kind == b"W".as_slice() {
+        return Ok(Item::Batch);
+    }
+    Err(LineFault::Bad)
+}
+
+/// A line of two fields.
+fn read_two<'a>(kind: &[u8], field: &[u8]) -> Result<Item<'a>, LineFault>
+    ensures { Reads (says_two kind.now field.now) result }
+{
+    if kind == b"C".as_slice() {
+        let ticks = ticks(field).ok_or(LineFault::Bad)?;
+        return Ok(Item::Clock(ticks));
+    }
+    if kind == b"X".as_slice() {
+        let imsi = imsi(field).ok_or(LineFault::Bad)?;
+        return Ok(Item::Withdraw { imsi });
+    }
+    Err(LineFault::Bad)
+}
+
+/// A line of three fields.
+fn read_three<'a>(
+    alloc: Global,
+    kind: &[u8],
+    first: &[u8],
+    second: &'a [u8],
+) -> Result<Item<'a>, LineFault>
+    ensures { Reads (says_three kind.now first.now second.now) result }
+{
+    if kind == b"F".as_slice() {
+        let from = Digits::from_text(first).ok_or(LineFault::Bad)?;
+        return Ok(Item::Frame {
+            from: Peer::new(from),
+            octets: second,
+        });
+    }
+    if kind == b"O".as_slice() {
+        let imsi = imsi(first).ok_or(LineFault::Bad)?;
+        return match Codes::read(alloc, second) {
+            Ok(Some(codes)) => Ok(Item::Codes { imsi, codes }),
+            Ok(None) => Err(LineFault::Bad),
+            Err(_) => Err(LineFault::Memory),
+        };
+    }
+    Err(LineFault::Bad)
+}
+
+#[tactic(auto, using(crate::proofs::LineLaws::imsi_found, crate::proofs::LineLaws::imsi_only))]
+fn imsi(text: &[u8]) -> Option<Imsi>
+    ensures found { IfSome result (λ imsi. IsImsiNumber text.now imsi) }
+    ensures only { (digits : List ℕ) → IsImsiNumber text.now digits → result ≡ Some digits }
+{
+    imsi_of(text)
+}
+
+fn imsi_of(text: &[u8]) -> Option<Imsi>
+    ensures { result ≡ imsi_in text.now }
+{
+    Imsi::from_digits(Digits::from_text(text)?).ok()
+}

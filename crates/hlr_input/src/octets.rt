@@ -1,0 +1,157 @@
+//! The octets of a frame in a script.
+
+ghost use Rattle.std.specs.List.{list_any};
+ghost use Rattle.std.specs.Prelude.{◌==◌, ◌≡◌, ◌↔◌, ◌≤◌, IsTrue, ℕ, List, [], IfOk, IfSome, Some, length, take, drop, slice_index, option_map};
+ghost use Rattle.hlr_input.specs.declared.group.Group.{Group};
+ghost use Rattle.hlr_input.specs.Octets.{IsOctets, octets_of, are_known};
+ghost use Rattle.hlr_input.specs.Reading.{group_in, letter_in, are_groups, octets_stand, stands, octets_after, octets_in};
+ghost use Rattle.records.specs.Reading.{octet_in};
+
+use crate::group::Group;
+use crate::letters::MOST_LETTERS;
+use hex::FromHex;
+use hlr_types::Tid;
+use std::alloc::{AllocError, Global};
+
+/// Whether the text is the octets of a frame: `-` where there is none, otherwise groups of two characters, each an octet
+/// in hexadecimal digits of either case, or `$` and a letter.
+#[tactic(auto, using(crate::proofs::OctetLaws::stands_exactly))]
+pub fn are_octets(text: &[u8]) -> bool
+    ensures { IsTrue result ↔ ((groups : List Group) × IsOctets text.now groups) }
+{
+    stand(text, MOST_LETTERS)
+}
+
+/// Whether each letter of a frame's octets has an id, where so many are known.
+#[tactic(auto, using(crate::proofs::OctetLaws::stand_known))]
+pub fn have_ids(text: &[u8], known: usize) -> bool
+    ensures { (groups : List Group) → IsOctets text.now groups → result ≡ are_known known groups }
+{
+    stand(text, known)
+}
+
+/// Whether a text has the mark of a letter.
+pub fn has_letter(text: &[u8]) -> bool
+    ensures { result ≡ list_any (λ character. character == 36) text.now }
+{
+    text.contains(&b'$')
+}
+
+/// Whether the text is the octets of a frame, with the first so many letters alone.
+fn stand(text: &[u8], known: usize) -> bool
+    ensures { result ≡ octets_stand known text.now }
+{
+    if text == b"-".as_slice() {
+        return true;
+    }
+    if text.is_empty() {
+        return false;
+    }
+    are_groups(text, known)
+}
+
+/// Whether the text is groups of two characters, with the first so many letters alone.
+fn are_groups(text: &[u8], known: usize) -> bool
+    ensures { result ≡ are_groups known text.now }
+{
+    let mut rest = text;
+    'groups: while rest.len() >= 2 {
+        let (pair, more) = rest.split_at(2);
+        if !stands(group(pair), known) {
+            return false;
+        }
+        rest = more;
+    }
+    rest.is_empty()
+}
+
+/// Whether it is a group, and none of another letter.
+fn stands(group: Option<Group>, known: usize) -> bool
+    ensures { result ≡ stands known group }
+{
+    match group {
+        Some(Group::Octet(_)) => true,
+        Some(Group::Letter(letter)) => usize::from(letter) < known,
+        None => false,
+    }
+}
+
+/// The octets of a frame, with these ids in the place of the letters, or none where the text is of another form or a letter
+/// has no id.
+#[tactic(auto, using(crate::proofs::OctetLaws::octets_found, crate::proofs::OctetLaws::octets_again))]
+pub fn read_octets(alloc: Global, text: &[u8], ids: &[Tid]) -> Result<Option<Vec<u8>>, AllocError>
+    ensures found { IfOk result (λ read. IfSome read (λ octets.
+        (groups : List Group) × IsOctets text.now groups × (octets_of ids.now groups ≡ Some octets.items))) }
+    ensures only { (groups : List Group) → IsOctets text.now groups
+        → IfOk result (λ read. option_map (λ octets. octets.items) read ≡ octets_of ids.now groups) }
+{
+    octets_with(alloc, text, ids)
+}
+
+fn octets_with(alloc: Global, text: &[u8], ids: &[Tid]) -> Result<Option<Vec<u8>>, AllocError>
+    ensures { IfOk result (λ read. option_map (λ octets. octets.items) read ≡ octets_in ids.now text.now) }
+{
+    if text == b"-".as_slice() {
+        return Ok(Some(Vec::new(alloc)));
+    }
+    if text.is_empty() {
+        return Ok(None);
+    }
+    listed_octets(alloc, text, ids)
+}
+
+fn listed_octets(alloc: Global, text: &[u8], ids: &[Tid]) -> Result<Option<Vec<u8>>, AllocError>
+    ensures { IfOk result (λ read. option_map (λ octets. octets.items) read ≡ octets_after ids.now [] text.now) }
+{
+    let mut octets = Vec::with_capacity(alloc, text.len() / 2)?;
+    let mut rest = text;
+    'groups: while rest.len() >= 2 {
+        let (pair, more) = rest.split_at(2);
+        match group(pair) {
+            Some(Group::Octet(octet)) => octets.push(octet)?,
+            Some(Group::Letter(letter)) => {
+                let Some(id) = ids.get(usize::from(letter)) else {
+                    return Ok(None);
+                };
+                octets.extend_from_slice(id.as_slice())?;
+            }
+            None => return Ok(None),
+        }
+        rest = more;
+    }
+    if rest.is_empty() {
+        Ok(Some(octets))
+    } else {
+        Ok(None)
+    }
+}
+
+/// What two characters stand for.
+fn group(pair: &[u8]) -> Option<Group>
+    requires { length pair.now ≡ 2 }
+    ensures { result ≡ group_in (slice_index pair.now 0) (slice_index pair.now 1) }
+{
+    if pair[0] == b'$' {
+        return letter(pair[1]);
+    }
+    let octet = octet(pair)?;
+    Some(Group::Octet(octet))
+}
+
+fn letter(character: u8) -> Option<Group>
+    ensures { result ≡ letter_in character }
+{
+    if b'A' <= character && character <= b'Z' {
+        Some(Group::Letter(character - b'A'))
+    } else {
+        None
+    }
+}
+
+/// The octet of two hexadecimal digits.
+fn octet(pair: &[u8]) -> Option<u8>
+    ensures { result ≡ octet_in pair.now }
+{
+    let octets = <[u8; 1]>::from_hex(pair).ok()?;
+    Some(octets[0])
+}
