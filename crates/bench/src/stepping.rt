@@ -27,7 +27,7 @@ pub fn run(alloc: Global, octets: &[u8], rounds: u64) -> Result<u64> {
     for _ in 0..rounds {
         let event = Event::of(alloc, &mut bump, &raw)?;
         let answer = state.step(&event)?;
-        for out in &answer.outs {
+        for out in answer.outs.as_slice() {
             sent = sent.saturating_add(out.octets.len() as u64);
         }
     }

@@ -55,6 +55,12 @@ next_part all taken rest r parts =
     let small : length taken < 16 = omega (arith, parts.sixteen, length-append taken (r ∷ rest)) in
     sym (get_or-append_seam taken r rest r) ∙ get_or_from_slice_get (taken ++ r ∷ rest) (length taken) (part_of all (length taken)) r (parts.own (length taken) small)
 
+-- the records whose turn it is are those of the shard whose turn it is
+pub next_own : (all : RecordMap) (yielded left rest : List RecordMap) (records : RecordMap) (shard : ℕ) → AreParts all (yielded ++ left) → left ≡ records ∷ rest
+    → shard ≡ length yielded → records ≡ part_of all shard
+next_own all yielded left rest records shard parts is at =
+    next_part all yielded rest records (subst (λ (ps : List RecordMap). AreParts all (yielded ++ ps)) is parts) ∙ ap (part_of all) (sym at)
+
 -- and they are taken
 pub part_taken : (all : RecordMap) (taken rest : List RecordMap) (r : RecordMap) → AreParts all (taken ++ r ∷ rest) → AreParts all ((taken ++ r ∷ []) ++ rest)
 part_taken all taken rest r parts = subst (AreParts all) (sym (append_assoc taken (r ∷ []) rest)) parts
@@ -136,10 +142,12 @@ shard_took directory shards i before after h at same = record {
     ]
 
 -- what a shard's step answers
-pub took : (before after : ShardState) (event : code.Event) (raw : RawEvent) (a : StepAnswer) → raw_of event ≡ raw
+pub took : (before after : ShardState) (event : code.Event) (raw : RawEvent) (a : StepAnswer) (outs : List RawOut) → raw_of event ≡ raw → outs ≡ a.outs
     → StepOctets (state_of before) (entry_of (raw_of event) a) (state_of after)
-    → Takes before raw (map raw_out a.outs.items) after
-took before after event raw a same stepped = (a.id, a.subject, subst (λ (r : RawEvent). StepOctets (state_of before) (entry_of r a) (state_of after)) same stepped)
+    → Takes before raw outs after
+took before after event raw a outs same sent stepped =
+    subst (λ (os : List RawOut). Takes before raw os after) (sym sent)
+    (a.id, a.subject, subst (λ (r : RawEvent). StepOctets (state_of before) (entry_of r a) (state_of after)) same stepped)
 
 pub handled : (before : EngineState) (directory : DirectoryMap) (shards : List ShardState) (raw : RawEvent) (event : Event) (outs : List RawOut) (i : ℕ) (s t : ShardState)
     → engine_of_fields directory shards ≡ before → IsEvent raw event → i ≡ route (directory_of directory) event → slice_get shards i ≡ Some s → Takes s raw outs t

@@ -95,7 +95,10 @@ impl Engine {
         let shard = usize::from(route(&self.directory, &event));
         let state = &mut self.shards[shard];
         match state.step(&event) {
-            Ok(answer) => Ok(answer.outs),
+            Ok(answer) => {
+                let (outs, _kept) = answer.outs.into_both();
+                Ok(outs)
+            }
             // the shard was found by the same route
             Err(StepFault::NotMine) => unreachable!(),
             Err(StepFault::NoRoom) => Err(EngineFault::NoRoom),

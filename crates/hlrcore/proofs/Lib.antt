@@ -3,3 +3,4 @@ pub mod TakenLemmas
 pub mod SettledLemmas
 pub mod TurnLemmas
 pub mod HearLemmas
+pub mod SoundLemmas

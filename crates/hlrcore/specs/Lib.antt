@@ -2,3 +2,4 @@ pub mod Events
 pub mod Taken
 pub mod Leading
 pub mod Hearing
+pub mod Sound

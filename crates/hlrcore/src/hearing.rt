@@ -1,6 +1,7 @@
 //! A received frame.
 
 ghost use Rattle.std.specs.Prelude.{◌≡◌, IfOk, OnErr, map};
+ghost use Rattle.frames.specs.Frames.{IsVerdict};
 ghost use Rattle.machine.specs.Events.{Frame};
 ghost use Rattle.machine.specs.Received.{Read};
 ghost use Rattle.machine.specs.Routing.{route};
@@ -11,7 +12,7 @@ ghost use Rattle.shard_state.specs.Shards.{IsSameShard, directory_of};
 ghost use Rattle.hlrcore.specs.Hearing.{Hears, IsForMe, IsClosing, IsContinueOf};
 
 use crate::sending::{aborted, silent};
-use crate::state::State;
+use crate::stepper::Stepper;
 use hlr_types::RemoteId;
 use msgarena::{Indication, Message, Parameter, Verdict};
 use q773_comp::Component;
@@ -24,11 +25,12 @@ const UNRECOGNIZED_TRANSACTION_ID: u8 = 1;
 
 const RESOURCE_LIMITATION: u8 = 4;
 
-impl State {
+impl Stepper {
     /// Takes a received frame.
     pub(crate) fn hear(&mut self, indication: &Indication) -> Result<StepAnswer, AllocError>
         requires { route (directory_of self.old.directory) (Frame indication.now.from indication.now.verdict) ≡ self.old.shard }
         ensures heard { IfOk result (λ a. Hears self.old indication.now a self.new) }
+        ensures judged { IsVerdict indication.now.octets indication.now.verdict }
         ensures err { OnErr result (self.new ≡ self.old) }
         ensures same_shard { IsSameShard self.old self.new }
     {

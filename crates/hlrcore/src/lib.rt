@@ -12,11 +12,12 @@ mod sending;
 mod shard_number;
 mod state;
 mod step;
+mod stepper;
 
 pub use answer::StepFault;
 pub use change::Change;
 pub use event::{Event, EventFault, RawEvent};
 pub use naming::route;
 pub use shard_number::ShardNumber;
-pub use shard_state::{Out, StepAnswer};
+pub use shard_state::{Frames, Out, StepAnswer};
 pub use state::State;

@@ -5,12 +5,12 @@ ghost use Rattle.machine.specs.Sent.{SentAbort, Cause};
 ghost use Rattle.machine.specs.Outcome.{send};
 ghost use Rattle.frames.specs.Octets.{spelled_out};
 ghost use Rattle.outgoing.specs.Seen.{message as said};
-ghost use Rattle.shard_state.specs.Answers.{Says, raw_out};
+ghost use Rattle.shard_state.specs.Answers.{Says};
 
 use hlr_types::{Imsi, Peer, RemoteId};
 use mapdlg::Why;
 use outgoing::{SentMessage, octets_of};
-use shard_state::{Out, StepAnswer};
+use shard_state::{Frames, Out, StepAnswer};
 use std::alloc::{AllocError, Global};
 
 /// Nothing is sent.
@@ -18,7 +18,7 @@ pub(crate) fn silent(alloc: Global) -> StepAnswer
     ensures { Says result None None [] }
 {
     StepAnswer {
-        outs: Vec::new(alloc),
+        outs: Frames::none(alloc),
         id: None,
         subject: None,
     }
@@ -46,11 +46,11 @@ pub(crate) fn aborted(
 }
 
 /// One message to one address.
-fn one_out(alloc: Global, to: Peer, message: &SentMessage) -> Result<Vec<Out>, AllocError>
-    ensures { IfOk result (λ outs. map raw_out outs.items ≡ map spelled_out (send to (said message.now))) }
+fn one_out(alloc: Global, to: Peer, message: &SentMessage) -> Result<Frames, AllocError>
+    ensures { IfOk result (λ outs. outs ≡ map spelled_out (send to (said message.now))) }
 {
     let Ok(octets) = octets_of(alloc, message) else {
         return Err(AllocError);
     };
-    Ok(vec![in alloc; Out { to, octets }]?)
+    Frames::of(alloc, vec![in alloc; Out { to, octets }]?)
 }

@@ -1,35 +1,48 @@
 //! The state of a shard.
 
-ghost use Rattle.std.specs.Prelude.{◌≡◌, ◌<◌, IfOk};
+ghost use Rattle.std.specs.Prelude.{◌≡◌, ◌≢◌, ◌<◌, ◌↔◌, IfOk, OnOk, OnErr, Err, IsTrue};
 ghost use Rattle.std.specs.Arc.{arc_value};
+ghost use Rattle.frames.specs.Octets.{IsRouted};
 ghost use Rattle.machine.specs.Opening.{opening};
 ghost use Rattle.machine.specs.Parts.{part};
+ghost use Rattle.machine.specs.Routing.{route as shard_for};
+ghost use Rattle.machine.specs.Step.{HasNoRoom};
+ghost use Rattle.records.specs.Fresh.{AreFresh};
 ghost use Rattle.records.specs.Maps.{RecordMap, part_of};
-ghost use Rattle.shard_state.specs.Shards.{IsOpening, state_of, records_of, directory_of};
+ghost use Rattle.shard_state.specs.Shards.{IsOpening, IsSameShard, state_of, records_of, directory_of};
+ghost use Rattle.hlrcore.specs.Events.{event_of, raw_of};
+ghost use Rattle.hlrcore.specs.Leading.{Leads};
+ghost use Rattle.hlrcore.specs.Sound.{IsSoundShard};
 
+use crate::answer::StepFault;
+use crate::event::Event;
+use crate::naming::route;
+use crate::stepper::Stepper;
 use dialogues::Dialogues;
 use hlr_types::IsdnAddress;
 use records::{Directory, Loaded, Records};
-use shard_state::Shard;
+use shard_state::{Shard, StepAnswer};
 use std::alloc::{AllocError, Global};
 use std::marker::Model;
 use std::sync::Arc;
 
-/// The state of one shard, on which events are taken.
+/// The state of one shard, on which events are taken. It is always a sound state of its shard.
 #[derive(Drop)]
 pub struct State {
-    pub(crate) alloc: Global,
-    pub(crate) shard: Shard,
+    stepper: Stepper,
 }
 
 impl Model for State {
     ghost use Rattle.shard_state.specs.Shards.{ShardState, shard_state_code};
+    ghost use Rattle.hlrcore.specs.Sound.{IsSoundShard};
 
     ghost Value = { ShardState };
 
     ghost coded = { shard_state_code };
 
-    ghost view = { λ s. s.shard };
+    ghost view = { λ s. s.stepper };
+
+    ghost invariant = { λ s. IsSoundShard s.stepper };
 }
 
 impl State {
@@ -45,8 +58,8 @@ impl State {
         State::of_part(alloc, shard, records, directory, *loaded.hlr())
     }
 
-    /// The same of records that are the shard's part already, with the directory and the register's number that all shards
-    /// share.
+    /// The same of records that are the shard's part already, as a file gives them, with the directory and the register's
+    /// number that all shards share.
     pub fn of_part(
         alloc: Global,
         shard: u8,
@@ -54,20 +67,31 @@ impl State {
         directory: Arc<Directory>,
         hlr: IsdnAddress,
     ) -> Result<State, AllocError>
-        requires { shard < 16 }
+        requires shard { shard < 16 }
+        requires own { (all : RecordMap) × (records ≡ part_of all shard) }
+        requires fresh { AreFresh records }
         ensures opening { IfOk result (IsOpening shard records (arc_value directory) hlr) }
         ensures part { IfOk result (λ state. (all : RecordMap) → records ≡ part_of all shard
             → state_of state ≡ part (opening (records_of all) (directory_of (arc_value directory)) hlr) shard) }
     {
         let shard = Shard::of_part(alloc, shard, records, directory, hlr)?;
-        Ok(State { alloc, shard })
+        Ok(State {
+            stepper: Stepper { alloc, shard },
+        })
+    }
+
+    /// The number of the shard.
+    pub fn number(&self) -> u8
+        ensures { result ≡ self.now.shard }
+    {
+        self.stepper.shard.number()
     }
 
     /// The records of the shard.
     pub fn records(&self) -> &Records
         ensures { result.now ≡ self.now.records }
     {
-        self.shard.records()
+        self.stepper.shard.records()
     }
 
     /// The open dialogues of the shard.
@@ -75,16 +99,41 @@ impl State {
         ensures value { result.now ≡ self.now.dialogues }
         ensures own { self.now.dialogues.shard ≡ self.now.shard }
     {
-        self.shard.dialogues()
+        self.stepper.shard.dialogues()
+    }
+
+    /// Whether the event is for this shard.
+    pub fn is_mine(&self, event: &Event) -> bool
+        ensures { IsTrue result ↔ (shard_for (directory_of self.now.directory) (event_of event.now) ≡ self.now.shard) }
+    {
+        route(self.stepper.shard.directory(), event) == self.number()
+    }
+
+    /// Takes one event. Where it is for another shard the answer is `NotMine`; where it is an operator's change that would open
+    /// a dialogue, and as many are open as may be, `NoRoom`; where a growth was refused, `Memory`. Then nothing has changed.
+    pub fn step(&mut self, event: &Event) -> Result<StepAnswer, StepFault>
+        // It is a step of the machine over octets, of an event for this shard.
+        ensures stepped { IfOk result (λ a. Leads self.old (raw_of event.now) a self.new) }
+        ensures routed { OnOk result (IsRouted (directory_of self.old.directory) (raw_of event.now) self.old.shard) }
+        ensures not_mine { (result ≡ Err StepFault.NotMine)
+            ↔ (shard_for (directory_of self.old.directory) (event_of event.now) ≢ self.old.shard) }
+        // The machine has no step for it, and so it is never answered with one.
+        ensures no_room { result ≡ Err StepFault.NoRoom → HasNoRoom (state_of self.old) (event_of event.now) }
+        ensures room { HasNoRoom (state_of self.old) (event_of event.now) → OnOk result ⊥ }
+        ensures err { OnErr result (self.new ≡ self.old) }
+        ensures same_shard { IsSameShard self.old self.new }
+    {
+        self.stepper.step(event)
     }
 
     /// An equal state.
     pub fn try_copy(&self) -> Result<State, AllocError>
-        ensures { IfOk result (λ copy. copy ≡ self.now) }
+        ensures equal { IfOk result (λ copy. copy ≡ self.now) }
+        // What the state keeps.
+        ensures sound { IsSoundShard self.now }
     {
         Ok(State {
-            alloc: self.alloc,
-            shard: self.shard.try_copy()?,
+            stepper: self.stepper.try_copy()?,
         })
     }
 }

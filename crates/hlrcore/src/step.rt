@@ -1,7 +1,7 @@
 //! One event of a shard.
 
 ghost use Rattle.std.specs.Prelude.{◌≡◌, ◌≢◌, ◌↔◌, [], IfOk, OnOk, OnErr, Err};
-ghost use Rattle.frames.specs.Octets.{RawChange, RawExpire};
+ghost use Rattle.frames.specs.Octets.{IsRouted, RawChange, RawExpire};
 ghost use Rattle.machine.specs.Events as machine;
 ghost use Rattle.machine.specs.Routing.{route};
 ghost use Rattle.machine.specs.Step.{HasNoRoom};
@@ -16,21 +16,19 @@ use crate::change::Change;
 use crate::event::Event;
 use crate::naming::route;
 use crate::sending::silent;
-use crate::state::State;
+use crate::stepper::Stepper;
 use hlr_types::Imsi;
 use shard_state::{Plan, StepAnswer};
 use std::alloc::AllocError;
 use turns::{expires, new_codes, withdraws};
 
-impl State {
-    /// Takes one event. Where it is for another shard the answer is `NotMine`; where it is an operator's change that would open
-    /// a dialogue, and as many are open as may be, `NoRoom`; where a growth was refused, `Memory`. Then nothing has changed.
-    pub fn step(&mut self, event: &Event) -> Result<StepAnswer, StepFault>
-        // It is a step of the machine over octets.
+impl Stepper {
+    /// Takes one event, as `State::step` says.
+    pub(crate) fn step(&mut self, event: &Event) -> Result<StepAnswer, StepFault>
         ensures stepped { IfOk result (λ a. Leads self.old (raw_of event.now) a self.new) }
+        ensures routed { OnOk result (IsRouted (directory_of self.old.directory) (raw_of event.now) self.old.shard) }
         ensures not_mine { (result ≡ Err StepFault.NotMine)
             ↔ (route (directory_of self.old.directory) (event_of event.now) ≢ self.old.shard) }
-        // The machine has no step for it, and so it is never answered with one.
         ensures no_room { result ≡ Err StepFault.NoRoom → HasNoRoom (state_of self.old) (event_of event.now) }
         ensures room { HasNoRoom (state_of self.old) (event_of event.now) → OnOk result ⊥ }
         ensures err { OnErr result (self.new ≡ self.old) }

@@ -12,6 +12,7 @@ pub mod FileLaws
 pub mod AgainFiles
 pub mod AgainFaults
 pub mod LoadLemmas
+pub mod FreshLemmas
 pub mod Readings
 pub mod WrittenLemmas
 pub mod SavedLaws

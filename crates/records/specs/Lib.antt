@@ -2,6 +2,7 @@ pub mod Subscriber
 pub mod Roam
 pub mod Seen
 pub mod Maps
+pub mod Fresh
 pub mod Spelling
 pub mod File
 pub mod Loaded

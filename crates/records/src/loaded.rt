@@ -1,6 +1,6 @@
 //! What a records file says.
 
-ghost use Rattle.std.specs.Prelude.{◌≡◌, ◌<◌, IfOk, OnOk, is_some};
+ghost use Rattle.std.specs.Prelude.{◌≡◌, ◌<◌, None, IfOk, OnOk, is_some};
 ghost use Rattle.std.specs.FinMap as map;
 ghost use Rattle.std.specs.Arc.{arc_value};
 
@@ -13,6 +13,8 @@ use std::marker::Model;
 use std::sync::Arc;
 
 /// What a records file says: the number of the register, the records, and the directory, which all shards share.
+///
+/// A file never says that an update is in progress, so no record has a current one.
 #[derive(Drop)]
 pub struct Loaded {
     hlr: IsdnAddress,
@@ -22,6 +24,7 @@ pub struct Loaded {
 
 impl Model for Loaded {
     ghost use Rattle.records.specs.Loaded.{Subscribers, subscribers_code};
+    ghost use Rattle.records.specs.Fresh.{AreFresh};
     ghost use Rattle.std.specs.Arc.{arc_value};
 
     ghost Value = { Subscribers };
@@ -29,11 +32,14 @@ impl Model for Loaded {
     ghost coded = { subscribers_code };
 
     ghost view = { λ l. record { hlr = l.hlr; records = l.records; directory = arc_value l.directory } };
+
+    ghost invariant = { λ l. AreFresh l.records };
 }
 
 impl Loaded {
     ghost use Rattle.records.specs.Maps.{part_of};
     ghost use Rattle.records.specs.Parts.{AreParts};
+    ghost use Rattle.records.specs.Fresh.{AreFresh};
 
     /// The number of the register.
     pub fn hlr(&self) -> &IsdnAddress
@@ -59,14 +65,20 @@ impl Loaded {
     /// The records of a shard.
     pub fn part(&self, shard: u8) -> Result<Records, AllocError>
         requires { shard < 16 }
-        ensures { IfOk result (λ part. part ≡ part_of self.now.records shard) }
+        ensures part { IfOk result (λ part. part ≡ part_of self.now.records shard) }
+
+        // Each record is as a file gives it: no update is in progress.
+        ensures fresh { AreFresh self.now.records }
     {
         self.records.part(shard)
     }
 
     /// The records of each shard, at the place of its number. No record is copied, and what was loaded is given up.
     pub fn into_parts(self) -> Result<Vec<Records>, AllocError>
-        ensures { IfOk result (λ parts. AreParts self.records parts.items) }
+        ensures parts { IfOk result (λ parts. AreParts self.records parts.items) }
+
+        // Each record is as a file gives it: no update is in progress.
+        ensures fresh { AreFresh self.records }
     {
         self.records.into_parts()
     }
@@ -82,12 +94,15 @@ pub(crate) struct Loading {
 
 impl Model for Loading {
     ghost use Rattle.records.specs.Loaded.{Subscribers, subscribers_code};
+    ghost use Rattle.records.specs.Fresh.{AreFresh};
 
     ghost Value = { Subscribers };
 
     ghost coded = { subscribers_code };
 
     ghost view = { λ l. record { hlr = l.hlr; records = l.records; directory = l.directory } };
+
+    ghost invariant = { λ l. AreFresh l.records };
 }
 
 impl Loading {
@@ -118,6 +133,7 @@ impl Loading {
 
     /// Puts one record more. Where memory is refused the value is of no use.
     pub(crate) fn add(&mut self, subscriber: Record) -> Result<(), AllocError>
+        requires { subscriber.current ≡ None }
         ensures { OnOk result (self.new ≡ with_record self.old subscriber) }
     {
         self.directory.add(subscriber.msisdn, subscriber.imsi)?;

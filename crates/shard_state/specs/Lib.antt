@@ -1,4 +1,5 @@
 pub mod Shards
 pub mod Plans
+pub mod Frames
 pub mod Answers
 pub mod Changing

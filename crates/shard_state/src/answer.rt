@@ -1,7 +1,6 @@
 //! What a step answers.
 
-ghost use Rattle.std.specs.Prelude.{◌≡◌};
-
+use crate::sent_frames::Frames;
 use hlr_types::{Imsi, Peer, Tid};
 
 /// A frame that is sent, with the address that it goes to.
@@ -12,9 +11,9 @@ pub struct Out {
 }
 
 /// What a step answers: the frames that it sends, in order, the local id that it took, and its subject.
-#[derive(Debug, PartialEq, Eq, Drop)]
+#[derive(Debug, Drop)]
 pub struct StepAnswer {
-    pub outs: Vec<Out>,
+    pub outs: Frames,
     pub id: Option<Tid>,
     pub subject: Option<Imsi>,
 }

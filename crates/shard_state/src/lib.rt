@@ -9,10 +9,12 @@ mod answer;
 mod changing;
 mod plan;
 mod sending;
+mod sent_frames;
 mod settle;
 mod shard;
 mod writing;
 
 pub use answer::{Out, StepAnswer};
 pub use plan::{Named, Plan};
+pub use sent_frames::Frames;
 pub use shard::Shard;

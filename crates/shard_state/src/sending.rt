@@ -4,9 +4,10 @@ ghost use Rattle.std.specs.Prelude.{◌≡◌, ◌++◌, IfOk, OnOk, map};
 ghost use Rattle.frames.specs.Octets.{spelled_out};
 ghost use Rattle.outgoing.specs.Seen.{out};
 ghost use Rattle.location.specs.Seen.{one, sent_of};
-ghost use Rattle.shard_state.specs.Answers.{raw_out};
+ghost use Rattle.shard_state.specs.Frames.{raw_out};
 
 use crate::answer::Out;
+use crate::sent_frames::Frames;
 use outgoing::{Out as Sent, octets_of};
 use std::alloc::{AllocError, Global};
 
@@ -38,11 +39,11 @@ pub(crate) fn outs_of(
     alloc: Global,
     first: &Option<Sent>,
     second: &Option<Sent>,
-) -> Result<Vec<Out>, AllocError>
-    ensures { IfOk result (λ outs. map raw_out outs.items ≡ map spelled_out (sent_of first.now second.now)) }
+) -> Result<Frames, AllocError>
+    ensures { IfOk result (λ outs. outs ≡ map spelled_out (sent_of first.now second.now)) }
 {
     let mut outs = Vec::new(alloc);
     push(&mut outs, alloc, first)?;
     push(&mut outs, alloc, second)?;
-    Ok(outs)
+    Frames::of(alloc, outs)
 }

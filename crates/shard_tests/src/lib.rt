@@ -7,6 +7,8 @@
 #[cfg(test)]
 mod given;
 #[cfg(test)]
+mod journals;
+#[cfg(test)]
 mod octets;
 #[cfg(test)]
 mod plans;

@@ -137,8 +137,8 @@ fn a_cancel_opens_and_closes(rt: HostRuntime) -> Result<(), Fail> {
     let answer = opens(rt.alloc(), &mut shard).ok_or("opens")?;
     assert_eq!(rt; answer.id, Some(FIRST));
     assert_eq!(rt; answer.subject, imsi());
-    assert_eq!(rt; answer.outs.len(), 2);
-    assert_eq!(rt; answer.outs[1].octets.as_slice(), END.as_slice());
+    assert_eq!(rt; answer.outs.as_slice().len(), 2);
+    assert_eq!(rt; answer.outs.as_slice()[1].octets.as_slice(), END.as_slice());
     assert_eq!(rt; shard.dialogues().get(FIRST), cancel());
     let answer = closes(rt.alloc(), &mut shard, FIRST).ok_or("closes")?;
     assert_eq!(rt; answer.id, None);
@@ -150,7 +150,7 @@ fn a_cancel_opens_and_closes(rt: HostRuntime) -> Result<(), Fail> {
 fn a_subscription_ends(rt: HostRuntime) -> Result<(), Fail> {
     let mut shard = shard(rt.alloc(), RECORDS)?;
     let answer = withdraws(rt.alloc(), &mut shard).ok_or("withdraws")?;
-    assert!(rt; answer.outs.is_empty());
+    assert!(rt; answer.outs.as_slice().is_empty());
     let subscriber = imsi().ok_or("digits")?;
     let found = shard.records().get(&subscriber).ok_or("unknown")?;
     assert!(rt; found.withdrawn);

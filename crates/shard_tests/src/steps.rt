@@ -65,7 +65,7 @@ fn frame(alloc: Global, octets: &[u8]) -> Result<Event, Fail> {
 /// Whether the shard answers these octets so, with one frame or none.
 fn answers(alloc: Global, state: &mut State, octets: &[u8], said: &[u8]) -> Result<bool, Fail> {
     let answer = state.step(&frame(alloc, octets)?)?;
-    match answer.outs.first() {
+    match answer.outs.as_slice().first() {
         Some(out) => Ok(out.octets.as_slice() == said),
         None => Ok(said.is_empty()),
     }
@@ -117,13 +117,13 @@ fn an_update_opens_and_completes(rt: HostRuntime) -> Result<(), Fail> {
     let mut state = state(rt.alloc(), 1)?;
     let opened = state.step(&frame(rt.alloc(), &UPDATE)?)?;
     let id = opened.id.ok_or("no id")?;
-    assert_eq!(rt; (opened.outs.len(), state.dialogues().len()), (1, 1));
+    assert_eq!(rt; (opened.outs.as_slice().len(), state.dialogues().len()), (1, 1));
     let completed = state.step(&result_in(rt.alloc(), id)?)?;
-    assert_eq!(rt; completed.outs.len(), 2);
+    assert_eq!(rt; completed.outs.as_slice().len(), 2);
     assert!(rt; completed.id.is_some());
     assert!(rt; state.dialogues().get(id).is_none());
     let late = state.step(&result_in(rt.alloc(), id)?)?;
-    assert_eq!(rt; (late.outs.len(), state.dialogues().len()), (1, 1));
+    assert_eq!(rt; (late.outs.as_slice().len(), state.dialogues().len()), (1, 1));
     Ok(())
 }
 
@@ -133,10 +133,10 @@ fn a_timer_runs_out(rt: HostRuntime) -> Result<(), Fail> {
     let shard = ShardNumber::new(1).ok_or("shard")?;
     state.step(&frame(rt.alloc(), &UPDATE)?)?;
     let early = state.step(&Event::Expire { shard })?;
-    assert!(rt; early.outs.is_empty());
+    assert!(rt; early.outs.as_slice().is_empty());
     state.step(&Event::Clock { shard, now: 20 })?;
     let failed = state.step(&Event::Expire { shard })?;
-    assert_eq!(rt; (failed.outs.len(), state.dialogues().len()), (1, 0));
+    assert_eq!(rt; (failed.outs.as_slice().len(), state.dialogues().len()), (1, 0));
     Ok(())
 }
 
@@ -147,10 +147,10 @@ fn a_change_opens(rt: HostRuntime) -> Result<(), Fail> {
     let codes = Codes::read(rt.alloc(), b"22")?.ok_or("codes")?;
     let change = Change::Codes(codes);
     let told = state.step(&Event::Change { imsi, change })?;
-    assert_eq!(rt; (told.outs.len(), told.subject), (1, Some(imsi)));
+    assert_eq!(rt; (told.outs.as_slice().len(), told.subject), (1, Some(imsi)));
     let change = Change::Withdraw;
     let ended = state.step(&Event::Change { imsi, change })?;
-    assert_eq!(rt; (ended.outs.len(), state.dialogues().len()), (1, 2));
+    assert_eq!(rt; (ended.outs.as_slice().len(), state.dialogues().len()), (1, 2));
     Ok(())
 }
 

@@ -2,15 +2,25 @@ use Rattle.std.proofs.Common.{rules, ◌≡◌, ◌+◌, List, ◌∷◌, ◌++�
 use Rattle.std.specs.Arc.{arc_value}
 use Rattle.std.proofs.lemmas.List.{length_push}
 use Rattle.records.specs.Parts.{AreParts}
-use Rattle.records.specs.Maps.{RecordMap, part_of}
+use Rattle.records.specs.Maps.{RecordMap}
 use Rattle.hlr_program.specs.Engine.{AreOpening, IsOpeningShard}
-use Rattle.hlr_program.proofs.EngineLemmas.{no_shard, one_shard_more, next_part, part_taken, opened_with}
+use Rattle.hlr_program.proofs.EngineLemmas.{no_shard, one_shard_more, next_own, part_taken, opened_with}
+use Rattle.hlrcore.proofs.SoundLemmas.{part_fresh}
 use Rattle.hlr_program.proofs.engine.opening_shards.Goals as goal
 
 pub loop-records-init : goal.loop-records-init
 loop-records-init c =
     let same : c.into_iter-records-iterator.result.rest.items ≡ c.in_ok-parts.parts.items = search rules in
-    (tt, tt, refl, no_shard c.args.loaded c.in_ok-shards.shards.items c.in_ok-shards.ensures.items, subst (AreParts c.args.loaded.records) (sym same) c.in_ok-parts.ensures)
+    (tt, tt, refl, no_shard c.args.loaded c.in_ok-shards.shards.items c.in_ok-shards.ensures.items, subst (AreParts c.args.loaded.records) (sym same) c.in_ok-parts.ensures.parts)
+
+pub of_part-requires-clause-own : goal.of_part-requires-clause-own
+of_part-requires-clause-own c =
+    let left : c.loop-records.records-iterator.rest.items ≡ c.in-Some.records ∷ c.next.new.self.rest.items = search rules in
+    let at = c.loop-records.invariant in
+    (c.args.loaded.records, next_own c.args.loaded.records c.loop-records.yielded _ c.next.new.self.rest.items c.in-Some.records c.loop-records.shard at.4 left at.2)
+
+pub of_part-requires-clause-fresh : goal.of_part-requires-clause-fresh
+of_part-requires-clause-fresh c = part_fresh c.args.loaded.records c.in-Some.records c.loop-records.shard c.in_ok-parts.ensures.fresh (of_part-requires-clause-own c).1
 
 pub loop-records-preserved : goal.loop-records-preserved
 loop-records-preserved c =
@@ -18,9 +28,7 @@ loop-records-preserved c =
     let left : c.loop-records.records-iterator.rest.items ≡ c.in-Some.records ∷ c.next.new.self.rest.items = search rules in
     let parts : AreParts c.args.loaded.records (c.loop-records.yielded ++ c.in-Some.records ∷ c.next.new.self.rest.items) =
     subst (λ (ps : List RecordMap). AreParts c.args.loaded.records (c.loop-records.yielded ++ ps)) left at.4 in
-    let own : c.in-Some.records ≡ part_of c.args.loaded.records c.loop-records.shard =
-    next_part c.args.loaded.records c.loop-records.yielded c.next.new.self.rest.items c.in-Some.records parts
-    ∙ ap (part_of c.args.loaded.records) (sym at.2) in
+    let own = next_own c.args.loaded.records c.loop-records.yielded _ c.next.new.self.rest.items c.in-Some.records c.loop-records.shard at.4 left at.2 in
     let shared : arc_value c.in_ok-directory-2.directory ≡ c.args.loaded.directory = search rules in
     let number : c.hlr-hlr.result.now ≡ c.args.loaded.hlr = search rules in (
       tt,

@@ -1,10 +1,11 @@
-use Rattle.std.proofs.Common.{◌≡◌, ◌<◌, rules, sym, ap, ◌∙◌}
+use Rattle.std.proofs.Common.{◌≡◌, ◌<◌, map, rules, sym, ap, ◌∙◌}
 use Rattle.std.specs.Prelude.{Err}
 use Rattle.std.specs.Arc.{arc_value}
 use Rattle.std.proofs.lemmas.Option.{slice_get_read}
 use Rattle.machine.specs.Routing.{route}
 use Rattle.hlrcore.specs.declared.answer.StepFault.{StepFault}
 use Rattle.hlrcore.specs.Events.{event_of}
+use Rattle.shard_state.specs.Frames.{raw_out}
 use Rattle.shard_state.specs.Shards.{directory_of}
 use Rattle.hlr_program.proofs.EngineLemmas.{shard_took, took, handled, is_mine}
 use Rattle.hlr_program.proofs.engine.Engine.handle.Goals as goal
@@ -22,7 +23,8 @@ returns-in-Ok-clause-handles c =
     handled c.args.self.now (arc_value c.self.inside.directory) c.self.inside.shards.items _ (event_of c.in_ok-event.event) _ c.from-shard.result c.index_mut-state.result.now c.step.new.self c.self.view_is
     c.in_ok-event.ensures.read routed
     (slice_get_read c.self.inside.shards.items 16 c.from-shard.result c.index_mut-state.result.now (sym c.self.invariant.count) small c.index_mut-state.ensures.value)
-    (took c.index_mut-state.result.now c.step.new.self c.in_ok-event.event _ c.in-Ok.answer c.in_ok-event.ensures.same c.in-Ok.ensures.stepped)
+    (took c.index_mut-state.result.now c.step.new.self c.in_ok-event.event _ c.in-Ok.answer (map raw_out c.into_both-outs.result.0.items) c.in_ok-event.ensures.same
+    c.into_both-outs.ensures.sent c.in-Ok.ensures.stepped)
 
 pub unreachable-requires : goal.unreachable-requires
 unreachable-requires c =

@@ -1,0 +1,36 @@
+//! The parts of a state, on which events are taken.
+
+use shard_state::Shard;
+use std::alloc::{AllocError, Global};
+use std::marker::Model;
+
+/// The parts of a state. What each event does to them is a step of the machine; that they are sound is kept by `State`.
+#[derive(Drop)]
+pub(crate) struct Stepper {
+    pub(crate) alloc: Global,
+    pub(crate) shard: Shard,
+}
+
+impl Model for Stepper {
+    ghost use Rattle.shard_state.specs.Shards.{ShardState, shard_state_code};
+
+    ghost Value = { ShardState };
+
+    ghost coded = { shard_state_code };
+
+    ghost view = { λ s. s.shard };
+}
+
+impl Stepper {
+    ghost use Rattle.std.specs.Prelude.{◌≡◌, IfOk};
+
+    /// Equal parts.
+    pub(crate) fn try_copy(&self) -> Result<Stepper, AllocError>
+        ensures { IfOk result (λ copy. copy ≡ self.now) }
+    {
+        Ok(Stepper {
+            alloc: self.alloc,
+            shard: self.shard.try_copy()?,
+        })
+    }
+}

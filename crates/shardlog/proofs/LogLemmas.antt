@@ -1,0 +1,123 @@
+-- What a journal keeps, how it begins, and how it grows.
+use Rattle.std.proofs.Common.{◌≡◌, ◌<◌, ◌≤◌, ◌+◌, ℕ, List, [], ◌∷◌, ◌++◌, length, length-append, map, Vec, Global, Option, Some, refl, sym, ap, ◌∙◌, subst, arith}
+use Rattle.std.proofs.lemmas.List.{length-map, map-append}
+use Rattle.machine.specs.Events.{Event}
+use Rattle.machine.specs.Holders.{IsNamed, holders}
+use Rattle.machine.specs.State.{Dialogue, State}
+use Rattle.machine_laws.proofs.Naming.{unnamed_stays}
+use Rattle.frames.specs.Octets.{RawEvent, RawEntry, RawOut, IsEvent, IsRouted, StepOctets}
+use Rattle.frames.specs.OctetJournals.{ChainOctets, LegalOctets, RawEpoch, first_raw_base, joined_raws}
+use Rattle.frames_laws.proofs.OctetLaws.{chain_cut, chain_joined, event_one, holders_of_octets, isolation_of_octets, octets_push}
+use Rattle.shard_state.specs.Shards.{ShardState, IsSameShard, directory_of, state_of}
+use Rattle.hlrcore.specs.Sound.{IsSoundShard}
+use Rattle.shard_state.specs.declared.answer.Out.{Out}
+use Rattle.shard_state.specs.declared.answer.StepAnswer.{StepAnswer}
+use Rattle.shard_state.specs.Answers.{entry_of}
+use Rattle.shard_state.specs.Frames.{raw_out}
+use Rattle.hlrcore.specs.declared.event.RawEvent as code
+use Rattle.hlrcore.specs.Events.{raw_event}
+use Rattle.shardlog.specs.declared.entry.Entry.{Entry}
+use Rattle.shardlog.specs.declared.entry.Handled.{Handled}
+use Rattle.shardlog.specs.Chains.{JoinedKeep, LeadTo}
+use Rattle.shardlog.specs.Entries.{raw_entries, raw_entry}
+use Rattle.shardlog.specs.Handling.{Handles, LeavesUnnamed}
+use Rattle.shardlog.specs.Log.{IsLog, Keeps, LogKeeps, Log, log}
+
+pub keeps_of : (n : ℕ) (base : State) (entries : List RawEntry) (state : State) → LegalOctets n base entries state → Keeps n base entries state
+keeps_of n base entries state legal = record {
+  legal = legal;
+  holders = λ imsi. record {
+    octets = legal;
+    same = sym (holders_of_octets n base state entries imsi (holders base legal.journal imsi) (record { octets = legal; same = refl }));
+  };
+  alone = λ imsi none. isolation_of_octets n base state entries imsi legal none;
+}
+
+pub log_keeps : (l : Log) → IsLog l → LogKeeps l
+log_keeps l is = keeps_of l.base.shard (state_of l.base) l.entries (state_of l.state) is.legal
+
+pub joined_keep : JoinedKeep
+joined_keep n epochs base state entries chain legal =
+    keeps_of n (first_raw_base epochs base) (joined_raws epochs ++ entries) state (chain_joined n epochs base state entries chain legal)
+
+-- a shard begins with no entry
+pub begun : (s : ShardState) → IsSoundShard s → IsLog (log s [] s)
+begun s is = record {
+  legal = record {
+    journal = [];
+    spelled = tt;
+    legal = record { is_shard = is.shard; run = refl; routed = tt; base_sound = is.sound; after_sound = is.sound; base_part = is.own; after_part = is.own };
+  };
+  same = record { shard = refl; directory = refl; hlr = refl };
+  few = omega arith;
+}
+
+directory_is : (s : ShardState) → (state_of s).directory ≡ directory_of s.directory
+unfolding state_of
+directory_is s = refl
+
+-- a step puts its entry last
+pub grown : (base s t : ShardState) (entries : List RawEntry) (entry : RawEntry) → IsLog (log base entries s) → IsRouted (directory_of s.directory) entry.event s.shard
+    → StepOctets (state_of s) entry (state_of t) → IsSameShard s t → length entries < 65536 → IsLog (log base (entries ++ entry ∷ []) t)
+grown base s t entries entry is routed step same lt = record {
+  legal = octets_push base.shard (state_of base) (state_of s) (state_of t) entries entry is.legal
+      (subst (λ n. IsRouted (state_of s).directory entry.event n) is.same.shard (subst (λ d. IsRouted d entry.event s.shard) (sym (directory_is s)) routed)) step;
+  same = record { shard = same.shard ∙ is.same.shard; directory = same.directory ∙ is.same.directory; hlr = same.hlr ∙ is.same.hlr };
+  few = let count = length-append entries (entry ∷ []) in omega (arith, count);
+}
+
+-- what a step leaves
+pub leaves_unnamed : (S T : State) (entry : RawEntry) → StepOctets S entry T → LeavesUnnamed S entry.event T
+leaves_unnamed S T entry (j, spells, step) = λ e i d is open_at not_named.
+    let same : j.event ≡ e = event_one entry.event j.event e spells.event is in
+    unnamed_stays S j.event T j.answer i d step open_at (λ named. not_named (subst (λ f. IsNamed S f i) same named))
+
+-- ---- in the code
+
+pub keeps_seen : (l m : Log) → l ≡ m → IsLog l → LogKeeps m
+keeps_seen l m e is = subst LogKeeps e (log_keeps l is)
+
+pub entry_is : (raw : code.RawEvent) (event : RawEvent) (a : StepAnswer) (kept : Vec Out Global) → raw_event raw ≡ event → map raw_out kept.items ≡ a.outs
+    → raw_entry (record { event = raw; id = a.id; subject = a.subject; outs = kept }) ≡ entry_of event a
+entry_is raw event a kept same outs = λ i. record { event = same i; id = a.id; subject = a.subject; outs = outs i }
+
+pub entries_after : (before after : List Entry) (entry : Entry) (made : RawEntry) → after ≡ before ++ entry ∷ [] → raw_entry entry ≡ made
+    → raw_entries after ≡ raw_entries before ++ made ∷ []
+entries_after before after entry made put is =
+    ap (map raw_entry) put ∙ map-append raw_entry before (entry ∷ []) ∙ ap (λ (e : RawEntry). raw_entries before ++ e ∷ []) is
+
+pub handled_log : (base s t : ShardState) (before after : List Entry) (event : RawEvent) (a : StepAnswer) → IsLog (log base (raw_entries before) s)
+    → raw_entries after ≡ raw_entries before ++ entry_of event a ∷ [] → IsRouted (directory_of s.directory) event s.shard → StepOctets (state_of s) (entry_of event a) (state_of t)
+    → IsSameShard s t → length before < 65536 → IsLog (log base (raw_entries after) t)
+handled_log base s t before after event a is put routed step same lt =
+    let count = length-map before raw_entry in
+    subst (λ (es : List RawEntry). IsLog (log base es t)) (sym put) (grown base s t (raw_entries before) (entry_of event a) is routed step same (omega (arith, count)))
+
+pub handles : (old : Log) (base s t : ShardState) (before after : List Entry) (event : RawEvent) (a : StepAnswer) (handled : Handled) → log base (raw_entries before) s ≡ old
+    → raw_entries after ≡ raw_entries before ++ entry_of event a ∷ [] → StepOctets (state_of s) (entry_of event a) (state_of t)
+    → map raw_out handled.outs.items ≡ a.outs → handled.position ≡ length before → Handles old event handled (log base (raw_entries after) t)
+handles old base s t before after event a handled seen put step outs position =
+    subst (λ (l : Log). Handles l event handled (log base (raw_entries after) t)) seen (record {
+      entry = entry_of event a;
+      added = put;
+      base = refl;
+      event_is = refl;
+      outs_are = outs;
+      position = position ∙ sym (length-map before raw_entry);
+      step = step;
+      unnamed = leaves_unnamed (state_of s) (state_of t) (entry_of event a) step;
+    })
+
+-- ---- a cut
+
+pub cut_leads : (l m : Log) (base : ShardState) (entries : List RawEntry) → IsLog l → l.base ≡ base → l.entries ≡ entries → m.base ≡ l.state
+    → (epochs : List RawEpoch) → LeadTo epochs l → LeadTo (epochs ++ record { base = state_of base; entries = entries } ∷ []) m
+cut_leads l m base entries is based put next epochs leads =
+    let n = ap (λ (s : ShardState). s.shard) next ∙ is.same.shard in
+    let ends = ap (λ (s : ShardState). state_of s) next in
+    let cut : ChainOctets l.base.shard (epochs ++ record { base = state_of l.base; entries = l.entries } ∷ []) (state_of l.state) =
+    chain_cut l.base.shard epochs (state_of l.base) (state_of l.state) l.entries leads is.legal in
+    let here : ChainOctets l.base.shard (epochs ++ record { base = state_of base; entries = entries } ∷ []) (state_of l.state) =
+    subst (λ (e : RawEpoch). ChainOctets l.base.shard (epochs ++ e ∷ []) (state_of l.state)) (λ i. record { base = state_of (based i); entries = put i }) cut in
+    subst (λ (k : ℕ). ChainOctets k (epochs ++ record { base = state_of base; entries = entries } ∷ []) (state_of m.base)) (sym n)
+    (subst (λ (S : State). ChainOctets l.base.shard (epochs ++ record { base = state_of base; entries = entries } ∷ []) S) (sym ends) here)

@@ -1,0 +1,12 @@
+-- The entries of the code as those of the definitions.
+use Rattle.std.specs.Prelude.{List, map}
+use Rattle.frames.specs.Octets.{RawEntry}
+use Rattle.shard_state.specs.Frames.{raw_out}
+use Rattle.hlrcore.specs.Events.{raw_event}
+use Rattle.shardlog.specs.declared.entry.Entry.{Entry}
+
+abbrev pub raw_entry : Entry → RawEntry
+raw_entry e = record { event = raw_event e.event; id = e.id; subject = e.subject; outs = map raw_out e.outs.items }
+
+abbrev pub raw_entries : List Entry → List RawEntry
+raw_entries entries = map raw_entry entries

@@ -1,0 +1,10 @@
+-- Why a shard did not handle an event, where its state did not take it.
+use Rattle.hlrcore.specs.declared.answer.StepFault.{StepFault}
+use Rattle.hlrcore.specs.declared.answer.StepFault.TheVariants as step
+use Rattle.shardlog.specs.declared.fault.ShardFault.{ShardFault}
+use Rattle.shardlog.specs.declared.fault.ShardFault.TheVariants.{NotMine, NoRoom, Memory}
+
+abbrev pub fault_of : StepFault → ShardFault
+fault_of step.NotMine = NotMine
+fault_of step.NoRoom = NoRoom
+fault_of step.Memory = Memory

@@ -1,0 +1,147 @@
+//! A shard and its journal.
+
+ghost use Rattle.std.specs.Prelude.{◌≡◌, ◌≢◌, ◌⊎◌, ◌++◌, ◌∷◌, [], List, length, IfOk, IfErr, OnOk, OnErr, MatchResult, Err};
+ghost use Rattle.frames.specs.OctetJournals.{RawEpoch};
+ghost use Rattle.machine.specs.Routing.{route};
+ghost use Rattle.machine.specs.Step.{HasNoRoom};
+ghost use Rattle.shard_state.specs.Shards.{directory_of, state_of};
+ghost use Rattle.hlrcore.specs.Events.{event_of, raw_of};
+ghost use Rattle.shardlog.specs.Entries.{raw_entries};
+ghost use Rattle.shardlog.specs.Handling.{Handles};
+ghost use Rattle.shardlog.specs.Log.{LogKeeps, log};
+ghost use Rattle.shardlog.specs.Chains.{LeadTo, raw_epoch};
+
+use crate::entry::{Entry, Epoch, Handled};
+use crate::fault::ShardFault;
+use hlrcore::{Event, State};
+use std::alloc::{AllocError, Global};
+use std::marker::Model;
+use std::mem;
+
+/// The most entries of a journal (profile).
+pub const MOST_ENTRIES: usize = 65_536;
+
+/// A shard with its journal, which is legal: its entries lead from the base to the state.
+#[derive(Drop)]
+pub struct Shard {
+    alloc: Global,
+    base: State,
+    entries: Vec<Entry>,
+    state: State,
+}
+
+impl Model for Shard {
+    ghost use Rattle.shardlog.specs.Entries.{raw_entries};
+    ghost use Rattle.shardlog.specs.Log.{IsLog, Log, log, log_code};
+
+    ghost Value = { Log };
+
+    ghost coded = { log_code };
+
+    ghost view = { λ s. log s.base (raw_entries s.entries.items) s.state };
+
+    ghost invariant = { λ s. IsLog (log s.base (raw_entries s.entries.items) s.state) };
+}
+
+impl Shard {
+    /// A shard that begins in a state, with no entry. Where a growth is refused the state is handed back.
+    pub fn new(alloc: Global, state: State) -> Result<Shard, (State, AllocError)>
+        ensures begins { IfOk result (λ shard. shard ≡ log state [] state) }
+        ensures keeps { IfOk result LogKeeps }
+        ensures back { IfErr result (λ refused. refused.0 ≡ state) }
+    {
+        match state.try_copy() {
+            Ok(base) => Ok(Shard {
+                alloc,
+                base,
+                entries: Vec::new(alloc),
+                state,
+            }),
+            Err(refused) => Err((state, refused)),
+        }
+    }
+
+    /// Handles an event, and puts it at the end of the journal. Where it is for another shard the answer is `NotMine`; where the
+    /// journal is full, `JournalFull`; where it is an operator's change that would open a dialogue, and as many are open as may
+    /// be, `NoRoom`; where a growth was refused, `Memory`. Then nothing has changed.
+    pub fn handle(&mut self, event: &Event) -> Result<Handled, ShardFault>
+        ensures handles { IfOk result (λ handled. Handles self.old (raw_of event.now) handled self.new) }
+        // What every journal keeps, of this one too.
+        ensures keeps { LogKeeps self.new }
+        ensures not_mine { result ≡ Err ShardFault.NotMine → route (directory_of self.old.state.directory) (event_of event.now) ≢ self.old.state.shard }
+        ensures mine { route (directory_of self.old.state.directory) (event_of event.now) ≢ self.old.state.shard
+            → MatchResult result (λ _. ⊥) (λ fault. (fault ≡ ShardFault.NotMine) ⊎ (fault ≡ ShardFault.Memory)) }
+        ensures full { result ≡ Err ShardFault.JournalFull → (route (directory_of self.old.state.directory) (event_of event.now) ≡ self.old.state.shard)
+            × (length self.old.entries ≡ 65536) }
+        ensures room { length self.old.entries ≡ 65536 → OnOk result ⊥ }
+        ensures no_room { result ≡ Err ShardFault.NoRoom → HasNoRoom (state_of self.old.state) (event_of event.now) }
+        ensures no_step { HasNoRoom (state_of self.old.state) (event_of event.now) → OnOk result ⊥ }
+        ensures err { OnErr result (self.new ≡ self.old) }
+    {
+        if self.entries.len() >= MOST_ENTRIES {
+            return Err(self.refusal(event));
+        }
+        let raw = event.try_raw(self.alloc)?;
+        self.entries.reserve(1)?;
+        let answer = self.state.step(event)?;
+        let (outs, kept) = answer.outs.into_both();
+        let position = self.entries.len();
+        self.entries.push_reserved(Entry {
+            event: raw,
+            id: answer.id,
+            subject: answer.subject,
+            outs: kept,
+        });
+        Ok(Handled { position, outs })
+    }
+
+    /// Why a shard whose journal is full does not handle an event.
+    fn refusal(&self, event: &Event) -> ShardFault
+        ensures { (result ≡ ShardFault.NotMine) × (route (directory_of self.now.state.directory) (event_of event.now) ≢ self.now.state.shard)
+            ⊎ (result ≡ ShardFault.JournalFull) × (route (directory_of self.now.state.directory) (event_of event.now) ≡ self.now.state.shard) }
+    {
+        if self.state.is_mine(event) {
+            ShardFault::JournalFull
+        } else {
+            ShardFault::NotMine
+        }
+    }
+
+    /// The state that the journal begins in.
+    pub fn base(&self) -> &State
+        ensures { result.now ≡ self.now.base }
+    {
+        &self.base
+    }
+
+    /// The journal.
+    pub fn entries(&self) -> &[Entry]
+        ensures entries { raw_entries result.now ≡ self.now.entries }
+        ensures keeps { LogKeeps self.now }
+    {
+        &self.entries
+    }
+
+    /// The state that the shard is in.
+    pub fn state(&self) -> &State
+        ensures { result.now ≡ self.now.state }
+    {
+        &self.state
+    }
+
+    /// Cuts the journal off, and hands it out with its base. The next one begins, with no entry, in the state that the shard is
+    /// in.
+    pub fn cut(&mut self) -> Result<Epoch, AllocError>
+        ensures epoch { IfOk result (λ epoch. (epoch.base ≡ self.old.base) × (raw_entries epoch.entries.items ≡ self.old.entries)) }
+        ensures next { OnOk result (self.new ≡ log self.old.state [] self.old.state) }
+        ensures keeps { LogKeeps self.old × LogKeeps self.new }
+        // Epochs that lead to the shard lead to it also with this one behind them.
+        ensures leads { IfOk result (λ epoch. (epochs : List RawEpoch) → LeadTo epochs self.old → LeadTo (epochs ++ raw_epoch epoch ∷ []) self.new) }
+        ensures err { OnErr result (self.new ≡ self.old) }
+    {
+        let next = self.state.try_copy()?;
+        let base = mem::replace(&mut self.base, next);
+        let entries = mem::replace(&mut self.entries, Vec::new(self.alloc));
+        Ok(Epoch { base, entries })
+    }
+}
