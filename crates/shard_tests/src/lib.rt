@@ -1,5 +1,5 @@
 //! Tests of the layers of a shard: the procedures (`location`), what an event comes to (`turns`), how a plan is done
-//! (`shard_state`), and steps (`hlrcore`).
+//! (`shard_state`), steps (`hlrcore`), and journals (`shardlog`).
 //!
 //! They stand here because a crate with tests is proved twice.
 #![tactic(auto)]

@@ -20,3 +20,5 @@ mod routes;
 mod run;
 #[cfg(test)]
 mod updates;
+#[cfg(test)]
+mod whole_runs;
