@@ -20,6 +20,7 @@ of_part-requires-clause-own c =
     (c.args.loaded.records, next_own c.args.loaded.records c.loop-records.yielded _ c.next.new.self.rest.items c.in-Some.records c.loop-records.shard at.4 left at.2)
 
 pub of_part-requires-clause-fresh : goal.of_part-requires-clause-fresh
+unfolding of_part-requires-clause-own
 of_part-requires-clause-fresh c = part_fresh c.args.loaded.records c.in-Some.records c.loop-records.shard c.in_ok-parts.ensures.fresh (of_part-requires-clause-own c).1
 
 pub loop-records-preserved : goal.loop-records-preserved
