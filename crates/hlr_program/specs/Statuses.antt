@@ -7,6 +7,10 @@ use Rattle.frames.specs.Octets.{RawEvent}
 use Rattle.hlr_program.specs.Engine.{IsChange}
 use Rattle.hlr_program.specs.declared.engine.EngineFault.{EngineFault}
 use Rattle.hlr_program.specs.declared.engine.EngineFault.TheVariants as engine
+use Rattle.records.specs.declared.fault.RecordsFault.{RecordsFault}
+use Rattle.records.specs.declared.fault.RecordsFault.TheVariants as records
+use Rattle.hlr_input.specs.declared.options.WordsFault.{WordsFault}
+use Rattle.hlr_input.specs.declared.options.WordsFault.TheVariants as words
 use Rattle.hlr_input.specs.declared.item.LineFault.{LineFault}
 use Rattle.hlr_input.specs.declared.item.LineFault.TheVariants as line
 
@@ -31,6 +35,17 @@ fault_at line.Memory number = Memory
 abbrev pub fault_of : EngineFault → Fault
 fault_of engine.NoRoom = NoRoom
 fault_of engine.Memory = Memory
+
+-- why the words are no command line
+abbrev pub words_fault : WordsFault → Fault
+words_fault words.Line = CommandLine
+words_fault words.Memory = Memory
+
+-- why the records file was not read
+abbrev pub records_fault : RecordsFault → Fault
+records_fault (records.BadLine line) = BadRecord line
+records_fault (records.Twice line) = TwiceRecord line
+records_fault records.Memory = Memory
 
 -- What ends the reading of a script: a line of it, or want of memory.
 abbrev pub IsScriptFault : Fault → Type 0

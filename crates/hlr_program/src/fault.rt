@@ -83,6 +83,11 @@ impl<T: Drop> From<AllocFailed<T>> for Fault {
 }
 
 impl From<WordsFault> for Fault {
+    ghost use Rattle.std.specs.Prelude.{◌≡◌};
+    ghost use Rattle.hlr_program.specs.Statuses.{words_fault};
+
+    ghost from_gives = { λ fault given. given ≡ words_fault fault };
+
     fn from(fault: WordsFault) -> Fault {
         match fault {
             WordsFault::Line => Fault::CommandLine,
@@ -92,6 +97,11 @@ impl From<WordsFault> for Fault {
 }
 
 impl From<RecordsFault> for Fault {
+    ghost use Rattle.std.specs.Prelude.{◌≡◌};
+    ghost use Rattle.hlr_program.specs.Statuses.{records_fault};
+
+    ghost from_gives = { λ fault given. given ≡ records_fault fault };
+
     fn from(fault: RecordsFault) -> Fault {
         match fault {
             RecordsFault::BadLine(line) => Fault::BadRecord(line),
