@@ -41,7 +41,10 @@ fn an_event_is_journalled(rt: HostRuntime) -> Result<(), Fail> {
     let entries = shard.entries();
     assert_eq!(rt; entries.len(), 2);
     assert!(rt; entries[0].outs.is_empty());
-    assert_eq!(rt; entries[1].outs[0].octets.as_slice(), ROUTE_ANSWER.as_slice());
+    assert_eq!(rt;
+        entries[1].outs[0].octets.as_slice(),
+        ROUTE_ANSWER.as_slice()
+    );
     assert!(rt; entries[1].subject.is_some());
     assert!(rt; entries[1].id.is_none());
     Ok(())
@@ -50,7 +53,10 @@ fn an_event_is_journalled(rt: HostRuntime) -> Result<(), Fail> {
 #[test]
 fn an_event_of_another_shard(rt: HostRuntime) -> Result<(), Fail> {
     let mut shard = shard(rt.alloc())?;
-    assert_eq!(rt; shard.handle(&clock(2, 5)?).err(), Some(ShardFault::NotMine));
+    assert_eq!(rt;
+        shard.handle(&clock(2, 5)?).err(),
+        Some(ShardFault::NotMine)
+    );
     assert!(rt; shard.entries().is_empty());
     Ok(())
 }
@@ -63,10 +69,16 @@ fn a_full_journal_is_cut(rt: HostRuntime) -> Result<(), Fail> {
         shard.handle(&tick)?;
     }
     assert_eq!(rt; shard.handle(&tick).err(), Some(ShardFault::JournalFull));
-    assert_eq!(rt; shard.handle(&clock(2, 5)?).err(), Some(ShardFault::NotMine));
+    assert_eq!(rt;
+        shard.handle(&clock(2, 5)?).err(),
+        Some(ShardFault::NotMine)
+    );
     assert_eq!(rt; shard.entries().len(), MOST_ENTRIES);
     let epoch = shard.cut()?;
-    assert_eq!(rt; (epoch.entries.len(), shard.entries().len()), (MOST_ENTRIES, 0));
+    assert_eq!(rt;
+        (epoch.entries.len(), shard.entries().len()),
+        (MOST_ENTRIES, 0)
+    );
     assert_eq!(rt; shard.handle(&tick)?.position, 0);
     Ok(())
 }

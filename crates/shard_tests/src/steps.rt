@@ -117,13 +117,19 @@ fn an_update_opens_and_completes(rt: HostRuntime) -> Result<(), Fail> {
     let mut state = state(rt.alloc(), 1)?;
     let opened = state.step(&frame(rt.alloc(), &UPDATE)?)?;
     let id = opened.id.ok_or("no id")?;
-    assert_eq!(rt; (opened.outs.as_slice().len(), state.dialogues().len()), (1, 1));
+    assert_eq!(rt;
+        (opened.outs.as_slice().len(), state.dialogues().len()),
+        (1, 1)
+    );
     let completed = state.step(&result_in(rt.alloc(), id)?)?;
     assert_eq!(rt; completed.outs.as_slice().len(), 2);
     assert!(rt; completed.id.is_some());
     assert!(rt; state.dialogues().get(id).is_none());
     let late = state.step(&result_in(rt.alloc(), id)?)?;
-    assert_eq!(rt; (late.outs.as_slice().len(), state.dialogues().len()), (1, 1));
+    assert_eq!(rt;
+        (late.outs.as_slice().len(), state.dialogues().len()),
+        (1, 1)
+    );
     Ok(())
 }
 
@@ -136,7 +142,10 @@ fn a_timer_runs_out(rt: HostRuntime) -> Result<(), Fail> {
     assert!(rt; early.outs.as_slice().is_empty());
     state.step(&Event::Clock { shard, now: 20 })?;
     let failed = state.step(&Event::Expire { shard })?;
-    assert_eq!(rt; (failed.outs.as_slice().len(), state.dialogues().len()), (1, 0));
+    assert_eq!(rt;
+        (failed.outs.as_slice().len(), state.dialogues().len()),
+        (1, 0)
+    );
     Ok(())
 }
 
@@ -150,7 +159,10 @@ fn a_change_opens(rt: HostRuntime) -> Result<(), Fail> {
     assert_eq!(rt; (told.outs.as_slice().len(), told.subject), (1, Some(imsi)));
     let change = Change::Withdraw;
     let ended = state.step(&Event::Change { imsi, change })?;
-    assert_eq!(rt; (ended.outs.as_slice().len(), state.dialogues().len()), (1, 2));
+    assert_eq!(rt;
+        (ended.outs.as_slice().len(), state.dialogues().len()),
+        (1, 2)
+    );
     Ok(())
 }
 
