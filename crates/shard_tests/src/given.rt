@@ -2,7 +2,7 @@
 
 use hlr_types::{Digits, Imsi, Peer, Tid};
 use records::read_records;
-use shard_state::Shard;
+use shard_state::{Out, Shard};
 use std::alloc::Global;
 
 /// The id that the first dialogue of shard 1 takes.
@@ -27,4 +27,12 @@ pub(crate) fn shard(alloc: Global, records: &[u8]) -> Result<Shard, &'static str
     let directory = loaded.shared_directory().ok().ok_or("directory")?;
     let shard = Shard::of_part(alloc, 1, part, directory, *loaded.hlr()).ok();
     shard.ok_or("shard")
+}
+
+/// The octets of the frame at a place, none where there is no such frame.
+pub(crate) fn octets_at(outs: &[Out], place: usize) -> &[u8] {
+    match outs.get(place) {
+        Some(out) => &out.octets,
+        None => &[],
+    }
 }

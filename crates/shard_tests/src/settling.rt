@@ -2,7 +2,7 @@
 
 ghost use Rattle.std.specs.Prelude.{◌≡◌, IfSome};
 
-use crate::given::{self, FIRST, shard};
+use crate::given::{self, FIRST, octets_at, shard};
 use crate::octets::RECORDS;
 use dialogues::{Dialogue, Kind};
 use hlr_types::{Imsi, Peer, RemoteId, Tid};
@@ -137,8 +137,9 @@ fn a_cancel_opens_and_closes(rt: HostRuntime) -> Result<(), Fail> {
     let answer = opens(rt.alloc(), &mut shard).ok_or("opens")?;
     assert_eq!(rt; answer.id, Some(FIRST));
     assert_eq!(rt; answer.subject, imsi());
-    assert_eq!(rt; answer.outs.as_slice().len(), 2);
-    assert_eq!(rt; answer.outs.as_slice()[1].octets.as_slice(), END.as_slice());
+    let outs = answer.outs.as_slice();
+    assert_eq!(rt; outs.len(), 2);
+    assert_eq!(rt; octets_at(outs, 1), END.as_slice());
     assert_eq!(rt; shard.dialogues().get(FIRST), cancel());
     let answer = closes(rt.alloc(), &mut shard, FIRST).ok_or("closes")?;
     assert_eq!(rt; answer.id, None);
