@@ -13,7 +13,7 @@ pub record Place : Type 0 where
   pub position : ℕ
   pub outs : List RawOut
 
--- What became of a job: its place, or nothing where it was refused.
+-- What became of a job: its place, or nothing if it was refused.
 pub record Receipt : Type 0 where
   pub job : ℕ
   pub place : Option Place
@@ -52,7 +52,7 @@ pub record Account (journals : List (List RawEntry)) (jobs : List Job) (receipts
   pub is_ok : receipt.place ≡ Some place
   pub answers : Answers journals receipts job place
 
--- An entry is stray where no receipt names its place.
+-- An entry is stray if no receipt names its place.
 pub record IsStray (journals : List (List RawEntry)) (receipts : List Receipt) (shard position : ℕ) : Type 0 where
   pub entry : RawEntry
   pub stands : entry_at journals shard position ≡ Some entry
@@ -76,7 +76,7 @@ pub record IsLeastFault (journals : List (List RawEntry)) (jobs : List Job) (rec
   pub fails : Account journals jobs receipts n → ⊥
   pub least : All (λ m. m < n → Account journals jobs receipts m) (numbers jobs receipts)
 
--- Why they do not reconcile: the least number that is not accounted for, or 0 where each is and only an entry is left over.
+-- Why they do not reconcile: the least number that is not accounted for, or 0 if each is and only an entry is stray.
 abbrev pub Unaccounts : List (List RawEntry) → List Job → List Receipt → ℕ → Type 0
 Unaccounts journals jobs receipts n =
     ((1 ≤ n) × IsLeastFault journals jobs receipts n)

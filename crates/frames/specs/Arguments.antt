@@ -1,7 +1,7 @@
--- What the parameter of a received Invoke is, by its operation (TS 29.002, 17.7): the readings. The type is its tags,
--- their order, and one octet for a BOOLEAN; its values are looked at when the whole type is right (profile). A tag says
--- whether its element is primitive: a constructed element where an lmsi, a vlr-Number or an sgsn-Number might stand has
--- another tag, so it is a further element.
+-- Reading the parameter of a received Invoke, by its operation (TS 29.002, 17.7.1 and 17.7.6). The type is its tags, their
+-- order, and one octet for a BOOLEAN (X.690, 8.2); values are checked after the whole type (profile). A tag says whether its
+-- element is primitive: a constructed element in the place of an lmsi, a vlr-Number or an sgsn-Number has another tag, so
+-- it is a further element.
 use Rattle.std.specs.Prelude.{ℕ, List, Option, Some, None, ◌==◌, if◌then◌else◌, option_map, unwrap_or}
 use Rattle.x690.specs.Tree.{Tree}
 use Rattle.x690.specs.Reading.{octets_of, octet_of, children_of}
@@ -12,18 +12,18 @@ use Rattle.frames.specs.declared.tags.TheConstants.{SEQUENCE, OCTET_STRING, UPDA
 use Rattle.frames.specs.declared.numbers.TheConstants.{UPDATE_LOCATION, PURGE_MS, SEND_ROUTING_INFO_FOR_SM}
 use Rattle.frames.specs.Choices.{◌>>=◌}
 
--- what may be absent, and is a value where it is there
+-- what may be absent, and is a value if it is there
 abbrev pub if_there : (List ℕ → Option (List ℕ)) → Option (List ℕ) → Option (Option (List ℕ))
 if_there read None = Some None
 if_there read (Some octets) = option_map Some (read octets)
 
--- mistyped without contents of the type, and a bad value where one of the contents is no value
+-- mistyped without contents of the type, and a bad value if one of the contents is invalid
 abbrev pub in_value : {C : Type 0} → (C → Option Argument) → Option C → Parameter
 in_value value None = Mistyped
 in_value value (Some contents) = Typed (unwrap_or (value contents) BadValue)
 
--- The contents of an updateLocation's argument: imsi, msc-Number, vlr-Number, an optional lmsi, and further elements,
--- which are not read.
+-- The contents of an UpdateLocationArg: imsi, msc-Number, vlr-Number, an optional lmsi, and further elements, which are not
+-- read.
 pub record UpdateContents : Type 0 where
   pub imsi : List ℕ
   pub msc : List ℕ
@@ -50,8 +50,8 @@ update_value c = do
 abbrev pub update_of : Tree → Parameter
 update_of t = in_value update_value (update_typed t)
 
--- The contents of a purgeMS's argument: imsi, an optional vlr-Number, an optional sgsn-Number and further elements, which
--- are not read.
+-- The contents of a PurgeMS-Arg: imsi, an optional vlr-Number, an optional sgsn-Number and further elements, which are not
+-- read.
 pub record PurgeContents : Type 0 where
   pub imsi : List ℕ
   pub vlr : Option (List ℕ)
@@ -72,8 +72,8 @@ purge_value c = do
 abbrev pub purge_of : Tree → Parameter
 purge_of t = in_value purge_value (purge_typed t)
 
--- The msisdn of a sendRoutingInfoForSM's argument: msisdn, sm-RP-PRI, which is a BOOLEAN, serviceCentreAddress, and
--- further elements. Only the msisdn's value is read.
+-- The msisdn of a RoutingInfoForSM-Arg: msisdn, sm-RP-PRI, which is a BOOLEAN, serviceCentreAddress, and further elements.
+-- Only the msisdn's value is read.
 unfoldable pub route_typed : Tree → Option (List ℕ)
 route_typed t = do
   ts ← children_of SEQUENCE t
@@ -88,7 +88,7 @@ route_value msisdn = option_map Route (address_of msisdn)
 abbrev pub route_of : Tree → Parameter
 route_of t = in_value route_value (route_typed t)
 
--- the parameter of an Invoke with this code; of an operation that no peer may invoke it is mistyped
+-- the parameter of an Invoke with this code; mistyped for an operation that no peer may invoke
 unfoldable pub parameter_of : Code → Tree → Parameter
 parameter_of (Number operation) t =
     if operation == UPDATE_LOCATION then update_of t else

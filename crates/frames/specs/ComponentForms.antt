@@ -1,4 +1,4 @@
--- The form of each component (Q.773), as a relation between a tree and a component.
+-- The form of each component (Q.773, component portion), as a relation between a tree and a component.
 use Rattle.std.specs.Prelude.{◌≡◌, ℕ, ℤ, ◌≤◌, List, [], ◌∷◌, ◌++◌, length, Option, Some, None, ◌⊎◌, option_to_list}
 use Rattle.std.specs.Int.{w8, cast_signed}
 use Rattle.x690.specs.declared.Tag.{Tag}
@@ -16,7 +16,7 @@ abbrev pub AreLinked : List Tree → Option ℤ → Type 0
 AreLinked ts None = ts ≡ []
 AreLinked ts (Some id) = (t : Tree) × (ts ≡ t ∷ []) × IsId LINKED_ID t id
 
--- A code is an INTEGER or an OBJECT IDENTIFIER that is not empty. It is a number only as an INTEGER of one octet.
+-- A code is a nonempty INTEGER or OBJECT IDENTIFIER. It is a number only as an INTEGER of one octet.
 abbrev pub IsCode : Tree → Code → Type 0
 IsCode t (Number n) = t ≡ Primitive INTEGER (n ∷ [])
 IsCode t Other =
@@ -27,7 +27,7 @@ IsCode t Other =
 abbrev pub AreCoded : List Tree → Code → Option Tree → Type 0
 AreCoded ts code parameter = (t : Tree) × IsCode t code × (ts ≡ t ∷ option_to_list parameter)
 
--- behind a result's id: nothing, or a SEQUENCE of a code and at most one parameter
+-- after a result's id: nothing, or a SEQUENCE of a code and at most one parameter
 abbrev pub AreOutcome : List Tree → Type 0
 AreOutcome ts = (ts ≡ []) ⊎ ((cs : List Tree) × (code : Code) × (parameter : Option Tree) × AreCoded cs code parameter × (ts ≡ element SEQUENCE cs ∷ []))
 
@@ -56,21 +56,21 @@ IsWellFormed t (Reject id side problem) =
 IsWellFormed t (Bad id problem) = ⊥
 IsWellFormed t Ignored = ⊥
 
--- it is no well-formed component
+-- the tree is no well-formed component
 abbrev pub IsIll : Tree → Type 0
 IsIll t = (c : ComponentOf Tree) → IsWellFormed t c → ⊥
 
--- the tree has the tag of a component that has an id in front, and these children
+-- the tree has the tag of a component that begins with an id, and these children
 abbrev pub HasIdTag : Tree → List Tree → Type 0
 HasIdTag t ts =
     (t ≡ element INVOKE ts) ⊎ ((t ≡ element RESULT_LAST ts) ⊎ ((t ≡ element RESULT_NOT_LAST ts) ⊎ (t ≡ element RETURN_ERROR ts)))
 
--- an id stands in front
+-- an id comes first
 abbrev pub BeginsWithId : List Tree → ℤ → Type 0
 BeginsWithId ts id = (i : Tree) × (rest : List Tree) × IsId INTEGER i id × (ts ≡ i ∷ rest)
 
--- The tree is this component. An ill-formed one is bad, with the general problem that it gives: another tag, no readable
--- id, or any other fault behind the id. An ill-formed Reject is ignored (profile).
+-- The tree is this component. An ill-formed one is bad, with the general problem that is answered: for another tag, no
+-- readable id, or any other fault after the id. An ill-formed Reject is ignored (profile).
 abbrev pub IsComponent : Tree → ComponentOf Tree → Type 0
 IsComponent t (Bad None problem) =
     ((problem ≡ UNRECOGNIZED_COMPONENT) × ((ts : List Tree) → HasIdTag t ts → ⊥) × ((ts : List Tree) → t ≡ element REJECT ts → ⊥))

@@ -1,5 +1,5 @@
--- The component that a tree is (Q.773): the reading. What becomes of ill-formed components is this project's
--- profile.
+-- Reading a tree as a component (Q.773, component portion). What becomes of ill-formed components is the profile's choice
+-- (profile).
 use Rattle.std.specs.Prelude.{ℕ, ℤ, List, [], ◌∷◌, Option, Some, None, option_map, option_and_then, unwrap_or, map}
 use Rattle.std.specs.Int.{w8, cast_signed}
 use Rattle.x690.specs.declared.Tag.{Tag}
@@ -15,7 +15,7 @@ use Rattle.frames.specs.Choices.{◌>>=◌, or, if_under}
 abbrev pub id_under : Tag → Tree → Option ℤ
 id_under tag t = option_map (λ octet. cast_signed w8 octet) (octet_of tag t)
 
--- an operation's or an error's code: an INTEGER or an OBJECT IDENTIFIER that is not empty; one octet of INTEGER is a number
+-- an operation's or an error's code: a nonempty INTEGER or OBJECT IDENTIFIER; an INTEGER of one octet is a number
 abbrev pub local_code : List ℕ → Option Code
 local_code [] = None
 local_code (n ∷ []) = Some (Number n)
@@ -35,14 +35,14 @@ coded ts = do
   parameter ← at_most_one code.1
   Some (code.0, parameter)
 
--- Behind its id an Invoke has an optional linked id, a code, and at most one parameter.
+-- After its id an Invoke has an optional linked id, a code, and at most one parameter.
 unfoldable pub invoke : ℤ → List Tree → Option (ComponentOf Tree)
 invoke id ts = do
   let linked = optional (id_under LINKED_ID) ts
   body ← coded linked.1
   Some (Invoke id linked.0 body.0 body.1)
 
--- A result has nothing behind its id, or a SEQUENCE of a code and at most one parameter. Neither is kept.
+-- A result has nothing after its id, or a SEQUENCE of a code and at most one parameter. Neither is kept.
 unfoldable pub outcome : ComponentOf Tree → List Tree → Option (ComponentOf Tree)
 outcome made [] = Some made
 outcome made (t ∷ []) = do
@@ -85,7 +85,7 @@ reject (t ∷ u ∷ []) = do
   Some (Reject id problem.0 problem.1)
 reject (t ∷ u ∷ v ∷ ts) = None
 
--- With its id in front. Without a readable one the component is bad, and so it is with any other fault behind the id.
+-- The id comes first. Without a readable id, or with any other fault after it, the component is bad.
 abbrev pub behind_id : (ℤ → List Tree → Option (ComponentOf Tree)) → Option (ℤ × List Tree) → ComponentOf Tree
 behind_id body None = Bad None MISTYPED_COMPONENT
 behind_id body (Some (id, ts)) = unwrap_or (body id ts) (Bad (Some id) MISTYPED_COMPONENT)

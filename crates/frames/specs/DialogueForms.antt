@@ -1,4 +1,4 @@
--- The form of a dialogue portion (Q.773), as a relation between a tree and the APDU that it holds.
+-- The form of a dialogue portion (Q.773, dialogue portion), as a relation between a tree and the APDU that it holds.
 use Rattle.std.specs.Prelude.{◌≡◌, ℕ, ◌≤◌, List, [], ◌∷◌, ◌++◌, length, ◌⊎◌}
 use Rattle.x690.specs.declared.Tag.{Tag}
 use Rattle.x690.specs.Tree.{Tree, Primitive, element}
@@ -6,7 +6,7 @@ use Rattle.machine.specs.Received.{Diagnostic, OfUser, OfProvider, Apdu, Aarq, A
 use Rattle.frames.specs.declared.tags.TheConstants.{INTEGER, OBJECT_IDENTIFIER, EXTERNAL, DIALOGUE_PORTION, SINGLE_ASN1_TYPE, AARQ, AARE, ABRT, VERSION, CONTEXT_NAME, RESULT, RESULT_SOURCE, DIAGNOSTIC_OF_USER, DIAGNOSTIC_OF_PROVIDER, ABORT_SOURCE, USER_INFORMATION}
 use Rattle.frames.specs.declared.numbers.TheConstants.{DIALOGUE_AS_ID, MAX_CONTEXT_NAME}
 
--- A version is a BIT STRING of at least two octets: at most seven bits unused, and the first bit set (profile).
+-- A version is a BIT STRING (X.690, 8.6) of at least two octets: at most seven bits unused, and the first bit set (profile).
 abbrev pub IsVersion : List ℕ → Type 0
 IsVersion octets = (unused bits : ℕ) × (rest : List ℕ) × (octets ≡ unused ∷ bits ∷ rest) × (unused ≤ 7) × (128 ≤ bits)
 
@@ -26,7 +26,7 @@ abbrev pub diagnostic_tree : Diagnostic → Tree
 diagnostic_tree (OfUser octet) = element RESULT_SOURCE (octet_in DIAGNOSTIC_OF_USER octet ∷ [])
 diagnostic_tree (OfProvider octet) = element RESULT_SOURCE (octet_in DIAGNOSTIC_OF_PROVIDER octet ∷ [])
 
--- optional information of the user, whatever it holds
+-- optional user information, whatever it holds
 abbrev pub AreInformation : List Tree → Type 0
 AreInformation ts = (ts ≡ []) ⊎ ((us : List Tree) × (ts ≡ element USER_INFORMATION us ∷ []))
 
@@ -41,7 +41,7 @@ IsApdu t (Aare response) =
 IsApdu t (Abrt source) =
     (us : List Tree) × AreInformation us × (source ≤ 1) × (t ≡ element ABRT (Primitive ABORT_SOURCE (source ∷ []) ∷ us))
 
--- the dialogue portion around an APDU: an EXTERNAL of the dialogue's syntax
+-- the dialogue portion around an APDU: an EXTERNAL (X.690, 8.18) of the dialogue's abstract syntax
 abbrev pub portion_tree : Tree → Tree
 portion_tree apdu =
     element DIALOGUE_PORTION (element EXTERNAL (Primitive OBJECT_IDENTIFIER DIALOGUE_AS_ID ∷ element SINGLE_ASN1_TYPE (apdu ∷ []) ∷ []) ∷ [])

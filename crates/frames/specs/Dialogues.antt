@@ -1,4 +1,4 @@
--- The APDU that a dialogue portion holds (Q.773): the reading. Where it gives none, the portion is unreadable.
+-- Reading the APDU that a dialogue portion holds (Q.773, dialogue portion). If there is none, the portion is unreadable.
 use Rattle.std.specs.Prelude.{ℕ, List, [], ◌∷◌, Option, Some, None, Bool, true, false, if◌then◌else◌, ◌&&◌, nat_lt, nat_le, length, option_and_then, is_some}
 use Rattle.std.specs.Str.{bytes_eq}
 use Rattle.x690.specs.declared.Tag.{Tag}
@@ -10,7 +10,7 @@ use Rattle.frames.specs.declared.tags.TheConstants.{INTEGER, OBJECT_IDENTIFIER, 
 use Rattle.frames.specs.declared.numbers.TheConstants.{DIALOGUE_AS_ID, MAX_CONTEXT_NAME}
 use Rattle.frames.specs.Choices.{◌>>=◌, or, when}
 
--- a BIT STRING that is a version: how many bits are unused, and the first bit set (profile)
+-- a BIT STRING that is a version: at most seven bits unused, and the first bit set (profile)
 abbrev pub is_version : List ℕ → Bool
 is_version [] = false
 is_version (unused ∷ []) = false
@@ -46,7 +46,7 @@ diagnostic_of t = do
   child ← only_child RESULT_SOURCE t
   or (diagnostic_under DIAGNOSTIC_OF_USER OfUser child) (diagnostic_under DIAGNOSTIC_OF_PROVIDER OfProvider child)
 
--- an APDU may end in the user's information, which is not read
+-- an APDU may end with user information, which is not read
 abbrev pub may_end_apdu : List Tree → Bool
 may_end_apdu [] = true
 may_end_apdu (t ∷ []) = is_some (children_of USER_INFORMATION t)
@@ -66,7 +66,7 @@ response_of ts = do
   diagnostic ← first diagnostic_of outcome.1
   when (may_end_apdu diagnostic.1) (Aare (record { context = context.0; result = outcome.0; diagnostic = diagnostic.0 }))
 
--- the source is the user, 0, or the provider, 1
+-- an ABRT's source is the user, 0, or the provider, 1
 unfoldable pub dialogue_abort_of : List Tree → Option Apdu
 dialogue_abort_of ts = do
   source ← first (octet_of ABORT_SOURCE) ts
@@ -77,7 +77,7 @@ apdu_of t =
     or (option_and_then request_of (children_of AARQ t))
     (or (option_and_then response_of (children_of AARE t)) (option_and_then dialogue_abort_of (children_of ABRT t)))
 
--- an EXTERNAL of the dialogue's syntax, with one APDU
+-- an EXTERNAL of the dialogue's abstract syntax, with one APDU
 abbrev pub in_external : List Tree → Option Apdu
 in_external [] = None
 in_external (syntax ∷ []) = None

@@ -29,7 +29,7 @@ Reads t (End destination response components) =
     (p : Portions) × IsMessage t (tc.End destination p) × IsPortion (λ r. Aare r) p.dialogue response × AreHeard p.components components
 Reads t (Abort destination) = IsMessage t (tc.Abort destination)
 
--- What becomes of a tree: what the first point says that fits, or else it is a message.
+-- What becomes of a tree: what the first point that applies says; if none does, it is a message.
 abbrev pub IsJudged : Tree → Verdict → Type 0
 IsJudged t v =
     ((u : Unread) × IsSaidFirst points t u × (v ≡ verdict_on u))
@@ -42,6 +42,6 @@ pub record IsFrame (octets : List ℕ) (t : Tree) : Type 0 where
   pub short : length octets ≤ MAX_OCTETS
   pub shallow : levels t ≤ MAX_LEVELS
 
--- The verdict on octets: they are discarded where they spell no tree within the limits.
+-- The verdict on octets: they are discarded if they spell no tree within the limits.
 abbrev pub IsVerdict : List ℕ → Verdict → Type 0
 IsVerdict octets v = (((t : Tree) → IsFrame octets t → ⊥) × (v ≡ Discard)) ⊎ ((t : Tree) × IsFrame octets t × IsJudged t v)

@@ -1,4 +1,4 @@
--- The form of each message (Q.773): the elements in order, as a relation between a tree and a message.
+-- The form of each message (Q.773, transaction portion): the elements in order, as a relation between a tree and a message.
 use Rattle.std.specs.Prelude.{◌≡◌, ℕ, ◌≤◌, List, [], ◌∷◌, ◌++◌, length, Option, Some, None, ◌⊎◌}
 use Rattle.x690.specs.Tree.{Tree, Primitive, element}
 use Rattle.x690.specs.Reading.{tag_of}

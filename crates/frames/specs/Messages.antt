@@ -1,4 +1,4 @@
--- The message that a tree is up to its portions, or what becomes of a frame that is none (Q.773): the reading.
+-- Reading a tree as a message with its portions unread, or what becomes of a frame that is none (Q.773, transaction portion).
 use Rattle.std.specs.Prelude.{ℕ, List, [], ◌∷◌, Option, Some, None, Result, Ok, Err, Bool, true, false, if◌then◌else◌, ◌||◌, option_and_then, is_some, unwrap_or}
 use Rattle.std.specs.Option.{ok_or}
 use Rattle.x690.specs.declared.Tag.{Tag}
@@ -10,7 +10,7 @@ use Rattle.frames.specs.declared.tags.TheConstants.{UNIDIRECTIONAL, BEGIN, END, 
 use Rattle.frames.specs.declared.numbers.TheConstants.{UNRECOGNIZED_MESSAGE_TYPE, BADLY_FORMATTED_TRANSACTION_PORTION, INCORRECT_TRANSACTION_PORTION}
 use Rattle.frames.specs.Choices.{if_under}
 
--- The dialogue portion, and the elements of the component portion: none where there is no such portion.
+-- The dialogue portion, and the elements of the component portion: none if there is no such portion.
 pub record Portions : Type 0 where
   pub dialogue : Option Tree
   pub components : List Tree
@@ -62,7 +62,7 @@ end_of ts = do
   portions ← ok_or (portions_of destination.1) Discarded
   Ok (End destination.0 portions)
 
--- behind an Abort's destination a cause or a dialogue portion may stand; neither is read
+-- after an Abort's destination id a cause or a dialogue portion may follow; neither is read
 abbrev pub may_end_abort : List Tree → Bool
 may_end_abort [] = true
 may_end_abort (t ∷ []) = is_some (tagged ABORT_CAUSE t) || is_some (tagged DIALOGUE_PORTION t)
@@ -73,7 +73,7 @@ abort_of ts = do
   destination ← ok_or (first (transaction_id_under DESTINATION) ts) Discarded
   if may_end_abort destination.1 then Ok (Abort destination.0) else Err Discarded
 
--- another tag is answered where an origin stands first
+-- another tag is answered if an originating id comes first
 abbrev pub unrecognized : Option (List ℕ × List Tree) → Result TcMessage Unread
 unrecognized None = Err Discarded
 unrecognized (Some origin) = Err (Refused origin.0 UNRECOGNIZED_MESSAGE_TYPE)

@@ -1,4 +1,4 @@
--- Journals of octets. Each spells one journal of messages, and what is said of it is said of that one.
+-- Journals of octets. Each spells one journal of messages, and statements about it are about that one.
 use Rattle.std.specs.Prelude.{◌≡◌, ℕ, ◌<◌, List, [], ◌∷◌, ◌++◌, Bool, true, false, cond, filter}
 use Rattle.machine.specs.Keys.{Every, put_at}
 use Rattle.machine.specs.Numbers.{shards, no_resources}
@@ -41,7 +41,7 @@ is_raw_of x raw = cond (is_raw_clock raw.event) true (is_subject x raw.subject)
 abbrev pub only_raw_of : List RawEntry → List ℕ → List RawEntry
 only_raw_of raws x = filter (is_raw_of x) raws
 
--- an Abort for want of resources goes out first: an update met a full shard
+-- the first frame is an Abort with the cause resourceLimitation: an update met a full shard
 abbrev pub IsTurnedAway : List RawOut → Type 0
 IsTurnedAway [] = ⊥
 IsTurnedAway (out ∷ outs) = (destination : List ℕ) × (out.octets ≡ octets_of_sent (SentAbort destination (Cause no_resources)))
@@ -49,7 +49,7 @@ IsTurnedAway (out ∷ outs) = (destination : List ℕ) × (out.octets ≡ octets
 abbrev pub NoRawTurnedAway : List RawEntry → List ℕ → Type 0
 NoRawTurnedAway raws x = Every (λ raw. is_subject x raw.subject ≡ true → IsTurnedAway raw.outs → ⊥) raws
 
--- ---- one journal of sixteen
+-- ---- one journal made of sixteen
 
 -- The merge has the entries of the sixteen journals, each journal's in their order.
 abbrev pub MergesOctets : (ℕ → List RawEntry) → List RawEntry → Type 0
@@ -57,13 +57,13 @@ MergesOctets journals [] = (n : ℕ) → n < shards → journals n ≡ []
 MergesOctets journals (raw ∷ merge) =
     (n : ℕ) × (rest : List RawEntry) × (n < shards) × (journals n ≡ raw ∷ rest) × MergesOctets (put_at journals n rest) merge
 
--- ---- epochs that follow each other
+-- ---- consecutive epochs
 
 pub record RawEpoch : Type 0 where
   pub base : State
   pub entries : List RawEntry
 
--- where the epochs begin; the shard's own base is where the next one would
+-- the state in which the epochs begin; if there are none, the shard's own base
 abbrev pub first_raw_base : List RawEpoch → State → State
 first_raw_base [] base = base
 first_raw_base (epoch ∷ epochs) base = epoch.base

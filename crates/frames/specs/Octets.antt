@@ -1,5 +1,5 @@
--- The machine over octets: events as they come from outside, entries with the octets that go out, and the steps and runs
--- of such entries.
+-- The machine over octets: events as they are received, entries with the octets that are sent, and the steps and runs of
+-- such entries.
 use Rattle.std.specs.Prelude.{◌≡◌, ℕ, List, [], ◌∷◌, map, Option}
 use Rattle.machine.specs.Sent.{Out}
 use Rattle.machine.specs.Events.{Change, Event, Frame, Clock, Expire, Operator}
@@ -10,14 +10,14 @@ use Rattle.machine.specs.Legal.{Entry}
 use Rattle.frames.specs.Frames.{IsVerdict}
 use Rattle.frames.specs.SentTrees.{octets_of_sent}
 
--- A frame is octets with the address that they come from.
+-- A frame is octets with their source address.
 pub data RawEvent : Type 0 where
   RawFrame : (from octets : List ℕ) → RawEvent
   RawClock : (shard now : ℕ) → RawEvent
   RawExpire : (shard : ℕ) → RawEvent
   RawChange : (imsi : List ℕ) → Change → RawEvent
 
--- Octets with the address that they go to.
+-- Octets with their destination address.
 pub record RawOut : Type 0 where
   pub to : List ℕ
   pub octets : List ℕ
@@ -40,7 +40,7 @@ IsEvent (RawClock shard now) _ = ⊥
 IsEvent (RawExpire shard) _ = ⊥
 IsEvent (RawChange imsi change) _ = ⊥
 
--- a message as it goes out
+-- a message as it is sent
 abbrev pub spelled_out : Out → RawOut
 spelled_out out = record { to = out.to; octets = octets_of_sent out.message }
 

@@ -1,4 +1,4 @@
--- What keeps a tree from being a message that is heard, point by point (profile). The first point that fits decides.
+-- What keeps a tree from being read as a message, point by point (profile). The first point that applies decides.
 use Rattle.std.specs.Prelude.{◌≡◌, ℕ, ◌<◌, ◌⊎◌, List, [], ◌∷◌, ◌++◌, length, Option, Some, None, Result, Ok, Err}
 use Rattle.x690.specs.Tree.{Tree, Primitive}
 use Rattle.x690.specs.Reading.{tag_of, children}
@@ -25,7 +25,7 @@ pub record HasOriginAndDestination (t : Tree) (origin destination : List ℕ) : 
 abbrev pub IsBeginOrContinue : Tree → Type 0
 IsBeginOrContinue t = (tag_of t ≡ BEGIN) ⊎ (tag_of t ≡ CONTINUE)
 
--- a Begin's dialogue portion has to hold an AARQ, that of a Continue or an End an AARE
+-- a Begin's dialogue portion must hold an AARQ, that of a Continue or an End an AARE
 abbrev pub IsWanted : TcMessage → Apdu → Type 0
 IsWanted (Begin origin portions) (Aarq context) = Unit {0}
 IsWanted (Continue origin destination portions) (Aare response) = Unit {0}
@@ -34,14 +34,14 @@ IsWanted _ _ = ⊥
 
 pub data Point : Type 0 where
   IsUnidirectional : Point
-  IsAnotherMessage : Point  -- a tag that is no message's
+  IsAnotherMessage : Point  -- a tag of no message
   LacksOrigin : Point  -- a Begin or a Continue
   LacksDestination : Point  -- a Continue
-  BreaksItsForm : Point  -- another child than its own in some place
-  HasUnreadablePortion : Point  -- a dialogue portion that holds no APDU, or another than is wanted
+  BreaksItsForm : Point  -- an unexpected child in some place
+  HasUnreadablePortion : Point  -- a dialogue portion that holds no APDU, or the wrong one
   HasTooManyComponents : Point
 
--- When each point fits.
+-- When each point applies.
 abbrev pub Fits : Point → Tree → Type 0
 Fits IsUnidirectional t = tag_of t ≡ UNIDIRECTIONAL
 Fits IsAnotherMessage t = (tag_of t ≡ BEGIN → ⊥) × (tag_of t ≡ CONTINUE → ⊥) × (tag_of t ≡ END → ⊥) × (tag_of t ≡ ABORT → ⊥)
@@ -62,14 +62,14 @@ cause_of BreaksItsForm = Some INCORRECT_TRANSACTION_PORTION
 cause_of HasUnreadablePortion = Some INCORRECT_TRANSACTION_PORTION
 cause_of HasTooManyComponents = Some RESOURCE_LIMITATION
 
--- The order: first what is seen without reading a portion, then the portions.
+-- The order: first what is found without reading a portion, then the portions.
 abbrev pub message_points : List Point
 message_points = IsUnidirectional ∷ IsAnotherMessage ∷ LacksOrigin ∷ LacksDestination ∷ BreaksItsForm ∷ []
 
 abbrev pub points : List Point
 points = message_points ++ (HasUnreadablePortion ∷ HasTooManyComponents ∷ [])
 
--- An Abort goes to an origin that stands first. An End and an Abort are never answered.
+-- An Abort is sent to an originating id that comes first. An End and an Abort are never answered.
 abbrev pub MayBeAnswered : Tree → List ℕ → Type 0
 MayBeAnswered t origin = HasOrigin t origin × (tag_of t ≡ END → ⊥) × (tag_of t ≡ ABORT → ⊥)
 
@@ -80,7 +80,7 @@ IsAnswer t (Some cause) u =
     ((origin : List ℕ) × MayBeAnswered t origin × (u ≡ Refused origin cause))
     ⊎ (((origin : List ℕ) → MayBeAnswered t origin → ⊥) × (u ≡ Discarded))
 
--- The first of these points that fits says this.
+-- The first of these points that applies says this.
 abbrev pub IsSaidFirst : List Point → Tree → Unread → Type 0
 IsSaidFirst [] t u = ⊥
 IsSaidFirst (point ∷ later) t u = (Fits point t × IsAnswer t (cause_of point) u) ⊎ ((Fits point t → ⊥) × IsSaidFirst later t u)
@@ -89,7 +89,7 @@ abbrev pub NoneFits : List Point → Tree → Type 0
 NoneFits [] t = Unit {0}
 NoneFits (point ∷ later) t = (Fits point t → ⊥) × NoneFits later t
 
--- What a tree is up to its portions: a message, or what the first point says that keeps it from being one.
+-- What a tree is with its portions unread: a message, or what the first point that applies says.
 abbrev pub IsMessageOrNot : Tree → Result TcMessage Unread → Type 0
 IsMessageOrNot t (Ok m) = IsMessage t m
 IsMessageOrNot t (Err u) = IsSaidFirst message_points t u

@@ -1,29 +1,17 @@
--- What may be sent: the premises under which its octets are octets, tell what was sent, and are read again.
-use Rattle.std.specs.Prelude.{ℕ, ℤ, ◌<◌, ◌≤◌, ◌^◌, List, [], length, Option, Some, None}
-use Rattle.std.specs.Int.{w8}
-use Rattle.std.specs.Int.RustNames.{FitsSigned}
+-- What may be sent: the conditions under which its octets are octets, determine what was sent, and are read as that.
+use Rattle.std.specs.Prelude.{ℕ, ◌<◌, ◌≤◌, ◌^◌, List, [], length}
 use Rattle.std.specs.List.{AllByRecursion}
 use Rattle.x690.specs.Tree.{Tree, AreOctets}
+use Rattle.machine.specs.Bounds.{IfThere, IsInvokeId, IsOctet}
 use Rattle.machine.specs.Keys.{Every}
 use Rattle.machine.specs.Sent.{Rejection, SentComponent, Insert, Cancel, UpdateResult, PurgeResult, RouteResult, SentError, Why, NoCause, Cause, Refusing, SentMessage, SentBegin, SentContinue, SentEnd, SentAbort}
 use Rattle.frames.specs.declared.numbers.TheConstants.{MAX_OCTETS, MAX_COMPONENTS}
 use Rattle.frames.specs.MessageForms.{IsTransactionId}
 use Rattle.frames.specs.SentTrees.{component_trees, octets_of_sent}
 
-abbrev pub IsOctet : ℕ → Type 0
-IsOctet n = n < 256
-
 -- digits 0 to 9
 abbrev pub AreDecimal : List ℕ → Type 0
 AreDecimal digits = AllByRecursion (λ digit. digit < 10) digits
-
-abbrev pub IfThere : {A : Type 0} → (A → Type 0) → Option A → Type 0
-IfThere P None = Unit {0}
-IfThere P (Some a) = P a
-
--- an invoke id is from -128 to 127
-abbrev pub IsInvokeId : ℤ → Type 0
-IsInvokeId id = FitsSigned w8 id
 
 abbrev pub SaneComponent : SentComponent → Type 0
 SaneComponent (Insert id imsi msisdn codes) = IsInvokeId id × IfThere AreDecimal imsi × IfThere AreDecimal msisdn × AreOctets codes
@@ -48,7 +36,7 @@ SaneContent (SentContinue origin destination context rejects components) =
 SaneContent (SentEnd destination context rejects components) = AreOctets destination × Every SaneRejection rejects × Every SaneComponent components
 SaneContent (SentAbort destination why) = AreOctets destination × SaneWhy why
 
--- Octets are octets, digits digits, invoke ids fit an octet, and lengths fit four.
+-- Octets are octets, digits are digits, an invoke id fits in one octet, and a length in four.
 pub record Sane (m : SentMessage) : Type 0 where
   pub content : SaneContent m
   pub size : length (octets_of_sent m) < 2 ^ 32
@@ -66,8 +54,8 @@ trees_sent (SentContinue origin destination context rejects components) = compon
 trees_sent (SentEnd destination context rejects components) = component_trees rejects components
 trees_sent (SentAbort destination why) = []
 
--- Within the limits of what is read. What is sent may hold more components than that: a Reject for each of those received
--- and inserts of its own. A peer of this very profile would answer such a frame with an Abort.
+-- Within the limits of what is read. What is sent may hold more components than that: a Reject for each one received, and
+-- inserts of its own. A peer with this same profile would answer such a frame with an Abort.
 pub record Readable (m : SentMessage) : Type 0 where
   pub content : SaneContent m
   pub ids : HasIds m

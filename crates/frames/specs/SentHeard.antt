@@ -19,7 +19,7 @@ component_meant (PurgeResult id freeze) = ResultLast id
 component_meant (RouteResult id imsi msc lmsi) = ResultLast id
 component_meant (SentError id code) = ReturnError id (Number code)
 
--- the operations that are sent are none of a peer's, so that here their parameters are mistyped
+-- a peer may not invoke the operations that are sent, so their parameters are mistyped here
 abbrev pub components_heard : List Rejection → List SentComponent → List Component
 components_heard rejects components = map (λ r. heard (reject_meant r)) rejects ++ map (λ c. heard (component_meant c)) components
 

@@ -1,4 +1,4 @@
--- The trees of what is sent (Q.773; TS 29.002), and its octets.
+-- The trees of what is sent (Q.773; TS 29.002, 17.7), and its octets.
 use Rattle.std.specs.Prelude.{ℕ, ℤ, List, [], ◌∷◌, ◌++◌, map, true, false, Option, Some, None, ◌==◌, if◌then◌else◌, option_map, option_to_list}
 use Rattle.std.specs.Int.{w8, cast_unsigned}
 use Rattle.x690.specs.Tree.{Tree, Primitive, element}
@@ -13,7 +13,7 @@ use Rattle.frames.specs.declared.numbers.TheConstants.{VERSION_1, SERVICE_GRANTE
 use Rattle.frames.specs.ComponentForms.{problem_tag}
 use Rattle.frames.specs.DialogueForms.{octet_in, diagnostic_tree, portion_tree}
 
--- ---- components (Q.773)
+-- ---- components (Q.773, component portion)
 
 abbrev pub id_tree : ℤ → Tree
 id_tree id = Primitive INTEGER (cast_unsigned w8 id ∷ [])
@@ -41,14 +41,14 @@ rejected_tree (Some id) = id_tree id
 abbrev pub reject_tree : Rejection → Tree
 reject_tree r = element REJECT (rejected_tree r.id ∷ Primitive (problem_tag r.side) (r.problem ∷ []) ∷ [])
 
--- ---- parameters (TS 29.002, 17.7)
+-- ---- parameters (TS 29.002: MAP-MS-DataTypes, MAP-SM-DataTypes, MAP-ER-DataTypes)
 
--- serviceGranted goes with the msisdn (profile)
+-- serviceGranted accompanies the msisdn (profile)
 abbrev pub subscriber_trees : Option (List ℕ) → List Tree
 subscriber_trees None = []
 subscriber_trees (Some msisdn) = Primitive INSERT_MSISDN (address_octets msisdn) ∷ Primitive SUBSCRIBER_STATUS (SERVICE_GRANTED ∷ []) ∷ []
 
--- no list where there are no codes
+-- no list if there are no codes
 abbrev pub teleservice_tree : ℕ → Tree
 teleservice_tree code = Primitive OCTET_STRING (code ∷ [])
 
@@ -56,6 +56,7 @@ abbrev pub teleservice_trees : List ℕ → List Tree
 teleservice_trees [] = []
 teleservice_trees (code ∷ codes) = element TELESERVICE_LIST (teleservice_tree code ∷ map teleservice_tree codes) ∷ []
 
+-- InsertSubscriberDataArg
 abbrev pub insert_tree : (imsi msisdn : Option (List ℕ)) → (codes : List ℕ) → Tree
 insert_tree imsi msisdn codes =
     element SEQUENCE (option_to_list (option_map (λ digits. Primitive INSERT_IMSI (tbcd digits)) imsi) ++ (subscriber_trees msisdn ++ teleservice_trees codes))
@@ -64,20 +65,24 @@ abbrev pub cancellation_octet : CancellationType → ℕ
 cancellation_octet UpdateProcedure = UPDATE_PROCEDURE
 cancellation_octet SubscriptionWithdraw = SUBSCRIPTION_WITHDRAW
 
+-- CancelLocationArg
 abbrev pub cancel_tree : (imsi : List ℕ) → CancellationType → Tree
 cancel_tree imsi cancellation = element CANCEL_ARGUMENT (Primitive OCTET_STRING (tbcd imsi) ∷ Primitive ENUMERATED (cancellation_octet cancellation ∷ []) ∷ [])
 
+-- UpdateLocationRes
 abbrev pub update_result_tree : (hlr : List ℕ) → Tree
 update_result_tree hlr = element SEQUENCE (Primitive OCTET_STRING (address_octets hlr) ∷ [])
 
+-- PurgeMS-Res
 abbrev pub purge_result_tree : Tree
 purge_result_tree = element SEQUENCE (Primitive FREEZE_TMSI [] ∷ [])
 
+-- RoutingInfoForSM-Res
 abbrev pub route_result_tree : (imsi msc : List ℕ) → Option (List ℕ) → Tree
 route_result_tree imsi msc lmsi =
     element SEQUENCE (Primitive OCTET_STRING (tbcd imsi) ∷ element LOCATION_INFO (Primitive NETWORK_NODE_NUMBER (address_octets msc) ∷ option_to_list (option_map (Primitive OCTET_STRING) lmsi)) ∷ [])
 
--- only roamingNotAllowed has a parameter: plmnRoamingNotAllowed (profile)
+-- only roamingNotAllowed has a parameter, RoamingNotAllowedParam: plmnRoamingNotAllowed (profile)
 abbrev pub error_parameter : (code : ℕ) → Option Tree
 error_parameter code = if code == ROAMING_NOT_ALLOWED then Some (element SEQUENCE (Primitive ENUMERATED (PLMN_ROAMING_NOT_ALLOWED ∷ []) ∷ [])) else None
 
@@ -90,7 +95,7 @@ component_tree (PurgeResult id false) = empty_result_tree id
 component_tree (RouteResult id imsi msc lmsi) = result_tree id SEND_ROUTING_INFO_FOR_SM (route_result_tree imsi msc lmsi)
 component_tree (SentError id code) = error_tree id code (error_parameter code)
 
--- ---- dialogue APDUs (Q.773); what is sent says version 1 (profile)
+-- ---- dialogue APDUs (Q.773, dialogue portion); what is sent has version 1 (profile)
 
 abbrev pub version_tree : Tree
 version_tree = Primitive VERSION VERSION_1
@@ -117,9 +122,9 @@ accepting context = portion_tree (aare_tree (name_of context) ACCEPTED (OfUser N
 abbrev pub refusing : (name : List ℕ) → Tree
 refusing name = portion_tree (aare_tree name REJECT_PERMANENT (OfUser CONTEXT_NAME_NOT_SUPPORTED))
 
--- ---- messages (Q.773)
+-- ---- messages (Q.773, transaction portion)
 
--- no component portion where there are no components
+-- no component portion if there are no components
 abbrev pub component_portion : List Tree → List Tree
 component_portion [] = []
 component_portion (c ∷ cs) = element COMPONENT_PORTION (c ∷ cs) ∷ []
@@ -143,7 +148,7 @@ abort_tree destination reason = element ABORT (Primitive DESTINATION destination
 abbrev pub cause_tree : (cause : ℕ) → Tree
 cause_tree cause = Primitive ABORT_CAUSE (cause ∷ [])
 
--- the Rejects stand first
+-- the Rejects come first
 abbrev pub component_trees : List Rejection → List SentComponent → List Tree
 component_trees rejects components = map reject_tree rejects ++ map component_tree components
 

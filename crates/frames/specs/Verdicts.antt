@@ -1,4 +1,4 @@
--- The verdict on a tree: the reading. A message is read, then its portions.
+-- Reading the verdict on a tree: the message first, then its portions.
 use Rattle.std.specs.Prelude.{ℕ, List, length, Result, Ok, Err, Option, Some, None, nat_le, if◌then◌else◌, option_map, option_and_then}
 use Rattle.x690.specs.Tree.{Tree}
 use Rattle.machine.specs.Received.{Response, Apdu, Aarq, Aare, Abrt, Message, Begin, Continue, End, Abort, Verdict, Discard, Refuse, Read}
@@ -8,7 +8,7 @@ use Rattle.frames.specs.Messages.{TcMessage, Unread, Discarded, Refused, message
 use Rattle.frames.specs.Dialogues.{dialogue_of}
 use Rattle.frames.specs.Heard.{all_heard}
 
--- the context that an AARQ asks for, and an AARE
+-- the context that an AARQ requests, and an AARE
 abbrev pub request_in : Apdu → Option (List ℕ)
 request_in (Aarq context) = Some context
 request_in (Aare response) = None
@@ -19,12 +19,12 @@ response_in (Aarq context) = None
 response_in (Aare response) = Some response
 response_in (Abrt source) = None
 
--- what an optional dialogue portion holds; nothing where it is unreadable
+-- what an optional dialogue portion holds; nothing if it is unreadable
 abbrev pub portion_of : {A : Type 0} → (Apdu → Option A) → Option Tree → Option (Option A)
 portion_of wanted None = Some None
 portion_of wanted (Some t) = option_map Some (option_and_then wanted (dialogue_of t))
 
--- the message with its portions read; nothing where the dialogue portion is unreadable
+-- the message with its portions read; nothing if the dialogue portion is unreadable
 abbrev pub read_in : TcMessage → Option Message
 read_in (tc.Begin origin p) = option_map (λ context. Begin origin context (all_heard p.components)) (portion_of request_in p.dialogue)
 read_in (tc.Continue origin destination p) = option_map (λ response. Continue origin destination response (all_heard p.components)) (portion_of response_in p.dialogue)

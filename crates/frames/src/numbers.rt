@@ -1,45 +1,45 @@
-//! The numbers and octet strings that stand for themselves, and the limits of this project's profile.
+//! The numbers and octet strings of the standards, and the limits of this project's profile.
 
 /// The abstract syntax of dialogue portions (Q.773): dialogue-as-id, version 1.
 pub const DIALOGUE_AS_ID: [u8; 7] = [0x00, 0x11, 0x86, 0x05, 0x01, 0x01, 0x01];
 
-/// Version 1 of the dialogue portion's protocol as a BIT STRING: seven bits unused, the first set.
+/// Version 1 of the dialogue portion's protocol as a BIT STRING (X.690, 8.6): seven bits unused, the first set.
 pub const VERSION_1: [u8; 2] = [0x07, 0x80];
 
 // Limits (profile).
 
-/// The octets of a frame.
+/// The most octets in a frame.
 pub const MAX_OCTETS: usize = 4096;
 
-/// The levels of a frame's tree.
+/// The most levels in a frame's tree.
 pub const MAX_LEVELS: usize = 32;
 
-/// The components of a message.
+/// The most components in a message.
 pub const MAX_COMPONENTS: usize = 16;
 
-/// The octets of an application context's name.
+/// The most octets in an application context's name.
 pub const MAX_CONTEXT_NAME: usize = 32;
 
 // P-Abort causes (Q.773).
 
-/// A tag that is no message's.
+/// The tag is of no message.
 pub const UNRECOGNIZED_MESSAGE_TYPE: u8 = 0;
 
-/// A Continue without a destination transaction id.
+/// A Continue has no destination transaction id.
 pub const BADLY_FORMATTED_TRANSACTION_PORTION: u8 = 2;
 
-/// Another child than a message has, or an unreadable dialogue portion.
+/// A message has an unexpected child, or an unreadable dialogue portion.
 pub const INCORRECT_TRANSACTION_PORTION: u8 = 3;
 
-/// Too many components, or no room for a dialogue.
+/// A message has too many components, or there is no room for a dialogue.
 pub const RESOURCE_LIMITATION: u8 = 4;
 
 // General problems (Q.773).
 
-/// A tag that is no component's.
+/// The tag is of no component.
 pub const UNRECOGNIZED_COMPONENT: u8 = 0;
 
-/// Any other fault of a component.
+/// The component has any other fault.
 pub const MISTYPED_COMPONENT: u8 = 1;
 
 // The result of an AARE, and the user's diagnostics (Q.773).
@@ -56,32 +56,32 @@ pub const NO_DIAGNOSTIC: u8 = 0;
 /// The diagnostic application-context-name-not-supported.
 pub const CONTEXT_NAME_NOT_SUPPORTED: u8 = 2;
 
-// Operations (TS 29.002).
+// Operations (TS 29.002, MAP-MobileServiceOperations and MAP-ShortMessageServiceOperations).
 
-/// updateLocation.
+/// updateLocation (8.1.2, MAP_UPDATE_LOCATION).
 pub const UPDATE_LOCATION: u8 = 2;
 
-/// cancelLocation.
+/// cancelLocation (8.1.3, MAP_CANCEL_LOCATION).
 pub const CANCEL_LOCATION: u8 = 3;
 
-/// insertSubscriberData.
+/// insertSubscriberData (8.8.1, MAP-INSERT-SUBSCRIBER-DATA).
 pub const INSERT_SUBSCRIBER_DATA: u8 = 7;
 
-/// sendRoutingInfoForSM.
+/// sendRoutingInfoForSM (12.1, MAP-SEND-ROUTING-INFO-FOR-SM).
 pub const SEND_ROUTING_INFO_FOR_SM: u8 = 45;
 
-/// purgeMS.
+/// purgeMS (8.1.6, MAP_PURGE_MS).
 pub const PURGE_MS: u8 = 67;
 
-// Errors and values (TS 29.002).
+// Errors and values (TS 29.002, MAP-Errors, MAP-ER-DataTypes and MAP-MS-DataTypes).
 
-/// The error that is sent with a parameter.
+/// roamingNotAllowed, the error that is sent with a parameter.
 pub const ROAMING_NOT_ALLOWED: u8 = 8;
 
-/// The cause of roamingNotAllowed that is sent.
+/// The roamingNotAllowedCause that is sent: plmnRoamingNotAllowed.
 pub const PLMN_ROAMING_NOT_ALLOWED: u8 = 0;
 
-/// The subscriber status that is sent.
+/// The subscriberStatus that is sent: serviceGranted.
 pub const SERVICE_GRANTED: u8 = 0;
 
 /// The cancellationType updateProcedure.

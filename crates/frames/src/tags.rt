@@ -1,8 +1,8 @@
-//! The tags that are read and sent, each by the name of what it stands for.
+//! The tags that are read and sent (X.690, 8.1.2), each with its name in the standards.
 
 use x690::{Class, Tag};
 
-// Universal types (X.680).
+// Universal types (X.680; contents: X.690, 8.3 to 8.19).
 
 /// `02`: an INTEGER.
 pub const INTEGER: Tag = Tag {
@@ -125,30 +125,30 @@ pub const COMPONENT_PORTION: Tag = Tag {
     number: 12,
 };
 
-// Dialogue portions (Q.773).
+// Dialogue portions and their APDUs (Q.773).
 
-/// `A0`: the encoding of an EXTERNAL that is one type.
+/// `A0`: single-ASN1-type, the encoding of an EXTERNAL (X.690, 8.18).
 pub const SINGLE_ASN1_TYPE: Tag = Tag {
     class: Class::ContextSpecific,
     constructed: true,
     number: 0,
 };
 
-/// `60`: a dialogue request.
+/// `60`: an AARQ, a dialogue request.
 pub const AARQ: Tag = Tag {
     class: Class::Application,
     constructed: true,
     number: 0,
 };
 
-/// `61`: a dialogue response.
+/// `61`: an AARE, a dialogue response.
 pub const AARE: Tag = Tag {
     class: Class::Application,
     constructed: true,
     number: 1,
 };
 
-/// `64`: a dialogue abort.
+/// `64`: an ABRT, a dialogue abort.
 pub const ABRT: Tag = Tag {
     class: Class::Application,
     constructed: true,
@@ -197,14 +197,14 @@ pub const DIAGNOSTIC_OF_PROVIDER: Tag = Tag {
     number: 2,
 };
 
-/// `80`: who aborts, in an ABRT.
+/// `80`: the abort source of an ABRT.
 pub const ABORT_SOURCE: Tag = Tag {
     class: Class::ContextSpecific,
     constructed: false,
     number: 0,
 };
 
-/// `BE`: the user's information, which is not read.
+/// `BE`: the user information, which is not read.
 pub const USER_INFORMATION: Tag = Tag {
     class: Class::ContextSpecific,
     constructed: true,
@@ -283,7 +283,7 @@ pub const ERROR_PROBLEM: Tag = Tag {
     number: 3,
 };
 
-// updateLocation (TS 29.002, 17.7).
+// UpdateLocationArg (TS 29.002, 17.7.1).
 
 /// `81`: the msc-Number.
 pub const UPDATE_MSC_NUMBER: Tag = Tag {
@@ -299,7 +299,7 @@ pub const UPDATE_LMSI: Tag = Tag {
     number: 10,
 };
 
-// insertSubscriberData (TS 29.002, 17.7).
+// InsertSubscriberDataArg (TS 29.002, 17.7.1).
 
 /// `80`: the imsi.
 pub const INSERT_IMSI: Tag = Tag {
@@ -329,7 +329,7 @@ pub const TELESERVICE_LIST: Tag = Tag {
     number: 6,
 };
 
-// cancelLocation (TS 29.002, 17.7).
+// CancelLocationArg (TS 29.002, 17.7.1).
 
 /// `A3`: the argument.
 pub const CANCEL_ARGUMENT: Tag = Tag {
@@ -338,7 +338,7 @@ pub const CANCEL_ARGUMENT: Tag = Tag {
     number: 3,
 };
 
-// purgeMS (TS 29.002, 17.7).
+// PurgeMS-Arg and PurgeMS-Res (TS 29.002, 17.7.1).
 
 /// `A3`: the argument.
 pub const PURGE_ARGUMENT: Tag = Tag {
@@ -368,7 +368,7 @@ pub const FREEZE_TMSI: Tag = Tag {
     number: 0,
 };
 
-// sendRoutingInfoForSM (TS 29.002, 17.7).
+// RoutingInfoForSM-Arg and RoutingInfoForSM-Res (TS 29.002, 17.7.6).
 
 /// `80`: the msisdn.
 pub const ROUTE_MSISDN: Tag = Tag {

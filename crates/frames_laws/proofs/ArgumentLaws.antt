@@ -1,4 +1,4 @@
--- A parameter is read exactly where the tree has its form: its type, and its value.
+-- A parameter is read exactly if the tree has its form: its type, and its value.
 use Rattle.std.proofs.Common.{◌≡◌, ℕ, Bool, true, false, cond, eqb, List, [], ◌∷◌, ◌++◌, refl, ap, sym, ◌∙◌, subst, inl, inr}
 use Rattle.std.specs.Prelude.{Option, Some, None, option_and_then, option_map, unwrap_or}
 use Rattle.std.proofs.lemmas.Bool.{eqb-true, eq-eqb}
@@ -199,7 +199,7 @@ route_value_found octets a e =
 
 -- ---- parameters
 
--- what ties the reading of an operation's argument to its form
+-- what connects the reading of an operation's argument with its form
 record Tied (operation : ℕ) (t : Tree) (C : Type 0) (contents : Option C) (value : C → Option Argument) : Type 0 where
   is_typed : (c : C) → contents ≡ Some c → IsTyped operation t
   typed_is : IsTyped operation t → (c : C) × (contents ≡ Some c)

@@ -125,7 +125,7 @@ parameter_within Other t (Typed a) h is = absurd is
 
 -- ---- components
 
--- the id in front, and the parameter of an Invoke
+-- the first id, and the parameter of an Invoke
 invoke_parts : (t : Tree) (id : ℤ) (linked : Option ℤ) (code : Code) (p : Option Tree) → HasOctets t → IsWellFormed t (Invoke id linked code p) → IsInvokeId id × ListOctets (option_to_list p)
 invoke_parts t id linked code p h (i, is_id, ls, are_linked, cs, (u, is_code, coded), is) =
     let inner = subst HasOctets is h in

@@ -1,4 +1,4 @@
--- A tree is read as a component exactly where it has the component's form, ill-formed ones among them.
+-- A tree is read as a component exactly if it has the component's form, ill-formed ones among them.
 use Rattle.std.proofs.Common.{◌≡◌, ℕ, ℤ, List, [], ◌∷◌, ◌++◌, refl, ap, sym, ◌∙◌, subst, arith, inl, inr, ◌⊎◌}
 use Rattle.std.specs.Prelude.{Option, Some, None, option_and_then, option_map, option_to_list, unwrap_or}
 use Rattle.std.specs.Int.{w8, cast_signed}
@@ -65,7 +65,7 @@ body_found ts x e =
     let same : (code.0, parameter) ≡ x = some_is e2 in
     subst (λ y. AreCoded ts y.0 y.1) same (coded_found ts code parameter is_code is_parameter)
 
--- behind its id i, what was read as a component is one
+-- what was read as a component after its id i is one
 invoke_found : (i : Tree) (id : ℤ) (ts : List Tree) (c : ComponentOf Tree) → IsId INTEGER i id → invoke id ts ≡ Some c → IsWellFormed (element INVOKE (i ∷ ts)) c
 unfolding invoke
 invoke_found i id ts c is_id e =
@@ -194,7 +194,7 @@ error_again : (id : ℤ) (cs : List Tree) (code : Code) (p : Option Tree) → Ar
 unfolding error
 error_again id cs code p h = ap (option_and_then (λ body. Some (ReturnError id body.0))) (coded_again cs code p h)
 
--- a body behind an id
+-- a body after an id
 body_again : (body : ℤ → List Tree → Option (ComponentOf Tree)) (i : Tree) (id : ℤ) (ts : List Tree) (c : ComponentOf Tree) → IsId INTEGER i id → body id ts ≡ Some c → identified body (i ∷ ts) ≡ c
 body_again body i id ts c (n, is, same) e =
     ap (λ u. identified body (u ∷ ts)) is ∙ ap (λ j. behind_id body (Some (j, ts))) same ∙ ap (λ o. unwrap_or o (Bad (Some id) MISTYPED_COMPONENT)) e
@@ -266,7 +266,7 @@ well_formed t Ignored h = absurd h
 abbrev Finds : Tag → (ℤ → List Tree → Option (ComponentOf Tree)) → Type 0
 Finds tag body = (i : Tree) (id : ℤ) (ts : List Tree) (c : ComponentOf Tree) → IsId INTEGER i id → body id ts ≡ Some c → IsWellFormed (element tag (i ∷ ts)) c
 
--- an id in front is read, and where none is read none stands there
+-- an id that comes first is read, and if none is read none comes first
 front_read : (ts : List Tree) (id : ℤ) → BeginsWithId ts id → (rest : List Tree) × (first (id_under INTEGER) ts ≡ Some (id, rest))
 front_read ts id (i, rest, (n, is, same), e) = (rest, ap (first (id_under INTEGER)) (e ∙ ap (λ u. u ∷ rest) is) ∙ ap (λ j. Some (j, rest)) same)
 
@@ -330,7 +330,7 @@ component_found t = tag_is t (children_of INVOKE t) (children_of RESULT_LAST t) 
 
 -- ---- and no other
 
--- with an id's tag, what is read is what stands behind the id
+-- with an id's tag, what is read is what follows the id
 record Under (t : Tree) (ts : List Tree) : Type 0 where
   tag : Tag
   body : ℤ → List Tree → Option (ComponentOf Tree)
@@ -351,7 +351,7 @@ no_id_again t ts has none = let u = under_tag t ts has in u.read ∙ go u.body (
     go body None e = refl
     go body (Some x) e = let (i, parts, read) = first-some (id_under INTEGER) ts x e in absurd (none x.0 (i, x.1, id_found INTEGER i x.0 read, parts))
 
--- with an id in front, what is no well-formed component is bad, with this id
+-- what begins with an id and is no well-formed component is bad, with this id
 bad_again : (t : Tree) (ts : List Tree) (id : ℤ) → HasIdTag t ts → BeginsWithId ts id → IsIll t → component_of t ≡ Bad (Some id) MISTYPED_COMPONENT
 bad_again t ts id has (i, rest, is_id, parts) ill =
     let u = under_tag t ts has in

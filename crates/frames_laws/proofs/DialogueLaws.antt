@@ -1,4 +1,4 @@
--- A dialogue portion is read exactly where the tree has its form.
+-- A dialogue portion is read exactly if the tree has its form.
 use Rattle.std.proofs.Common.{◌≡◌, ℕ, ◌≤◌, Bool, true, false, leb, ltb, cond, ◌&&◌, List, [], ◌∷◌, ◌++◌, length, refl, ap, sym, ◌∙◌, subst, arith, inl, inr, ◌⊎◌}
 use Rattle.std.specs.Prelude.{Option, Some, None, option_and_then, option_map, is_some}
 use Rattle.std.specs.Str.{bytes_eq}

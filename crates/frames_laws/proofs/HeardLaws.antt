@@ -1,4 +1,4 @@
--- Trees are heard as components exactly where they have the components' forms.
+-- Trees are heard as components exactly if they have the components' forms.
 use Rattle.std.proofs.Common.{◌≡◌, List, [], ◌∷◌, refl, ap, ◌∙◌}
 use Rattle.std.specs.Prelude.{Some, None}
 use Rattle.x690.specs.Tree.{Tree}

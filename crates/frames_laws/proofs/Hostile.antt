@@ -31,7 +31,7 @@ octet_after front t octet is u also =
     let len = ap length same in
     omega (arith, length-append front (octet ∷ []))
 
--- ---- a first length octet that none is
+-- ---- a first octet that begins no length
 
 -- how an element begins
 begins : (octets : List ℕ) (t : Tree) → Spells octets t → (c : Bool) × (tag : Tag) × IsTag c tag × ((rest : List ℕ) × (octets ≡ identifier tag ++ rest))
@@ -103,7 +103,7 @@ open_primitive first rest (Constructed tag ts) small (is, contents, all, inr e) 
 
 -- ---- numbers of tags
 
--- behind the low bits 11111 a number below 31 does not stand, and no first group of zeros
+-- after the low bits 11111 there is no number below 31, and no first group of zeros
 number_not_small : (n second : ℕ) (x rest : List ℕ) → 31 ≤ n → n < 2 ^ 28 → second < 31 → number_octets n ++ x ≡ second ∷ rest → ⊥
 unfolding number_octets
 number_not_small n second x rest h k small e = grind (arith, nat_tests)

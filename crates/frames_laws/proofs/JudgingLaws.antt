@@ -45,7 +45,7 @@ answered t (tc.Continue o d p) cause (ts, are, fits, fits', e) =
 answered t (tc.End d p) cause (ts, are, fits, e) = (Discarded, inr ((λ o may. may.1 (ap tag_of e)), refl), refl)
 answered t (tc.Abort d) cause (ts, are, fits, e) = (Discarded, inr ((λ o may. may.2 (ap tag_of e)), refl), refl)
 
--- a point on the portions decides
+-- a point about the portions decides
 abbrev portion_points : List Point
 portion_points = HasUnreadablePortion ∷ HasTooManyComponents ∷ []
 

@@ -14,6 +14,8 @@ pub mod Laws
 pub mod OctetLaws
 pub mod Styles
 pub mod Computed
+pub mod PortionsComputed
+pub mod AccountsComputed
 pub mod Hostile
 pub mod BoundLaws
 pub mod SizeLaws
@@ -21,3 +23,8 @@ pub mod SaneLaws
 pub mod BoundedRuns
 pub mod Amongs
 pub mod AccountedEntries
+pub mod Counts
+pub mod Totals
+pub mod MergedJobs
+pub mod IdentitiesComputed
+pub mod TagsComputed

@@ -1,4 +1,4 @@
--- A message is read exactly where the tree has its form.
+-- A message is read exactly if the tree has its form.
 use Rattle.std.proofs.Common.{◌≡◌, ℕ, Bool, true, false, leb, cond, ◌&&◌, ◌||◌, List, [], ◌∷◌, ◌++◌, length, refl, ap, sym, ◌∙◌, subst, inl, inr, ◌⊎◌, append-nil}
 use Rattle.std.specs.Prelude.{Result, Ok, Err, Option, Some, None, option_map, unwrap_or}
 use Rattle.std.specs.Option.{ok_or, is_some}

@@ -157,7 +157,7 @@ either_length (first ∷ octets) n = either_or _ _ short long
     long = either_as ((1 ≤ length octets) × ((length octets ≤ 4) × ((first ≡ 128 + length octets) × (n ≡ unsigned octets)))) _ (λ h. (h.0, h.1.0, h.1.1.0, h.1.1.1)) (λ h. (h.0, (h.1, (h.2, h.3))))
         (both_then _ _ (either_most 1 _) (λ p. both_then _ _ (either_most _ 4) (λ q. both_then _ _ (either_equal first _) (λ r. either_equal n _))))
 
--- ---- elements, where it is decided what shorter texts are
+-- ---- elements, if it is decided what shorter texts are
 
 abbrev Shorter : (List ℕ → Type 0) → List ℕ → Type 0
 Shorter Q text = (contents : List ℕ) → length contents < length text → Either (Q contents)

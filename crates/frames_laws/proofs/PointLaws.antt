@@ -97,7 +97,7 @@ not_unknown : (t : Tree) → IsBeginOrContinue t → Unknown t → ⊥
 not_unknown t (inl e) h = h.0 e
 not_unknown t (inr e) h = h.1 e
 
--- ---- a message passes the points up to its portions
+-- ---- a message passes the points that do not read its portions
 
 passes : (t : Tree) → (tag_of t ≡ UNIDIRECTIONAL → ⊥) → (Unknown t → ⊥) → (IsBeginOrContinue t × ((o : List ℕ) → HasOrigin t o → ⊥) → ⊥)
     → ((tag_of t ≡ CONTINUE) × ((o d : List ℕ) → HasOriginAndDestination t o d → ⊥) → ⊥) → (m : TcMessage) → IsMessage t m → NoneFits message_points t
@@ -119,7 +119,7 @@ message_passes t (tc.Abort d) (ts, are, fits, e) =
     let tag : tag_of t ≡ ABORT = ap tag_of e in
     passes t (λ f. other t ABORT UNIDIRECTIONAL refl tag f) (λ h. h.3 tag) (λ h. neither t ABORT refl refl tag h.0) (λ h. other t ABORT CONTINUE refl tag h.0) (tc.Abort d) (ts, are, fits, e)
 
--- ---- where no message is read, a point says what becomes of the tree
+-- ---- if no message is read, a point says what becomes of the tree
 
 abbrev NoMessage : Tree → Type 0
 NoMessage t = (m : TcMessage) → IsMessage t m → ⊥
@@ -357,7 +357,7 @@ unread_found (Constructed tag ts) u e =
     go (inr b) (inr c) (inr n) (inr a) (inr d) =
         unknown_said (Constructed tag ts) u (b, c, n, a) d (no_message (Constructed tag ts) u e) (first (transaction_id_under ORIGIN) (list_of ts)) refl (sym (message_unknown tag ts b c n a d) ∙ e)
 
--- ---- what a tree is up to its portions
+-- ---- what a tree is with its portions unread
 
 pub message_or_not_found : (t : Tree) (r : Result TcMessage Unread) → message_of t ≡ r → IsMessageOrNot t r
 message_or_not_found t (Ok m) e = message_found t m e

@@ -1,4 +1,4 @@
--- A message is read with its portions exactly where the tree is that message.
+-- A message is read with its portions exactly if the tree is that message.
 use Rattle.std.proofs.Common.{◌≡◌, ℕ, List, refl, ap, sym, ◌∙◌, subst}
 use Rattle.std.specs.Prelude.{Result, Ok, Option, Some, None, option_map, option_and_then}
 use Rattle.x690.specs.Tree.{Tree}
@@ -132,7 +132,7 @@ has_portion (tc.Abort destination) e = absurd cc
 pub unreadable : (m : TcMessage) → read_in m ≡ None → (portion : Tree) × (dialogue_in m ≡ Some portion) × ((apdu : Apdu) → IsWanted m apdu → IsDialogue portion apdu → ⊥)
 unreadable m e = let (portion, is) = has_portion m e in (portion, is, λ apdu w h. wanted_read m portion apdu is w h e)
 
--- and where one is read, what its portion holds is wanted
+-- and if one is read, what its portion holds is wanted
 held : {A : Type 0} (apdu : A → Apdu) (portion : Tree) (d : Option Tree) (a : Option A) → d ≡ Some portion → IsPortion apdu d a → (b : A) × IsDialogue portion (apdu b)
 held apdu portion None a e h = absurd cc
 held apdu portion (Some t) None e h = absurd h

@@ -1,13 +1,13 @@
 -- What the machine sends within its bounds may be sent.
-use Rattle.std.proofs.Common.{◌≡◌, ℕ, ℤ, ◌<◌, ◌≤◌, ◌^◌, List, [], ◌∷◌, length, arith}
+use Rattle.std.proofs.Common.{◌≡◌, ℕ, ◌<◌, ◌≤◌, ◌^◌, List, [], ◌∷◌, length, arith}
 use Rattle.std.specs.Prelude.{Option, Some, None}
 use Rattle.x690.specs.Tree.{AreOctets as AllOctets}
 use Rattle.machine.specs.Keys.{Every}
 use Rattle.machine.specs.Sent.{Rejection, SentComponent, Insert, Cancel, UpdateResult, PurgeResult, RouteResult, SentError, Why, NoCause, Cause, Refusing, SentMessage, SentBegin, SentContinue, SentEnd, SentAbort}
-use Rattle.machine.specs.Bounds.{IfThere, AreDigits, AreOctets, IsInvokeId, IsTransactionId, RejectInBounds, SentComponentInBounds, WhyInBounds, SentInBounds}
+use Rattle.machine.specs.Bounds.{IfThere, AreDigits, AreOctets, IsTransactionId, RejectInBounds, SentComponentInBounds, WhyInBounds, SentInBounds}
 use Rattle.frames.specs.declared.numbers.TheConstants.{MAX_OCTETS}
 use Rattle.frames.specs.MessageForms.{IsTransactionId as HasIdLength}
-use Rattle.frames.specs.Sane.{AreDecimal, IfThere as IfHas, SaneComponent, SaneRejection, SaneWhy, SaneContent, Sane, HasIds}
+use Rattle.frames.specs.Sane.{AreDecimal, SaneComponent, SaneRejection, SaneWhy, SaneContent, Sane, HasIds}
 use Rattle.frames.specs.SentTrees.{octets_of_sent}
 use Rattle.frames_laws.proofs.SizeLaws.{sent_size}
 
@@ -21,11 +21,11 @@ digits_sane : (digits : List ℕ) → Every (λ d. d < 10) digits → AreDecimal
 digits_sane [] h = tt
 digits_sane (d ∷ ds) h = (h.0, digits_sane ds h.1)
 
-digits_if : (digits : Option (List ℕ)) → IfThere AreDigits digits → IfHas AreDecimal digits
+digits_if : (digits : Option (List ℕ)) → IfThere AreDigits digits → IfThere AreDecimal digits
 digits_if None h = tt
 digits_if (Some digits) h = digits_sane digits h.0
 
-lmsi_if : (lmsi : Option (List ℕ)) → IfThere (λ l. AreOctets l × (length l ≡ 4)) lmsi → IfHas AllOctets lmsi
+lmsi_if : (lmsi : Option (List ℕ)) → IfThere (λ l. AreOctets l × (length l ≡ 4)) lmsi → IfThere AllOctets lmsi
 lmsi_if None h = tt
 lmsi_if (Some lmsi) h = octets_sane lmsi h.0
 
@@ -47,11 +47,7 @@ components_sane [] h = tt
 components_sane (c ∷ cs) h = (component_sane c h.0, components_sane cs h.1)
 
 reject_sane : (r : Rejection) → RejectInBounds r → SaneRejection r
-reject_sane r h = (by r.id h.0, h.1)
-  where
-    by : (id : Option ℤ) → IfThere IsInvokeId id → IfHas IsInvokeId id
-    by None g = tt
-    by (Some id) g = g
+reject_sane r h = h
 
 rejects_sane : (rs : List Rejection) → Every RejectInBounds rs → Every SaneRejection rs
 rejects_sane [] h = tt

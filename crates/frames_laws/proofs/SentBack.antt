@@ -16,7 +16,8 @@ use Rattle.machine.specs.Sent.{Context, NetworkLocUp, LocationCancellation, Subs
 use Rattle.machine.specs.Contexts.{name_of}
 use Rattle.frames.specs.declared.tags.TheConstants.{NULL, DIALOGUE_PORTION, COMPONENT_PORTION}
 use Rattle.frames.specs.declared.numbers.TheConstants.{INSERT_SUBSCRIBER_DATA, UPDATE_LOCATION, PURGE_MS, UPDATE_PROCEDURE}
-use Rattle.frames.specs.Sane.{IfThere, IsInvokeId, SaneComponent, SaneRejection, SaneContent}
+use Rattle.machine.specs.Bounds.{IfThere, IsInvokeId}
+use Rattle.frames.specs.Sane.{SaneComponent, SaneRejection, SaneContent}
 use Rattle.frames.specs.SentTrees.{error_tree, reject_tree, error_parameter, component_tree, teleservice_tree, asking, accepting, component_portion, portion_trees, component_trees, reason_tree, tree_of}
 
 -- ---- parts of a tree

@@ -17,7 +17,8 @@ use Rattle.frames.specs.DialogueForms.{AreVersion, IsDialogue, portion_tree}
 use Rattle.frames.specs.ComponentForms.{IsId, AreCoded, AreOutcome, IsRejected, IsWellFormed}
 use Rattle.frames.specs.Heard.{heard, heard_of, all_heard, AreHeard}
 use Rattle.frames.specs.Frames.{IsPortion, Reads, IsVerdict}
-use Rattle.frames.specs.Sane.{IfThere, IsInvokeId, SaneComponent, SaneRejection, SaneContent, HasIds, trees_sent, Readable}
+use Rattle.machine.specs.Bounds.{IfThere, IsInvokeId}
+use Rattle.frames.specs.Sane.{SaneComponent, SaneRejection, SaneContent, HasIds, trees_sent, Readable}
 use Rattle.frames.specs.SentTrees.{insert_tree, cancel_tree, update_result_tree, purge_result_tree, route_result_tree, id_tree, code_tree, rejected_tree, reject_tree, component_tree, error_parameter, version_tree, context_tree, aarq_tree, aare_tree, abrt_tree, asking, accepting, component_portion, portion_trees, component_trees, reason_tree, tree_of, octets_of_sent}
 use Rattle.frames.specs.SentHeard.{reject_meant, component_meant, components_heard, accepted_heard, message_heard}
 use Rattle.frames_laws.proofs.ComponentLaws.{well_formed_again}

@@ -1,5 +1,5 @@
 -- What is sent has tags that elements can have, octets as contents, and at most eight levels. So its octets are octets, they
--- spell it, and they tell what was sent.
+-- spell it, and they determine what was sent.
 use Rattle.std.proofs.Common.{◌≡◌, ℕ, ℤ, ◌-◌, ◌^◌, ◌<◌, ◌≤◌, Bool, true, false, ◌&&◌, ltb, leb, max, cond, eqb, List, [], ◌∷◌, ◌++◌, length, refl, sym, subst, arith}
 use Rattle.std.specs.Prelude.{Option, Some, None, map, option_map, option_to_list}
 use Rattle.std.specs.Int.{w8, cast_unsigned}
@@ -21,7 +21,8 @@ use Rattle.machine.specs.Sent.{Context, NetworkLocUp, LocationCancellation, Subs
 use Rattle.machine.specs.Contexts.{name_of}
 use Rattle.frames.specs.declared.tags.TheConstants.{OCTET_STRING, ENUMERATED, INSERT_IMSI, SEQUENCE}
 use Rattle.frames.specs.declared.numbers.TheConstants.{SERVICE_GRANTED, INSERT_SUBSCRIBER_DATA, CANCEL_LOCATION, UPDATE_PROCEDURE, SUBSCRIPTION_WITHDRAW, UPDATE_LOCATION, PURGE_MS, SEND_ROUTING_INFO_FOR_SM, DIALOGUE_AS_ID, VERSION_1, ROAMING_NOT_ALLOWED, PLMN_ROAMING_NOT_ALLOWED, ACCEPTED, REJECT_PERMANENT, NO_DIAGNOSTIC, CONTEXT_NAME_NOT_SUPPORTED}
-use Rattle.frames.specs.Sane.{AreDecimal, IfThere, IsInvokeId, SaneComponent, SaneRejection, SaneContent, Sane}
+use Rattle.machine.specs.Bounds.{IfThere, IsInvokeId}
+use Rattle.frames.specs.Sane.{AreDecimal, SaneComponent, SaneRejection, SaneContent, Sane}
 use Rattle.frames.specs.SentTrees.{rejected_tree, reject_tree, subscriber_trees, teleservice_tree, teleservice_trees, error_parameter, component_tree, aare_tree, asking, accepting, component_portion, portion_trees, component_trees, tree_of, octets_of_sent}
 use Rattle.frames.specs.DialogueForms.{portion_tree}
 use Rattle.frames_laws.proofs.SentBack.{one_tree_sent}
@@ -229,7 +230,7 @@ sent_fine (SentAbort destination (Refusing name)) h =
 pub sent_levels : (m : SentMessage) → SaneContent m → levels (tree_of m) ≤ 8
 sent_levels m h = fine_levels (tree_of m) 8 (sent_fine m h)
 
--- what is sent is made of octets
+-- what is sent consists of octets
 pub sent_octets : (m : SentMessage) → SaneContent m → AreOctets (octets_of_sent m)
 unfolding octets_of_sent
 sent_octets m h = enc_is_octets (tree_of m) (fine_octets (tree_of m) 8 (sent_fine m h))
@@ -239,7 +240,7 @@ pub sent_spells : (m : SentMessage) → SaneContent m → length (octets_of_sent
 unfolding octets_of_sent
 sent_spells m h size = enc_spells (tree_of m) (fine_tags (tree_of m) 8 (sent_fine m h)) size
 
--- its octets tell what was sent
+-- its octets determine what was sent
 pub octets_tell : (m n : SentMessage) → Sane m → Sane n → octets_of_sent m ≡ octets_of_sent n → m ≡ n
 octets_tell m n h k e =
     let a = sent_spells m h.content h.size in

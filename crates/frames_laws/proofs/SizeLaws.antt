@@ -16,7 +16,7 @@ use Rattle.frames.specs.declared.tags.TheConstants.{SEQUENCE, ENUMERATED, OCTET_
 use Rattle.frames.specs.DialogueForms.{portion_tree}
 use Rattle.frames.specs.SentTrees.{invoke_tree, result_tree, cancel_tree, update_result_tree, route_result_tree, rejected_tree, reject_tree, subscriber_trees, teleservice_tree, teleservice_trees, insert_tree, error_parameter, component_tree, aare_tree, asking, accepting, component_portion, portion_trees, component_trees, tree_of, octets_of_sent}
 
--- ---- no element takes more than eleven octets beside its contents
+-- ---- no element takes more than eleven octets besides its contents
 
 abbrev mutual
   weight : Tree → ℕ

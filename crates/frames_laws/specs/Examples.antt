@@ -1,5 +1,5 @@
--- Worked examples, octet for octet: what received octets read to, and the octets that are sent. Local ids are any that may
--- be taken.
+-- Worked examples, octet for octet: what received octets read to, and the octets that are sent. Local ids are any allowed
+-- ones.
 use Rattle.std.specs.Prelude.{◌≡◌, pos, negsuc, [], ◌∷◌, ◌++◌, Some, None, true, false, replicate}
 use Rattle.machine.specs.Received.{General, OfInvoke, OfResult, OfError, BadValue, Update, Purge, Route, Mistyped, Typed, Number, Other, Invoke, ResultLast, ResultNotLast, ReturnError, Reject, Bad, Ignored, OfUser, OfProvider, Begin, Continue, End, Abort, Discard, Refuse, Read}
 use Rattle.machine.specs.Sent.{NetworkLocUp, LocationCancellation, SubscriberDataMngt, ShortMsgGateway, MsPurging, UpdateProcedure, SubscriptionWithdraw, Insert, Cancel, UpdateResult, PurgeResult, RouteResult, SentError, NoCause, Cause, Refusing, SentBegin, SentContinue, SentEnd, SentAbort}
@@ -7,7 +7,7 @@ use Rattle.frames.specs.Frames.{IsVerdict}
 use Rattle.frames.specs.SentTrees.{octets_of_sent}
 use Rattle.frames_laws.specs.Written.{hex, digits}
 
--- The first example: a short message is routed, and where to.
+-- The first example: where a short message is routed to.
 pub record FirstRoute : Type 0 where
   pub received : IsVerdict (hex "62 47 48 04 00 00 00 01 6B 1E 28 1C 06 07 00 11 86 05 01 01 01 A0 11 60 0F 80 02 07 80 A1 09 06 07 04 00 00 01 00 14 03 6C 1F A1 1D 02 01 01 02 01 2D 30 15 80 07 91 44 77 00 09 00 00 81 01 FF 82 07 91 44 77 00 09 99 99")
       (Read (Begin (hex "00 00 00 01") (Some (hex "04 00 00 01 00 14 03")) (Invoke (pos 1) None (Number 45) (Some (Typed (Route (digits "447700900000")))) ∷ [])))
@@ -44,7 +44,7 @@ pub record BadlyFormedTransactions : Type 0 where
   pub an_end_with_it : IsVerdict (hex "64 08 49 04 01 00 00 01 05 00") Discard
   pub unidirectional : IsVerdict (hex "61 06 48 04 00 00 00 01") Discard
 
--- Frames for no dialogue, and a Continue without a destination.
+-- Frames without an open dialogue, and a Continue without a destination id.
 pub record UnknownDialogues : Type 0 where
   pub a_continue : IsVerdict (hex "65 0C 48 04 00 00 00 07 49 04 01 00 00 01")
       (Read (Continue (hex "00 00 00 07") (hex "01 00 00 01") None []))
@@ -57,7 +57,7 @@ pub record UnknownDialogues : Type 0 where
   pub no_destination : IsVerdict (hex "65 0D 48 04 00 00 00 07 49 05 01 00 00 00 01")
       (Refuse (hex "00 00 00 07") 2)
 
--- Ids are octet strings: three octets are another id than four.
+-- Ids are octet strings: three octets are not the same id as four.
 pub record ShortIds : Type 0 where
   pub received : IsVerdict (hex "65 0B 48 04 00 00 00 07 49 03 00 00 01")
       (Read (Continue (hex "00 00 00 07") (hex "00 00 01") None []))
@@ -95,12 +95,12 @@ pub record RepeatedCancel : Type 0 where
   pub again : octets_of_sent (SentBegin (hex "01 00 00 03") LocationCancellation (Cancel (pos 1) (digits "234150000000001") UpdateProcedure ∷ []))
       ≡ hex "62 3F 48 04 01 00 00 03 6B 1E 28 1C 06 07 00 11 86 05 01 01 01 A0 11 60 0F 80 02 07 80 A1 09 06 07 04 00 00 01 00 02 03 6C 17 A1 15 02 01 01 02 01 03 A3 0D 04 08 32 14 05 00 00 00 00 F1 0A 01 00"
 
--- An update that another overtook ends with systemFailure.
+-- An update that another one overtook ends with systemFailure.
 pub record OvertakenUpdate : Type 0 where
   pub failed : octets_of_sent (SentEnd (hex "00 00 00 0B") None [] (SentError (pos 1) 34 ∷ []))
       ≡ hex "64 10 49 04 00 00 00 0B 6C 08 A3 06 02 01 01 02 01 22"
 
--- A purge, with the register that serves, with another, and without one.
+-- A purge by the serving register, by another, and without a VLR number.
 pub record PurgeAnswered : Type 0 where
   pub received : IsVerdict (hex "62 45 48 04 00 00 00 0C 6B 1E 28 1C 06 07 00 11 86 05 01 01 01 A0 11 60 0F 80 02 07 80 A1 09 06 07 04 00 00 01 00 1B 03 6C 1D A1 1B 02 01 01 02 01 43 A3 13 04 08 32 14 05 00 00 00 00 F1 80 07 91 44 77 00 09 00 11")
       (Read (Begin (hex "00 00 00 0C") (Some (hex "04 00 00 01 00 1B 03")) (Invoke (pos 1) None (Number 67) (Some (Typed (Purge (digits "234150000000001") (Some (digits "447700900011"))))) ∷ [])))
@@ -113,7 +113,7 @@ pub record PurgeAnswered : Type 0 where
   pub data_missing : octets_of_sent (SentEnd (hex "00 00 00 0C") (Some MsPurging) [] (SentError (pos 1) 35 ∷ []))
       ≡ hex "64 3C 49 04 00 00 00 0C 6B 2A 28 28 06 07 00 11 86 05 01 01 01 A0 1D 61 1B 80 02 07 80 A1 09 06 07 04 00 00 01 00 1B 03 A2 03 02 01 00 A3 05 A1 03 02 01 00 6C 08 A3 06 02 01 01 02 01 23"
 
--- Another version, another context, none; and names of one octet and of 32.
+-- Another version, another context, no context; and names of one octet and of 32.
 pub record RefusedContexts : Type 0 where
   pub version_2 : IsVerdict (hex "62 4E 48 04 00 00 00 0B 6B 1E 28 1C 06 07 00 11 86 05 01 01 01 A0 11 60 0F 80 02 07 80 A1 09 06 07 04 00 00 01 00 01 02 6C 26 A1 24 02 01 01 02 01 02 30 1C 04 08 32 14 05 00 00 00 00 F1 81 07 91 44 77 00 09 00 20 04 07 91 44 77 00 09 00 21")
       (Read (Begin (hex "00 00 00 0B") (Some (hex "04 00 00 01 00 01 02")) (Invoke (pos 1) None (Number 2) (Some (Typed (Update (digits "234150000000001") (record { vlr = digits "447700900012"; msc = digits "447700900002"; lmsi = None })))) ∷ [])))
@@ -143,7 +143,7 @@ pub record ResultOfUnknownInvoke : Type 0 where
   pub answer : octets_of_sent (SentContinue (hex "01 00 00 01") (hex "00 00 00 0B") None (record { id = Some (pos 2); side = OfResult; problem = 0 } ∷ []) [])
       ≡ hex "65 16 48 04 01 00 00 01 49 04 00 00 00 0B 6C 08 A4 06 02 01 02 82 01 00"
 
--- Of two Invokes in a Begin the first is answered, the second is rejected.
+-- Of two Invokes in a Begin the first is answered and the second rejected.
 pub record SecondInvokeRefused : Type 0 where
   pub received : IsVerdict (hex "62 66 48 04 00 00 00 01 6B 1E 28 1C 06 07 00 11 86 05 01 01 01 A0 11 60 0F 80 02 07 80 A1 09 06 07 04 00 00 01 00 14 03 6C 3E A1 1D 02 01 01 02 01 2D 30 15 80 07 91 44 77 00 09 00 00 81 01 FF 82 07 91 44 77 00 09 99 99 A1 1D 02 01 02 02 01 2D 30 15 80 07 91 44 77 00 09 00 00 81 01 FF 82 07 91 44 77 00 09 99 99")
       (Read (Begin (hex "00 00 00 01") (Some (hex "04 00 00 01 00 14 03")) (Invoke (pos 1) None (Number 45) (Some (Typed (Route (digits "447700900000")))) ∷ Invoke (pos 2) None (Number 45) (Some (Typed (Route (digits "447700900000")))) ∷ [])))
@@ -196,7 +196,7 @@ pub record SameDigitsOtherKind : Type 0 where
   pub extended : IsVerdict (hex "62 4E 48 04 00 00 00 0B 6B 1E 28 1C 06 07 00 11 86 05 01 01 01 A0 11 60 0F 80 02 07 80 A1 09 06 07 04 00 00 01 00 01 03 6C 26 A1 24 02 01 01 02 01 02 30 1C 04 08 32 14 05 00 00 00 00 F1 81 07 91 44 77 00 09 00 20 04 07 11 44 77 00 09 00 21")
       (Read (Begin (hex "00 00 00 0B") (Some (hex "04 00 00 01 00 01 03")) (Invoke (pos 1) None (Number 2) (Some (Typed BadValue)) ∷ [])))
 
--- An lmsi, a vlr-Number and an sgsn-Number are what stands in their place with their very tag; constructed elements there are further elements.
+-- An lmsi, a vlr-Number and an sgsn-Number have exactly their tag; a constructed element in their place is a further element.
 pub record OptionalElements : Type 0 where
   pub with_lmsi : IsVerdict (hex "62 54 48 04 00 00 00 0B 6B 1E 28 1C 06 07 00 11 86 05 01 01 01 A0 11 60 0F 80 02 07 80 A1 09 06 07 04 00 00 01 00 01 03 6C 2C A1 2A 02 01 01 02 01 02 30 22 04 08 32 14 05 00 00 00 00 F1 81 07 91 44 77 00 09 00 20 04 07 91 44 77 00 09 00 21 8A 04 01 02 03 04")
       (Read (Begin (hex "00 00 00 0B") (Some (hex "04 00 00 01 00 01 03")) (Invoke (pos 1) None (Number 2) (Some (Typed (Update (digits "234150000000001") (record { vlr = digits "447700900012"; msc = digits "447700900002"; lmsi = Some (hex "01 02 03 04") })))) ∷ [])))
@@ -216,7 +216,7 @@ pub record CodesChanged : Type 0 where
   pub sent : octets_of_sent (SentBegin (hex "01 00 00 01") SubscriberDataMngt (Insert (pos 1) (Some (digits "234150000000001")) (Some (digits "447700900000")) (hex "11 22") ∷ []))
       ≡ hex "62 50 48 04 01 00 00 01 6B 1E 28 1C 06 07 00 11 86 05 01 01 01 A0 11 60 0F 80 02 07 80 A1 09 06 07 04 00 00 01 00 10 03 6C 28 A1 26 02 01 01 02 01 07 30 1E 80 08 32 14 05 00 00 00 00 F1 81 07 91 44 77 00 09 00 00 83 01 00 A6 06 04 01 11 04 01 22"
 
--- A subscription that ends is cancelled with subscriptionWithdraw, and then unknown.
+-- When a subscription ends, its register is cancelled with subscriptionWithdraw; then the subscriber is unknown.
 pub record Withdrawn : Type 0 where
   pub cancel : octets_of_sent (SentBegin (hex "01 00 00 01") LocationCancellation (Cancel (pos 1) (digits "234150000000001") SubscriptionWithdraw ∷ []))
       ≡ hex "62 3F 48 04 01 00 00 01 6B 1E 28 1C 06 07 00 11 86 05 01 01 01 A0 11 60 0F 80 02 07 80 A1 09 06 07 04 00 00 01 00 02 03 6C 17 A1 15 02 01 01 02 01 03 A3 0D 04 08 32 14 05 00 00 00 00 F1 0A 01 01"
@@ -275,7 +275,7 @@ pub record DialoguePortions : Type 0 where
   pub in_an_abort_unread : IsVerdict (hex "67 08 49 04 01 00 00 01 6B 00")
       (Read (Abort (hex "01 00 00 01")))
 
--- A length in four octets, and a long number of a tag.
+-- A length in four octets, and a tag with a long number.
 pub record HostileSpellings : Type 0 where
   pub long_length : IsVerdict (hex "62 84 00 00 00 06 48 04 00 00 00 01")
       (Read (Begin (hex "00 00 00 01") None []))
@@ -287,7 +287,7 @@ pub record HostileSpellings : Type 0 where
   pub zero_first_group : IsVerdict (hex "7F 80 1F 06 48 04 00 00 00 01") Discard
   pub octet_after_tree : IsVerdict (hex "62 06 48 04 00 00 00 01 00") Discard
 
--- A frame of 4,096 octets is read, one of 4,097 is not, nor is one of none.
+-- A frame of 4,096 octets is read; one of 4,097 and an empty one are not.
 pub record LargestFrame : Type 0 where
   pub largest : IsVerdict ((hex "62 82 0F FC 48 04 00 00 00 01 6B 1E 28 1C 06 07 00 11 86 05 01 01 01 A0 11 60 0F 80 02 07 80 A1 09 06 07 04 00 00 01 00 14 03 6C 82 0F D2 A1 82 0F CE 02 01 01 02 01 2D 30 82 0F C4 80 07 91 44 77 00 09 00 00 81 01 FF 82 07 91 44 77 00 09 99 99 04 82 0F AB") ++ replicate 4011 0) (Read (Begin (hex "00 00 00 01") (Some (hex "04 00 00 01 00 14 03")) (Invoke (pos 1) None (Number 45) (Some (Typed (Route (digits "447700900000")))) ∷ [])))
   pub one_octet_more : IsVerdict ((hex "62 82 0F FD 48 04 00 00 00 01 6B 1E 28 1C 06 07 00 11 86 05 01 01 01 A0 11 60 0F 80 02 07 80 A1 09 06 07 04 00 00 01 00 14 03 6C 82 0F D3 A1 82 0F CF 02 01 01 02 01 2D 30 82 0F C5 80 07 91 44 77 00 09 00 00 81 01 FF 82 07 91 44 77 00 09 99 99 04 82 0F AC") ++ replicate 4012 0) Discard

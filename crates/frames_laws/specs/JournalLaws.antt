@@ -13,8 +13,8 @@ use Rattle.frames.specs.declared.numbers.TheConstants.{MAX_OCTETS}
 use Rattle.frames.specs.Octets.{RawEvent, RawFrame, RawClock, RawExpire, RawChange, RawEntry, SpellsJournal, IsRouted, StepOctets, RunOctets}
 use Rattle.frames.specs.OctetJournals.{LegalOctets, AreHolders, SaneEntries, only_raw_of, NoRawTurnedAway, MergesOctets, RawEpoch, first_raw_base, ChainOctets, joined_raws}
 
--- A journal of octets spells one journal of messages: of sane messages without more ado, and from one base whatever is sent;
--- then it leads to one state.
+-- A journal of octets spells one journal of messages if the messages are sane, and from one base in any case; then it leads
+-- to one state.
 pub record OneJournal : Type 0 where
   pub sane : (raws : List RawEntry) (js ks : List Entry) → SaneEntries js → SaneEntries ks → SpellsJournal raws js → SpellsJournal raws ks → js ≡ ks
   pub legal : (n : ℕ) (base S T : State) (raws : List RawEntry) (a : LegalOctets n base raws S) (b : LegalOctets n base raws T) → (a.journal ≡ b.journal) × (S ≡ T)
@@ -25,19 +25,20 @@ pub record HoldersAreServing : Type 0 where
   pub serving : (n : ℕ) (base S : State) (raws : List RawEntry) (x : List ℕ) (holding : Holding) → AreHolders n base raws S x holding → holding ≡ serving (S.records x)
   pub one : (n : ℕ) (base S T : State) (raws : List RawEntry) (x : List ℕ) (h k : Holding) → AreHolders n base raws S x h → AreHolders n base raws T x k → h ≡ k
 
--- Isolation: the entries of x are a legal journal from the state as x has it alone, to a state with the same of x.
+-- Isolation: the entries of x are a legal journal from the state with x alone to a state with the same record and dialogues
+-- of x.
 abbrev pub OwnEntriesAreLegal : Type 0
 OwnEntriesAreLegal =
     (n : ℕ) (base S : State) (raws : List RawEntry) (x : List ℕ) → LegalOctets n base raws S → NoRawTurnedAway raws x
     → (T : State) × LegalOctets n (own base x) (only_raw_of raws x) T × SameOf x S T
 
--- A step of the journal's shard puts its entry last.
+-- A step of the journal's shard appends its entry.
 abbrev pub JournalsGrow : Type 0
 JournalsGrow =
     (n : ℕ) (base S T : State) (raws : List RawEntry) (raw : RawEntry) → LegalOctets n base raws S → IsRouted S.directory raw.event n → StepOctets S raw T
     → LegalOctets n base (raws ++ raw ∷ []) T
 
--- A cut puts its epoch last in the chain, and the joined journal of a chain and its shard is legal from the first base.
+-- A cut appends its epoch to the chain, and the joined journal of a chain and its shard is legal from the first base.
 pub record ChainsAreJournals : Type 0 where
   pub cut : (n : ℕ) (epochs : List RawEpoch) (base state : State) (raws : List RawEntry)
       → ChainOctets n epochs base → LegalOctets n base raws state → ChainOctets n (epochs ++ record { base = base; entries = raws } ∷ []) state
@@ -52,16 +53,16 @@ MergesAreRuns =
     → ((n : ℕ) → n < shards → (bases n).directory ≡ (bases 0).directory) → ((n : ℕ) → n < shards → (bases n).hlr ≡ (bases 0).hlr)
     → MergesOctets journals merge → RunOctets (union bases) merge (union states)
 
--- What comes from outside is within bounds: addresses of digits, shards that there are, and an operator's codes. Nothing is
--- asked of the octets of a frame.
+-- An event from outside is within bounds: an address has digits, a shard exists, and an operator's codes are codes. The
+-- octets of a frame may be any.
 abbrev pub RawInBounds : RawEvent → Type 0
 RawInBounds (RawFrame from octets) = AreDigits from
 RawInBounds (RawClock shard now) = shard < shards
 RawInBounds (RawExpire shard) = shard < shards
 RawInBounds (RawChange imsi change) = ChangeInBounds change
 
--- Runs of octets stay within bounds, whatever the octets of the frames are. All that they send is short frames, and each
--- message that it spells is one of which the laws of what is sent speak.
+-- Runs of octets stay within bounds, whatever the octets of the frames are. They send only short frames, and the laws of what
+-- is sent apply to each message that these spell.
 pub record RunsStayInBounds : Type 0 where
   pub within : (S T : State) (raws : List RawEntry) → StateInBounds S → Every (λ raw. RawInBounds raw.event) raws → RunOctets S raws T
       → StateInBounds T × Every (λ raw. Every (λ out. length out.octets ≤ MAX_OCTETS) raw.outs) raws

@@ -24,7 +24,7 @@ use Rattle.frames.specs.Sane.{SaneComponent, SaneRejection, SaneContent, Sane, H
 
 -- ---- readings and forms
 
--- What is read of a tree up to its portions has its form, and what has a form is read so.
+-- What is read of a tree, its portions unread, has its form, and what has a form is read as it.
 abbrev pub MessagesAreRead : Type 0
 MessagesAreRead = (t : Tree) (r : Result TcMessage Unread) → (message_of t ≡ r) ↔ IsMessageOrNot t r
 
@@ -34,7 +34,7 @@ DialoguesAreRead = (t : Tree) (apdu : Apdu) → (dialogue_of t ≡ Some apdu) �
 abbrev pub ComponentsAreRead : Type 0
 ComponentsAreRead = (t : Tree) (c : ComponentOf Tree) → (component_of t ≡ c) ↔ IsComponent t c
 
--- Each parameter is read so, by the code of its Invoke.
+-- The same of each parameter, by the code of its Invoke.
 pub record ParametersAreRead : Type 0 where
   pub update : (t : Tree) (p : Parameter) → (update_of t ≡ p) ↔ IsParameter (Number UPDATE_LOCATION) t p
   pub purge : (t : Tree) (p : Parameter) → (purge_of t ≡ p) ↔ IsParameter (Number PURGE_MS) t p
@@ -44,7 +44,7 @@ pub record ParametersAreRead : Type 0 where
 abbrev pub ComponentsAreHeard : Type 0
 ComponentsAreHeard = (t : Tree) (c : Component) → (heard_of t ≡ c) ↔ IsHeard t c
 
--- The verdict that is read of a tree is the one that the points give, and there is no other.
+-- The verdict that is read of a tree is the one by the points, and there is no other.
 abbrev pub TreesAreJudged : Type 0
 TreesAreJudged = (t : Tree) (v : Verdict) → (verdict_of t ≡ v) ↔ IsJudged t v
 
@@ -80,7 +80,7 @@ pub record SentPortionsHaveForms : Type 0 where
 abbrev pub SentIsMeant : Type 0
 SentIsMeant = (m : SentMessage) → SaneContent m → HasIds m → Reads (tree_of m) (message_heard m)
 
--- What the machine sends within its bounds may be sent: the laws of what is sent speak of it.
+-- What the machine sends within its bounds may be sent, so the laws of what is sent apply to it.
 abbrev pub SentIsSane : Type 0
 SentIsSane = (m : SentMessage) → SentInBounds m → Sane m × HasIds m
 
@@ -104,8 +104,8 @@ OctetsTell = (m n : SentMessage) → Sane m → Sane n → octets_of_sent m ≡ 
 abbrev pub SentIsRead : Type 0
 SentIsRead = (m : SentMessage) → Readable m → IsVerdict (octets_of_sent m) (Read (message_heard m))
 
--- The numbers that frames are read and sent with are those of the machine: the operations that a peer may invoke, the cause
--- of an Abort for want of resources, and the error that has a parameter.
+-- The numbers with which frames are read and sent are those of the machine: the operations that a peer may invoke, the
+-- P-Abort cause resourceLimitation, and the error that has a parameter.
 pub record NumbersAgree : Type 0 where
   pub update : operation_of NetworkLocUp ≡ Some UPDATE_LOCATION
   pub purge : operation_of MsPurging ≡ Some PURGE_MS

@@ -2,4 +2,9 @@ pub mod Laws
 pub mod JournalLaws
 pub mod Written
 pub mod Examples
+pub mod PortionExamples
+pub mod AccountExamples
 pub mod AccountLaws
+pub mod MergedJobs
+pub mod IdentityExamples
+pub mod TagExamples

@@ -1,8 +1,12 @@
-//! The worked examples: frames that come and go, octet for octet.
+//! The worked examples: received and sent frames, octet for octet.
 
 ghost use Rattle.frames_laws.specs.Examples.{FirstRoute, IndefiniteRoute, RouteErrors, BadlyFormedTransactions, UnknownDialogues, ShortIds, TwoInserts, WholeUpdate, RepeatedCancel, OvertakenUpdate, PurgeAnswered, RefusedContexts, ResultOfUnknownInvoke, SecondInvokeRefused, InsertError, LateAndLinkedComponents, RefusedUpdates, SameDigitsOtherKind, OptionalElements, CodesChanged, Withdrawn, FullShard, MostComponents, Components, DialoguePortions, HostileSpellings, LargestFrame, DeepestTree};
+ghost use Rattle.frames_laws.specs.AccountExamples.{Accounts};
+ghost use Rattle.frames_laws.specs.IdentityExamples.{DigitOctets, ImsiOctets, AddressOctets, OctetStrings};
+ghost use Rattle.frames_laws.specs.TagExamples.{TagOctets, NumbersOfFrames, ElementsRead};
+ghost use Rattle.frames_laws.specs.PortionExamples.{UserInformation, NamesOfContexts, Versions, DialogueAborts, CodesOfComponents, LongTagNumbers, SentAddress, EventsFromOutside};
 
-/// The first example: a short message is routed, and where to.
+/// The first example: where a short message is routed to.
 pub fn first_route()
     ensures { FirstRoute }
 {}
@@ -22,12 +26,12 @@ pub fn badly_formed_transactions()
     ensures { BadlyFormedTransactions }
 {}
 
-/// Frames for no dialogue, and a Continue without a destination.
+/// Frames without an open dialogue, and a Continue without a destination id.
 pub fn unknown_dialogues()
     ensures { UnknownDialogues }
 {}
 
-/// Ids are octet strings: three octets are another id than four.
+/// Ids are octet strings: three octets are not the same id as four.
 pub fn short_ids()
     ensures { ShortIds }
 {}
@@ -47,17 +51,17 @@ pub fn repeated_cancel()
     ensures { RepeatedCancel }
 {}
 
-/// An update that another overtook ends with systemFailure.
+/// An update that another one overtook ends with systemFailure.
 pub fn overtaken_update()
     ensures { OvertakenUpdate }
 {}
 
-/// A purge, with the register that serves, with another, and without one.
+/// A purge by the serving register, by another, and without a VLR number.
 pub fn purge()
     ensures { PurgeAnswered }
 {}
 
-/// Another version, another context, none; and names of one octet and of 32.
+/// Another version, another context, no context; and names of one octet and of 32.
 pub fn refused_contexts()
     ensures { RefusedContexts }
 {}
@@ -67,7 +71,7 @@ pub fn result_of_unknown_invoke()
     ensures { ResultOfUnknownInvoke }
 {}
 
-/// Of two Invokes in a Begin the first is answered, the second is rejected.
+/// Of two Invokes in a Begin the first is answered and the second rejected.
 pub fn second_invoke_refused()
     ensures { SecondInvokeRefused }
 {}
@@ -92,7 +96,7 @@ pub fn same_digits_other_kind()
     ensures { SameDigitsOtherKind }
 {}
 
-/// An lmsi, a vlr-Number and an sgsn-Number are what stands in their place with their very tag; constructed elements there are further elements.
+/// An lmsi, a vlr-Number and an sgsn-Number have exactly their tag; a constructed element in their place is a further element.
 pub fn optional_elements()
     ensures { OptionalElements }
 {}
@@ -102,7 +106,7 @@ pub fn codes_changed()
     ensures { CodesChanged }
 {}
 
-/// A subscription that ends is cancelled with subscriptionWithdraw, and then unknown.
+/// When a subscription ends, its register is cancelled with subscriptionWithdraw; then the subscriber is unknown.
 pub fn withdrawn()
     ensures { Withdrawn }
 {}
@@ -127,12 +131,12 @@ pub fn dialogue_portions()
     ensures { DialoguePortions }
 {}
 
-/// A length in four octets, and a long number of a tag.
+/// A length in four octets, and a tag with a long number.
 pub fn hostile_spellings()
     ensures { HostileSpellings }
 {}
 
-/// A frame of 4,096 octets is read, one of 4,097 is not, nor is one of none.
+/// A frame of 4,096 octets is read; one of 4,097 and an empty one are not.
 pub fn largest_frame()
     ensures { LargestFrame }
 {}
@@ -140,4 +144,85 @@ pub fn largest_frame()
 /// 32 levels are read, 33 are not.
 pub fn deepest_tree()
     ensures { DeepestTree }
+{}
+
+/// A dialogue request and a dialogue response may end with user information of any contents, and with nothing else.
+pub fn user_information()
+    ensures { UserInformation }
+{}
+
+/// A context's name has 1 to 32 octets.
+pub fn names_of_contexts()
+    ensures { NamesOfContexts }
+{}
+
+/// A version is a BIT STRING whose first bit is set, with at most seven bits unused; it may be absent.
+pub fn versions()
+    ensures { Versions }
+{}
+
+/// A dialogue abort says who aborts, the user or the provider.
+pub fn dialogue_aborts()
+    ensures { DialogueAborts }
+{}
+
+/// An operation's and an error's code have at least one octet. Ids and linked ids are signed.
+pub fn codes_of_components()
+    ensures { CodesOfComponents }
+{}
+
+/// A long tag number has up to four octets (X.690, 8.1.2.4).
+pub fn long_tag_numbers()
+    ensures { LongTagNumbers }
+{}
+
+/// What is sent keeps its address.
+pub fn sent_address()
+    ensures { SentAddress }
+{}
+
+/// A clock value, an expiry and a change are each the event of the machine with the same parts.
+pub fn events_from_outside()
+    ensures { EventsFromOutside }
+{}
+
+/// What accounts for a job and what does not: an entry of another event or with other octets, a place that is named twice or
+/// has no entry, two receipts or two jobs with one number, and a refusal. Without receipts the least number is at fault.
+pub fn accounts()
+    ensures { Accounts }
+{}
+
+/// Two digits to an octet, the first in the low half, and a filler after an odd count (TS 29.002 17.7.8, TBCD-STRING).
+pub fn digit_octets()
+    ensures { DigitOctets }
+{}
+
+/// An IMSI has 5 to 15 digits.
+pub fn imsi_octets()
+    ensures { ImsiOctets }
+{}
+
+/// An address has an octet with bit 8 set and up to sixteen digits; its nature and numbering plan are not kept.
+pub fn address_octets()
+    ensures { AddressOctets }
+{}
+
+/// An LMSI has four octets, a transaction id one to four.
+pub fn octet_strings()
+    ensures { OctetStrings }
+{}
+
+/// Each tag has the identifier octet that the standards print.
+pub fn tag_octets()
+    ensures { TagOctets }
+{}
+
+/// Each number is the one that the standards print, or that the profile chooses.
+pub fn numbers_of_frames()
+    ensures { NumbersOfFrames }
+{}
+
+/// Versions, codes, names, syntaxes and priorities that are read, and those that are not.
+pub fn elements_read()
+    ensures { ElementsRead }
 {}

@@ -6,23 +6,23 @@ pub mod journals;
 
 ghost use Rattle.frames_laws.specs.Laws.{MessagesAreRead, DialoguesAreRead, ComponentsAreRead, ParametersAreRead, ComponentsAreHeard, TreesAreJudged, OneMessage, OneVerdict, VerdictsAreWithinBounds, SentComponentsHaveForms, SentPortionsHaveForms, SentIsMeant, SentIsOctets, SentIsSane, SentIsShallow, SentIsShort, OctetsTell, SentIsRead, NumbersAgree};
 
-/// Up to its portions a tree is read as a message exactly where it has the message's form, and otherwise as what the first
-/// point says that fits.
+/// With its portions unread, a tree is read as a message exactly if it has the message's form, and otherwise as what the
+/// first point that applies says (Q.773).
 pub fn messages_are_read()
     ensures { MessagesAreRead }
 {}
 
-/// A dialogue portion is read exactly where it has the form of one.
+/// A dialogue portion is read exactly if it has the form of one (Q.773).
 pub fn dialogues_are_read()
     ensures { DialoguesAreRead }
 {}
 
-/// Each tree is read as the one component whose form it has, ill-formed ones among them.
+/// Each tree is read as the one component whose form it has, ill-formed ones among them (Q.773).
 pub fn components_are_read()
     ensures { ComponentsAreRead }
 {}
 
-/// Each parameter is read as the one that it is by its form: mistyped, a bad value, or an argument.
+/// Each parameter is read as what it is by its form: mistyped, a bad value, or an argument (TS 29.002, 17.7).
 pub fn parameters_are_read()
     ensures { ParametersAreRead }
 {}
@@ -32,7 +32,7 @@ pub fn components_are_heard()
     ensures { ComponentsAreHeard }
 {}
 
-/// The verdict that is read of a tree is the one that the points give.
+/// The verdict that is read of a tree is the one by the points.
 pub fn trees_are_judged()
     ensures { TreesAreJudged }
 {}
@@ -67,7 +67,7 @@ pub fn sent_is_meant()
     ensures { SentIsMeant }
 {}
 
-/// What the machine sends within its bounds may be sent: the laws of what is sent speak of it.
+/// What the machine sends within its bounds may be sent, so the laws of what is sent apply to it.
 pub fn sent_is_sane()
     ensures { SentIsSane }
 {}
@@ -77,7 +77,7 @@ pub fn sent_is_octets()
     ensures { SentIsOctets }
 {}
 
-/// What is sent is within the levels of what is read.
+/// What is sent has no more levels than are read.
 pub fn sent_is_shallow()
     ensures { SentIsShallow }
 {}

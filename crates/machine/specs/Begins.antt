@@ -1,4 +1,5 @@
--- A received Begin (TS 29.002, TS 23.012): the procedure that a peer starts.
+-- A received Begin and the procedure that it starts: location updating and Purge MS (TS 23.012), and routing of short
+-- messages (TS 29.002, 12.1).
 use Rattle.std.specs.Prelude.{ℕ, ℤ, List, [], ◌∷◌, Bool, true, false, cond, Option, Some, None, is_some}
 use Rattle.std.specs.List.{list_any}
 use Rattle.machine.specs.Keys.{same, is_prefix}
@@ -11,12 +12,12 @@ use Rattle.machine.specs.Effect.{Offer, effect}
 use Rattle.machine.specs.Outcome.{Outcome, send, unchanged, inserts_invoked, inserts}
 use Rattle.machine.specs.SmRoute.{RouteAnswer, NoRoute, RouteTo, sm_route}
 
--- the argument of the first component, where it is an Invoke with a parameter of its type
+-- the argument of the first component, if it is an Invoke with a parameter of its type
 abbrev pub argument_of : Component → Option Argument
 argument_of (Invoke id linked operation (Some (Typed argument))) = Some argument
 argument_of _ = None
 
--- the argument of the first component of a Begin, which alone can start a procedure
+-- the argument of the first component of a Begin; only the first can start a procedure
 abbrev pub first_argument : List Component → Option Argument
 first_argument [] = None
 first_argument (c ∷ cs) = argument_of c
@@ -32,7 +33,7 @@ pub record Asker : Type 0 where
 abbrev pub answered : Asker → List SentComponent → List Out
 answered asker components = send asker.from (SentEnd asker.origin (Some asker.context) asker.rejects components)
 
--- updateLocation
+-- updateLocation (TS 29.002, 8.1.2, MAP_UPDATE_LOCATION; TS 23.012, Location updating)
 
 -- whether the subscriber may roam at this VLR: one of the prefixes of the record is a prefix of its digits, or the
 -- record allows all
@@ -40,7 +41,7 @@ abbrev pub is_allowed : (roam : Option (List (List ℕ))) → (vlr : List ℕ) �
 is_allowed None vlr = true
 is_allowed (Some prefixes) vlr = list_any (λ prefix. is_prefix prefix vlr) prefixes
 
--- The update begins: a dialogue opens, it becomes the current update in place of any other, and one Continue carries the
+-- The update begins: a dialogue opens and becomes the current update in place of any other, and one Continue carries the
 -- subscriber data.
 abbrev pub update_opened : Local → Asker → (invoke : ℤ) → Register → Subscriber → (new : List ℕ) → Outcome
 update_opened here asker invoke register subscriber new = record {
@@ -56,7 +57,7 @@ update_opened here asker invoke register subscriber new = record {
       send asker.from (SentContinue new asker.origin (Some asker.context) asker.rejects (inserts None subscriber.msisdn subscriber.codes));
 }
 
--- It does not begin for an unknown subscriber, nor at a VLR that the record does not allow.
+-- An unknown subscriber, or a VLR where the subscriber may not roam, is answered with an error.
 abbrev pub update_begins : Local → Asker → (invoke : ℤ) → Register → Option Subscriber → (new : List ℕ) → Outcome
 update_begins here asker invoke register None new =
     unchanged here (answered asker (SentError invoke unknown_subscriber ∷ []))
@@ -65,9 +66,10 @@ update_begins here asker invoke register (Some subscriber) new =
     (cond (is_allowed subscriber.roam register.vlr) (update_opened here asker invoke register subscriber new)
     (unchanged here (answered asker (SentError invoke roaming_not_allowed ∷ []))))
 
--- purgeMS
+-- purgeMS (TS 29.002, 8.1.6, MAP_PURGE_MS; TS 23.012, Purge MS)
 
--- The record is purged where the stored register has the same digits; otherwise the result says so, and nothing changes.
+-- If the stored register has the same digits, the record is purged and the result has freezeTMSI. Otherwise the result has no
+-- parameter, and nothing changes.
 abbrev pub purge_at : Local → Asker → (invoke : ℤ) → Subscriber → (vlr : List ℕ) → Option Register → Outcome
 purge_at here asker invoke subscriber vlr None = unchanged here (answered asker (PurgeResult invoke false ∷ []))
 purge_at here asker invoke subscriber vlr (Some register) =
@@ -80,7 +82,7 @@ purge_at here asker invoke subscriber vlr (Some register) =
     })
     (unchanged here (answered asker (PurgeResult invoke false ∷ [])))
 
--- purgeMS. Without a VLR number the error is dataMissing, also for an unknown subscriber.
+-- Without a VLR number the error is dataMissing, even for an unknown subscriber.
 abbrev pub purge : Local → Asker → (invoke : ℤ) → (vlr : Option (List ℕ)) → Option Subscriber → Outcome
 purge here asker invoke None subscriber = unchanged here (answered asker (SentError invoke data_missing ∷ []))
 purge here asker invoke (Some vlr) None = unchanged here (answered asker (SentError invoke unknown_subscriber ∷ []))
@@ -88,7 +90,7 @@ purge here asker invoke (Some vlr) (Some subscriber) =
     cond subscriber.withdrawn (unchanged here (answered asker (SentError invoke unknown_subscriber ∷ [])))
     (purge_at here asker invoke subscriber vlr subscriber.register)
 
--- sendRoutingInfoForSM
+-- sendRoutingInfoForSM (TS 29.002, 12.1, MAP-SEND-ROUTING-INFO-FOR-SM)
 abbrev pub route_component : (invoke : ℤ) → RouteAnswer → SentComponent
 route_component invoke (NoRoute error) = SentError invoke error
 route_component invoke (RouteTo imsi msc lmsi) = RouteResult invoke imsi msc lmsi
@@ -101,7 +103,7 @@ procedure here asker invoke (Purge imsi vlr) new = purge here asker invoke vlr h
 procedure here asker invoke (Route msisdn) new =
     unchanged here (answered asker (route_component invoke (sm_route here.imsi here.record_of) ∷ []))
 
--- Where nothing started, the End has the Rejects alone. What started has an argument.
+-- If no Invoke started a procedure, the End carries only the Rejects. One that did has an argument.
 abbrev pub begun : Local → Asker → (started : Option ℤ) → Option Argument → (new : List ℕ) → Outcome
 begun here asker (Some invoke) (Some argument) new = procedure here asker invoke argument new
 begun here asker _ _ new = unchanged here (answered asker [])
@@ -123,14 +125,14 @@ begins_in here from origin context (c ∷ cs) new =
     begun here (record { from = from; origin = origin; context = context; rejects = did.rejects }) did.started
     (first_argument (c ∷ cs)) new
 
--- a Begin with this name: its context is accepted, or the Abort refuses it
+-- a Begin with this context name: its context is accepted, or an Abort refuses it
 abbrev pub begins_named : Local → (from origin name : List ℕ) → Option Context → List Component → (new : List ℕ) → Outcome
 begins_named here from origin name None components new =
     unchanged here (send from (SentAbort origin (Refusing (refused_name name))))
 begins_named here from origin name (Some context) components new = begins_in here from origin context components new
 
--- A Begin. It is aborted without a dialogue portion, in a context that is not accepted, and without a component, in this
--- order; then nothing else is sent.
+-- A Begin. It is aborted if it has no dialogue portion, if its context is not accepted, or if it has no component, checked in
+-- this order (profile); then nothing else is sent.
 abbrev pub begins : Local → (from origin : List ℕ) → (name : Option (List ℕ)) → List Component → (new : List ℕ) → Outcome
 begins here from origin None components new = unchanged here (send from (SentAbort origin NoCause))
 begins here from origin (Some name) components new = begins_named here from origin name (accepted name) components new

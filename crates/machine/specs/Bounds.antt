@@ -1,5 +1,5 @@
--- How long and how great values are, in what is loaded, received and sent (profile; TS 29.002, Q.773). Steps keep it, so
--- that what is sent can be spelt.
+-- The limits on values in what is loaded, received and sent (profile; TS 29.002, Q.773). Steps keep within them, so what is
+-- sent can be encoded.
 use Rattle.std.specs.Prelude.{◌≡◌, ◌≢◌, ℕ, ℤ, ◌<◌, ◌≤◌, List, [], ◌∷◌, length, FitsSigned, Option, Some, None, is_some, IsTrue}
 use Rattle.std.specs.Int.{w8}
 use Rattle.machine.specs.Keys.{Every}
@@ -45,7 +45,7 @@ IsInvokeId id = FitsSigned w8 id
 abbrev pub IsName : List ℕ → Type 0
 IsName name = AreOctets name × (length name ≤ 32)
 
--- no number stands twice
+-- no number occurs twice
 abbrev pub AreDistinct : List ℕ → Type 0
 AreDistinct [] = Unit {0}
 AreDistinct (c ∷ cs) = Every (λ d. c ≢ d) cs × AreDistinct cs
@@ -85,7 +85,7 @@ pub record DialogueInBounds (d : Dialogue) : Type 0 where
   pub invocations : Every (λ (v : Invocation). IsInvokeId v.id) d.invocations
   pub kind : KindInBounds d.kind d.transaction
 
--- Every record, every dialogue and every clock of a state; there are no clocks but those of the shards.
+-- Every record, every dialogue and every clock of a state; only the shards have clocks.
 pub record StateInBounds (S : State) : Type 0 where
   pub records : (x : List ℕ) (s : Subscriber) → S.records x ≡ Some s → AreDigits x × RecordInBounds s
   pub dialogues : (i : List ℕ) (d : Dialogue) → S.dialogues i ≡ Some d → IsTransactionId i × DialogueInBounds d
@@ -95,7 +95,7 @@ pub record StateInBounds (S : State) : Type 0 where
 
 -- events
 
--- An argument is of the operation that it came with.
+-- The argument is one of the Invoke's operation.
 abbrev pub IsOfOperation : Code → Argument → Type 0
 IsOfOperation (Number operation) (Update imsi register) = operation ≡ update_location
 IsOfOperation (Number operation) (Purge imsi vlr) = operation ≡ purge_ms
@@ -110,12 +110,12 @@ ArgumentInBounds (Update imsi register) = AreDigits imsi × IsRegister register
 ArgumentInBounds (Purge imsi vlr) = AreDigits imsi × IfThere AreDigits vlr
 ArgumentInBounds (Route msisdn) = AreDigits msisdn
 
--- a parameter that is not of its type is not read
+-- a mistyped parameter is not read
 abbrev pub ParameterInBounds : Code → Option Parameter → Type 0
 ParameterInBounds operation (Some (Typed argument)) = ArgumentInBounds argument × IsOfOperation operation argument
 ParameterInBounds operation _ = Unit {0}
 
--- the ids of a received component, and the problem that is answered
+-- the ids of a received component, and the problem of an ill-formed one
 abbrev pub ComponentInBounds : Component → Type 0
 ComponentInBounds (Invoke id linked operation parameter) = IsInvokeId id × ParameterInBounds operation parameter
 ComponentInBounds (ResultLast id) = IsInvokeId id
@@ -128,7 +128,7 @@ ComponentInBounds _ = Unit {0}
 abbrev pub ComponentsInBounds : List Component → Type 0
 ComponentsInBounds components = Every ComponentInBounds components × (length components ≤ 16)
 
--- a received message; what closes a dialogue has no more to be looked at
+-- a received message; nothing more is read of one that closes a dialogue
 abbrev pub MessageInBounds : Message → Type 0
 MessageInBounds (Begin origin name components) =
     IsTransactionId origin × IfThere IsName name × ComponentsInBounds components
@@ -201,7 +201,7 @@ OutInBounds out = AreDigits out.to × SentInBounds out.message
 abbrev pub AnswerInBounds : Answer → Type 0
 AnswerInBounds a = Every OutInBounds a.sent
 
--- The first component has an argument, of the operation that a peer may invoke in the context.
+-- The first component has an argument, and it is one of the operation that a peer may invoke in the context.
 pub record StartsOfOperation (context : Context) (components : List Component) : Type 0 where
   pub operation : ℕ
   pub argument : Argument

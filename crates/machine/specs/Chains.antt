@@ -1,4 +1,4 @@
--- Epochs that follow each other: the journal of a shard, cut into pieces.
+-- Consecutive epochs: the journal of a shard, cut into pieces.
 use Rattle.std.specs.Prelude.{ℕ, List, [], ◌∷◌, ◌++◌}
 use Rattle.machine.specs.State.{State}
 use Rattle.machine.specs.Legal.{Entry, Legal}
@@ -8,7 +8,7 @@ pub record Epoch : Type 0 where
   pub base : State
   pub entries : List Entry
 
--- where the epochs begin; the shard's own base is where the next one would
+-- the state in which the epochs begin; if there are none, the shard's own base
 abbrev pub first_base : List Epoch → State → State
 first_base [] base = base
 first_base (epoch ∷ epochs) base = epoch.base

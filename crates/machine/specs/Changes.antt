@@ -1,4 +1,5 @@
--- An operator's change of one subscriber (profile; TS 29.002, insertSubscriberData and cancelLocation).
+-- An operator's change of one subscriber (profile): new subscriber data (TS 29.002, 8.8.1, MAP-INSERT-SUBSCRIBER-DATA), or
+-- the end of the subscription (8.1.3, MAP_CANCEL_LOCATION).
 use Rattle.std.specs.Prelude.{ℕ, List, [], true, false, cond, Option, Some, None}
 use Rattle.machine.specs.Received.{Register}
 use Rattle.machine.specs.Sent.{SubscriptionWithdraw, SubscriberDataMngt, SentBegin}
@@ -15,7 +16,7 @@ data_to here register codes = record {
   kind = Data;
 }
 
--- New codes: an update in progress is no longer current, and a register that is not purged is told.
+-- New codes: an update in progress is no longer current, and a register that is not purged is sent the codes.
 abbrev pub codes_to : Local → Subscriber → (codes : List ℕ) → (new : List ℕ) → Option Register → Outcome
 codes_to here subscriber codes new None = record {
   after = Some (record subscriber { codes = codes; current = None });
@@ -31,7 +32,7 @@ codes_to here subscriber codes new (Some register) = record {
       cond subscriber.purged [] (send register.vlr (SentBegin new SubscriberDataMngt (inserts (Some here.imsi) subscriber.msisdn codes)));
 }
 
--- The end of a subscription: the record has no register any more, and the one that it had, purged or not, gets a cancel.
+-- The end of a subscription: the record loses its register, and that register, purged or not, is sent a cancel.
 abbrev pub withdraw_from : Local → Subscriber → (new : List ℕ) → Option Register → Outcome
 withdraw_from here subscriber new None = record {
   after = Some (record subscriber { register = None; purged = false; current = None; withdrawn = true });

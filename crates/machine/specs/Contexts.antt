@@ -1,5 +1,5 @@
--- The names of MAP's application contexts (TS 29.002). Each is the octets 04 00 00 01 00, one for the context and one for
--- its version, which here is 3.
+-- The names of MAP's application contexts (TS 29.002, MAP-ApplicationContexts): the octets 04 00 00 01 00, which are the
+-- OBJECT IDENTIFIER 0.4.0.0.1.0 (X.690, 8.19), one octet for the context and one for its version, here 3.
 use Rattle.std.specs.Prelude.{ℕ, List, [], ◌∷◌, ◌++◌, Bool, cond, ◌&&◌, ◌==◌, length, take, Option, Some, None, is_some, find}
 use Rattle.machine.specs.Keys.{same}
 use Rattle.machine.specs.Numbers.{update_location, send_routing_info_for_sm, purge_ms}
@@ -21,7 +21,7 @@ family context = 4 ∷ 0 ∷ 0 ∷ 1 ∷ 0 ∷ octet_of context ∷ []
 abbrev pub name_of : Context → List ℕ
 name_of context = family context ++ 3 ∷ []
 
--- The operation that a peer may invoke in a context. Where there is none, a peer may not begin in the context.
+-- The operation that a peer may invoke in a context. If there is none, a peer may not begin in the context.
 abbrev pub operation_of : Context → Option ℕ
 operation_of NetworkLocUp = Some update_location
 operation_of LocationCancellation = None
@@ -29,13 +29,13 @@ operation_of SubscriberDataMngt = None
 operation_of ShortMsgGateway = Some send_routing_info_for_sm
 operation_of MsPurging = Some purge_ms
 
--- What a name is the name of: a context, another version of one in which a peer may begin, or neither.
+-- What a name stands for: a context, another version of one in which a peer may begin, or neither.
 pub data Named : Type 0 where
   Known : Context → Named
   OtherVersion : Context → Named
   Unknown : Named
 
--- all that are known here
+-- all contexts known here
 abbrev pub contexts : List Context
 contexts = NetworkLocUp ∷ LocationCancellation ∷ SubscriberDataMngt ∷ ShortMsgGateway ∷ MsPurging ∷ []
 
@@ -48,12 +48,12 @@ abbrev pub other_version : Option Context → Named
 other_version None = Unknown
 other_version (Some context) = OtherVersion context
 
--- the context that was found, otherwise the other answer
+-- the context that was found, otherwise this
 abbrev pub known_or : Option Context → Named → Named
 known_or None named = named
 known_or (Some context) named = Known context
 
--- A name is looked for as it is, then as another version of a context in which a peer may begin.
+-- A name is looked up as it is, then as another version of a context in which a peer may begin.
 unfoldable pub context_of : List ℕ → Named
 context_of name =
     known_or (find (λ context. same name (name_of context)) contexts)
@@ -68,7 +68,7 @@ accepted_as _ = None
 unfoldable pub accepted : List ℕ → Option Context
 accepted name = accepted_as (context_of name)
 
--- The name in the AARE that refuses: of another version the one that is accepted here, otherwise the name that came.
+-- The name in the AARE that refuses: for another version the accepted name, otherwise the received one (profile).
 abbrev pub refused_as : List ℕ → Named → List ℕ
 refused_as name (OtherVersion context) = name_of context
 refused_as name _ = name

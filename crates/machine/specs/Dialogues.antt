@@ -1,4 +1,4 @@
--- A received Continue, End or Abort of an open dialogue (TS 29.002, TS 23.012).
+-- A received Continue, End or Abort of an open dialogue (TS 29.002; TS 23.012, Location updating).
 use Rattle.std.specs.Prelude.{ℕ, ℤ, List, [], ◌∷◌, ◌++◌, false, cond, Option, Some, None}
 use Rattle.machine.specs.Keys.{same}
 use Rattle.machine.specs.Numbers.{update_location, system_failure}
@@ -8,17 +8,17 @@ use Rattle.machine.specs.State.{Subscriber, Invocation, Kind, Updates, Cancels, 
 use Rattle.machine.specs.Effect.{Offer, Effect, effect, Conclusion, HasFailed, HasSucceeded, GoesOn}
 use Rattle.machine.specs.Outcome.{Outcome, cancel, cancel_begin, ended, continued, is_marked, unmarked}
 
--- the dialogue ends, and the record stays but for the mark
+-- the dialogue ends, and of the record only the mark changes
 abbrev pub ends : Local → List ℕ → List Out → Outcome
 ends here id sent = record { after = unmarked id here.record_of; stays = None; opens = None; sent = sent }
 
--- An update that fails, or is not the current one: the register stays.
+-- An update that fails, or is not the current one, ends with systemFailure, and the register stays.
 abbrev pub update_fails : Local → List ℕ → Dialogue → (invoke : ℤ) → List Rejection → Outcome
 update_fails here id dialogue invoke rejects =
     ends here id (ended dialogue.transaction dialogue.transaction.remote rejects (SentError invoke system_failure ∷ []))
 
--- The current update completes: its register serves from now on. An old register with other digits, purged or not, gets a
--- cancel; its Begin follows the End (profile).
+-- The current update completes: its register serves from now on. An old register with other digits, purged or not, is sent
+-- a cancel (TS 23.012, Location cancellation); its Begin follows the End (profile).
 abbrev pub update_done : Local → Register → Subscriber → (result : List Out) → (new : List ℕ)
     → (old : Option Register) → Outcome
 update_done here register subscriber result new None = record {
@@ -34,8 +34,8 @@ update_done here register subscriber result new (Some old) = record {
   sent = result ++ cond (same old.vlr register.vlr) [] (cancel_begin here old.vlr UpdateProcedure new);
 }
 
--- An update whose inserts have all succeeded: it counts only where it is the current one. (The subscriber of a dialogue
--- has a record.)
+-- An update whose inserts have all succeeded completes only if it is the current one. (The subscriber of a dialogue has a
+-- record.)
 abbrev pub update_completes : Local → List ℕ → Dialogue → Register → (invoke : ℤ) → List Rejection → (new : List ℕ)
     → Option Subscriber → Outcome
 update_completes here id dialogue register invoke rejects new None = update_fails here id dialogue invoke rejects
@@ -54,7 +54,7 @@ goes_on here id dialogue rejects invocations = record {
   sent = continued id dialogue.transaction dialogue.transaction.remote rejects;
 }
 
--- an update, by how its inserts stand
+-- an update, by the state of its inserts
 abbrev pub update_continues : Local → List ℕ → Dialogue → Register → (invoke : ℤ) → Effect → Conclusion
     → (new : List ℕ) → Outcome
 update_continues here id dialogue register invoke effect HasFailed new =
@@ -64,7 +64,7 @@ update_continues here id dialogue register invoke effect HasSucceeded new =
 update_continues here id dialogue register invoke effect GoesOn new =
     goes_on here id dialogue effect.rejects effect.invocations
 
--- Success and failure both end a cancel and a data dialogue.
+-- Both success and failure end a cancel or a data dialogue.
 abbrev pub other_continues : Local → List ℕ → Dialogue → Effect → Conclusion → Outcome
 other_continues here id dialogue effect GoesOn = goes_on here id dialogue effect.rejects effect.invocations
 other_continues here id dialogue effect _ = record {
@@ -74,7 +74,7 @@ other_continues here id dialogue effect _ = record {
   sent = ended dialogue.transaction dialogue.transaction.remote effect.rejects [];
 }
 
--- a dialogue, by what it is for
+-- a dialogue, by its kind
 abbrev pub continues_as : Local → List ℕ → Dialogue → Kind → Effect → (new : List ℕ) → Outcome
 continues_as here id dialogue (Updates register invoke) effect new =
     update_continues here id dialogue register invoke effect effect.conclusion new
@@ -82,14 +82,15 @@ continues_as here id dialogue (Cancels vlr attempt cause) effect new =
     other_continues here id dialogue effect effect.conclusion
 continues_as here id dialogue Data effect new = other_continues here id dialogue effect effect.conclusion
 
--- In an update the peer waits for its own Invoke, and may invoke nothing else; in the others it may invoke nothing.
+-- In an update the peer's updateLocation is still open, and no other Invoke may start; in the other dialogues the peer may
+-- invoke nothing.
 abbrev pub offer_to : Kind → Offer
 offer_to (Updates register invoke) =
     record { open_id = Some invoke; operation = Some update_location; may_start = false; typed = false }
 offer_to (Cancels vlr attempt cause) = record { open_id = None; operation = None; may_start = false; typed = false }
 offer_to Data = record { open_id = None; operation = None; may_start = false; typed = false }
 
--- A Continue that is for the dialogue, whose peer and remote id it has set already.
+-- A Continue for the dialogue, which already has the peer and the remote id that the Continue sets.
 abbrev pub continues : Local → List ℕ → Dialogue → List Component → (new : List ℕ) → Outcome
 continues here id dialogue components new =
     continues_as here id dialogue dialogue.kind (effect here.clock (offer_to dialogue.kind) dialogue.invocations components) new

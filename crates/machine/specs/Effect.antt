@@ -1,5 +1,5 @@
 -- What a list of received components does to the invocations of one dialogue, by the places of the components in the list
--- (Q.774). P is what stands for the parameter of an Invoke.
+-- (Q.774, component sublayer). P is the type of an Invoke's parameter.
 use Rattle.std.specs.Prelude.{ℕ, ℤ, ◌<ℤ◌, ◌+◌, List, [], ◌∷◌, ◌++◌, Bool, true, false, cond, not, ◌&&◌, ◌||◌, ◌==◌, Option, Some, None, is_some}
 use Rattle.std.specs.Ordering.{int_eq}
 use Rattle.machine.specs.Keys.{Every}
@@ -9,7 +9,7 @@ use Rattle.machine.specs.Sent.{Rejection}
 use Rattle.machine.specs.State.{WaitForReject, Invocation, is_sent, any_sent}
 use Rattle.machine.specs.Invocations.{ends_it}
 
--- The invocations of a dialogue stand by rising ids, each once.
+-- The invocations of a dialogue are in rising order of their ids, each once.
 abbrev pub AreRising : List Invocation → Type 0
 AreRising [] = Unit {0}
 AreRising (v ∷ vs) = Every (λ (u : Invocation). v.id <ℤ u.id) vs × AreRising vs
@@ -37,7 +37,7 @@ abbrev pub open_at : {P : Type 0} → List Invocation → (earlier : List (Compo
 open_at vs earlier j = in_sent j vs && not (is_some (concluding j earlier))
 
 -- What the receiver of the components offers: the invoke id that the peer waits for, the operation that the peer may
--- invoke, whether the first component may start it, and whether the parameter of the first is there and of its type.
+-- invoke, whether the first component may start it, and whether the first component has a parameter of its type.
 pub record Offer : Type 0 where
   pub open_id : Option ℤ
   pub operation : Option ℕ
@@ -54,14 +54,14 @@ abbrev pub is_operation : Option ℕ → Code → Bool
 is_operation (Some a) (Number b) = a == b
 is_operation _ _ = false
 
--- The problem of an Invoke of the operation that the peer may invoke: only a first component starts it, with a parameter
--- of its type.
+-- The problem of an Invoke of the operation that the peer may invoke: only a first component with a parameter of its type
+-- starts it.
 abbrev pub problem_of_start : Offer → (is_first : Bool) → Option ℕ
 problem_of_start offer is_first =
     cond (is_first && offer.may_start) (cond offer.typed None (Some mistyped_parameter)) (Some resource_limitation)
 
--- The problem of an Invoke, by the checks in their order (profile): whether its id is the one that the peer waits for;
--- where it is linked, whether to an invocation in Operation Sent; its operation; its place; its parameter.
+-- The invoke problem of an Invoke (Q.773), by the checks in their order (profile): whether its id is the one that the peer
+-- waits for; if it is linked, whether to an invocation in Operation Sent; its operation; its place; its parameter.
 abbrev pub problem_of : Offer → (is_open : Bool) → (linked : Option Bool) → Code → (is_first : Bool) → Option ℕ
 problem_of offer true linked operation is_first = Some duplicate_invoke_id
 problem_of offer false (Some true) operation is_first = Some linked_response_unexpected
@@ -74,13 +74,13 @@ abbrev pub linked_to : {P : Type 0} → List Invocation → (earlier : List (Com
 linked_to vs earlier None = None
 linked_to vs earlier (Some id) = Some (open_at vs earlier id)
 
--- the id, where the component is an Invoke without a problem that stands first
+-- the id, if the component is an Invoke that has no problem as the first component
 abbrev pub started_by : {P : Type 0} → Offer → List Invocation → ComponentOf P → Option ℤ
 started_by {P = P} offer vs (Invoke id linked operation parameter) =
     cond (is_some (problem_of offer (is_id offer.open_id id) (linked_to {P = P} vs [] linked) operation true)) None (Some id)
 started_by {P = P} offer vs _ = None
 
--- the invoke id of what starts: the first component, where it is an Invoke without a problem
+-- the invoke id of what starts: the first component, if it is an Invoke without a problem
 abbrev pub starts : {P : Type 0} → Offer → List Invocation → List (ComponentOf P) → Option ℤ
 starts offer vs [] = None
 starts offer vs (c ∷ cs) = started_by offer vs c
@@ -98,17 +98,17 @@ is_empty (x ∷ xs) = false
 abbrev pub rejection : Option ℤ → Side → ℕ → Rejection
 rejection id side problem = record { id = id; side = side; problem = problem }
 
--- an Invoke is rejected where it has a problem
+-- an Invoke with a problem is rejected
 abbrev pub reject_invoke : ℤ → Option ℕ → List Rejection
 reject_invoke id None = []
 reject_invoke id (Some problem) = rejection (Some id) OfInvoke problem ∷ []
 
--- a result or an error: it is rejected where it answers nothing
+-- a result or an error that answers no open invocation is rejected
 abbrev pub reject_answer : ℤ → Side → (is_open : Bool) → List Rejection
 reject_answer id side true = []
 reject_answer id side false = rejection (Some id) side unrecognized_invoke_id ∷ []
 
--- The Reject, if any, of a component that stands after these. A Reject is never answered.
+-- The Reject, if any, of a component that follows these. A Reject is never answered.
 abbrev pub reject_of : {P : Type 0} → Offer → List Invocation → (earlier : List (ComponentOf P)) → ComponentOf P
     → List Rejection
 reject_of offer vs earlier (Invoke id linked operation parameter) =
@@ -127,13 +127,13 @@ rejects_after offer vs earlier [] = []
 rejects_after offer vs earlier (c ∷ cs) =
     reject_of offer vs earlier c ++ rejects_after offer vs (earlier ++ c ∷ []) cs
 
--- an invocation that is concluded: a Reject leaves it Idle, a result or an error in Wait for Reject
+-- an invocation that is concluded: a Reject makes it Idle, a result or an error takes it to Wait for Reject
 abbrev pub concluded_by : {P : Type 0} → ℕ → Invocation → Option (ComponentOf P) → List Invocation
 concluded_by now v None = v ∷ []
 concluded_by now v (Some (Reject id side problem)) = []
 concluded_by now v (Some c) = record { id = v.id; was = WaitForReject; deadline = now + reject_timer } ∷ []
 
--- an invocation after the components: in Wait for Reject it stays as it is
+-- an invocation after the components: one in Wait for Reject stays as it is
 abbrev pub concluded : {P : Type 0} → ℕ → List (ComponentOf P) → Invocation → List Invocation
 concluded now cs v = cond (is_sent v.was) (concluded_by now v (concluding v.id cs)) (v ∷ [])
 
@@ -142,7 +142,7 @@ abbrev pub invocations_after : {P : Type 0} → ℕ → List (ComponentOf P) →
 invocations_after now cs [] = []
 invocations_after now cs (v ∷ vs) = concluded now cs v ++ invocations_after now cs vs
 
--- whether it is a conclusion that fails: an error, or a Reject
+-- whether the conclusion is a failure: an error or a Reject
 abbrev pub is_failure : {P : Type 0} → Option (ComponentOf P) → Bool
 is_failure None = false
 is_failure (Some (ResultLast id)) = false
@@ -153,20 +153,20 @@ abbrev pub any_failed : {P : Type 0} → List (ComponentOf P) → List Invocatio
 any_failed cs [] = false
 any_failed cs (v ∷ vs) = cond (is_sent v.was && is_failure (concluding v.id cs)) true (any_failed cs vs)
 
--- how the invocations of a dialogue stand after the components
+-- the state of a dialogue's invocations after the components
 pub data Conclusion : Type 0 where
   HasFailed : Conclusion
   HasSucceeded : Conclusion
   GoesOn : Conclusion
 
--- Failure comes first; while one waits for its answer, it goes on.
+-- Failure has precedence; otherwise the dialogue goes on while an invocation waits for its answer.
 unfoldable pub conclusion_of : (failed still_sent : Bool) → Conclusion
 conclusion_of true still_sent = HasFailed
 conclusion_of false true = GoesOn
 conclusion_of false false = HasSucceeded
 
 -- The Rejects to be sent, the invoke id of what started, the invocations after, and whether they failed, succeeded or go
--- on: they failed where one did, and succeeded where none is left in Operation Sent.
+-- on: they failed if one did, and succeeded if none is left in Operation Sent.
 pub record Effect : Type 0 where
   pub rejects : List Rejection
   pub started : Option ℤ

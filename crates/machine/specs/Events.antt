@@ -1,4 +1,4 @@
--- What comes to the register from outside.
+-- What the register receives from outside.
 use Rattle.std.specs.Prelude.{ℕ, List}
 use Rattle.machine.specs.Received.{Verdict}
 
@@ -7,8 +7,8 @@ pub data Change : Type 0 where
   Codes : List ℕ → Change
   Withdraw : Change
 
--- An event: a frame with the address it comes from and what it reads to, a clock value of a shard, the expiry of a
--- shard's least timer that is due, or an operator's change.
+-- An event: a frame with its source address and the verdict on it, a clock value for a shard, the expiry of a shard's
+-- earliest due timer, or an operator's change.
 pub data Event : Type 0 where
   Frame : (from : List ℕ) → Verdict → Event
   Clock : (shard now : ℕ) → Event

@@ -1,4 +1,4 @@
--- The expiry of one timer of an open dialogue (Q.774, TS 29.002).
+-- The expiry of one timer of an open dialogue (Q.774, invocation timer and reject timer; TS 29.002).
 use Rattle.std.specs.Prelude.{ℕ, ℤ, ◌+◌, List, [], ◌∷◌, ◌++◌, Bool, false, cond, not, ◌&&◌, ◌||◌, nat_lt, Option, Some, None}
 use Rattle.std.specs.Ordering.{int_eq}
 use Rattle.machine.specs.Keys.{same}
@@ -39,12 +39,12 @@ is_wanted here vlr None = false
 is_wanted here vlr (Some subscriber) =
     is_register vlr subscriber.register || is_register vlr (current_register here subscriber.current)
 
--- whether a cancel is sent again
+-- whether a cancel is sent again (profile)
 abbrev pub is_repeated : Local → (vlr : List ℕ) → (attempt : ℕ) → Bool
 is_repeated here vlr attempt = nat_lt attempt most_attempts && not (is_wanted here vlr here.record_of)
 
--- A cancel that is not answered ends, with an End where it is Active. It is sent again, as the next attempt and to the same
--- digits, unless the register there is wanted.
+-- A cancel that is not answered ends, with an End if it is Active. It is sent again to the same digits as the next attempt,
+-- unless it was the last one or the register there is wanted.
 abbrev pub cancel_expires : Local → Dialogue → (vlr : List ℕ) → (attempt : ℕ) → CancellationType → (new : List ℕ)
     → Outcome
 cancel_expires here dialogue vlr attempt cause new = record {
@@ -56,7 +56,7 @@ cancel_expires here dialogue vlr attempt cause new = record {
       ++ cond (is_repeated here vlr attempt) (cancel_begin here vlr cause new) [];
 }
 
--- An expiry in Operation Sent ends the dialogue. New subscriber data is not sent again.
+-- An expiry in Operation Sent (Q.771, TC-L-CANCEL) ends the dialogue. New subscriber data is not sent again.
 abbrev pub sent_expires : Local → List ℕ → Dialogue → Kind → (new : List ℕ) → Outcome
 sent_expires here id dialogue (Updates register invoke) new = update_fails here id dialogue invoke []
 sent_expires here id dialogue (Cancels vlr attempt cause) new = cancel_expires here dialogue vlr attempt cause new

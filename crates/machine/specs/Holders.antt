@@ -1,4 +1,4 @@
--- Which registers hold a subscriber's data, told from the frames alone: no record is read after the base.
+-- Which registers hold a subscriber's data, determined from the frames alone: no record is read after the base.
 use Rattle.std.specs.Prelude.{◌≡◌, ℕ, ℤ, List, [], ◌∷◌, Bool, true, false, cond, ◌&&◌, Option, Some, None}
 use Rattle.std.specs.List.{list_any}
 use Rattle.machine.specs.Keys.{same, put}
@@ -22,7 +22,7 @@ abbrev pub vlr_of : Event → Option (List ℕ)
 vlr_of (Frame from (Read (Begin origin name components))) = vlr_of_argument (first_argument components)
 vlr_of _ = None
 
--- those that a dialogue has kept
+-- those that a dialogue stores
 abbrev pub vlr_of_kind : Kind → Option (List ℕ)
 vlr_of_kind (Updates register invoke) = Some register.vlr
 vlr_of_kind _ = None
@@ -36,7 +36,7 @@ vlr_of_dialogue (Some d) = vlr_of_kind d.kind
 abbrev pub began_in : State → List ℕ → Option (List ℕ)
 began_in base id = vlr_of_dialogue (base.dialogues id)
 
--- an event whose step takes an id begins it with its digits
+-- an id that an event's step takes is recorded with the event's digits
 abbrev pub began_by : (List ℕ → Option (List ℕ)) → Event → (id : Option (List ℕ)) → List ℕ → Option (List ℕ)
 began_by began e None = began
 began_by began e (Some id) = put began id (vlr_of e)
@@ -107,7 +107,7 @@ is_subject x None = false
 is_subject x (Some imsi) = same imsi x
 
 -- After one frame that an entry sends: an End with the result of updateLocation, in an entry whose subject is x, adds the
--- digits with which its dialogue began; a cancelLocation of x removes those that it goes to.
+-- digits with which its dialogue began; a cancelLocation of x removes the digits it is sent to.
 abbrev pub held_after_message : List ℕ → (is_x : Bool) → (began : Option (List ℕ)) → (to : List ℕ) → SentMessage
     → Holding → Holding
 held_after_message x is_x began to (SentEnd destination context rejects components) holding =
@@ -122,7 +122,7 @@ held_after x is_x began [] holding = holding
 held_after x is_x began (out ∷ outs) holding =
     held_after x is_x began outs (held_after_message x is_x began out.to out.message holding)
 
--- the registers that hold x after the entries, where it is known with which digits each id began
+-- the registers that hold x after the entries, given the digits with which each id began
 abbrev pub holders_from : List ℕ → (List ℕ → Option (List ℕ)) → Holding → List Entry → Holding
 holders_from x began holding [] = holding
 holders_from x began holding (entry ∷ entries) =
@@ -139,6 +139,6 @@ abbrev pub serving : Option Subscriber → Holding
 serving None = held_by_none
 serving (Some s) = served_by s.register
 
--- The registers that hold x after a journal: at first the one that serves in the base.
+-- The registers that hold x after a journal, beginning with the one that serves in the base.
 unfoldable pub holders : State → List Entry → List ℕ → Holding
 holders base journal x = holders_from x (began_in base) (serving (base.records x)) journal

@@ -1,10 +1,10 @@
--- The table of one own invocation (Q.774, operations of class 1), `None` being Idle.
+-- The table of one own invocation (Q.774, invocation state machine for operations of class 1 of Q.771); `None` is Idle.
 use Rattle.std.specs.Prelude.{ℕ, ◌+◌, Bool, true, false, cond, Option, Some, None}
 use Rattle.machine.specs.Numbers.{invocation_timer, reject_timer}
 use Rattle.machine.specs.Received.{Side, General, OfInvoke, OfResult, OfError}
 use Rattle.machine.specs.State.{Was, OperationSent, WaitForReject}
 
--- what happens to an invocation: it is invoked, a component of its id comes, its timer runs out, or its dialogue ends
+-- what happens to an invocation: it is invoked, a component with its id is received, its timer expires, or its dialogue ends
 pub data Happening : Type 0 where
   Invoked : Happening
   GetsResultLast : Happening
@@ -14,7 +14,7 @@ pub data Happening : Type 0 where
   TimesOut : Happening
   DialogueEnds : Happening
 
--- What it answers: nothing, that the operation succeeded or failed, or a Reject of what came, with the problem
+-- The reply: nothing, success or failure of the operation, or a Reject of the received component with the problem
 -- unrecognizedInvokeID.
 pub data Reply : Type 0 where
   NoReply : Reply
@@ -34,20 +34,20 @@ sent_at now = Some (OperationSent, now + invocation_timer)
 abbrev pub waiting_at : ℕ → Standing
 waiting_at now = Some (WaitForReject, now + reject_timer)
 
--- whether a Reject of this side is of the Invoke: its problem is general or of the Invoke
+-- whether a Reject with a problem of this kind rejects the Invoke: a general problem or an invoke problem
 abbrev pub ends_it : Side → Bool
 ends_it General = true
 ends_it OfInvoke = true
 ends_it OfResult = false
 ends_it OfError = false
 
--- a Reject in Operation Sent: it ends the invocation, or is of no concern to it
+-- a Reject in Operation Sent: it ends the invocation, or leaves it as it is
 abbrev pub rejected_at : Side → ℕ → Standing × Reply
 rejected_at side deadline = cond (ends_it side) (None, Failed) (Some (OperationSent, deadline), NoReply)
 
--- The table: the state before, what happens and the clock give the state after and the reply; `None` never happens.
--- That a late result or error is rejected in Wait for Reject too is this project's profile, as is the end of a dialogue
--- where nothing waits.
+-- The table: the state before, what happens and the clock determine the state after and the reply; `None` never happens.
+-- The profile's choice: a late result or error is rejected in Wait for Reject too, and the end of a dialogue in which nothing
+-- waits (profile).
 abbrev pub invocation : Standing → Happening → ℕ → Option (Standing × Reply)
 invocation None Invoked now = Some (sent_at now, NoReply)
 invocation None GetsResultLast now = Some (None, Rejected OfResult)

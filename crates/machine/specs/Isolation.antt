@@ -1,4 +1,4 @@
--- One subscriber's own entries, and the state as this subscriber has it alone.
+-- One subscriber's own entries, and the state with this subscriber alone.
 use Rattle.std.specs.Prelude.{◌≡◌, ℕ, List, [], ◌∷◌, filter, Bool, true, false, cond, ◌&&◌, ◌==◌, Option, Some, None}
 use Rattle.machine.specs.Keys.{same, Every}
 use Rattle.machine.specs.Numbers.{no_resources}
@@ -40,8 +40,8 @@ own S x = record {
   hlr = S.hlr;
 }
 
--- An update that a full shard turned away is told by its answer: an entry with a subject sends an Abort for want of
--- resources only then.
+-- An update that a full shard turned away is recognized by its answer: only then does an entry with a subject send an Abort
+-- with the cause resourceLimitation.
 abbrev pub is_limit : SentMessage → Bool
 is_limit (SentAbort destination (Cause cause)) = cause == no_resources
 is_limit _ = false

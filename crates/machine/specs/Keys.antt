@@ -1,16 +1,16 @@
--- Digits, octet strings and ids as lists of numbers, and maps from them. A map is a function: it gives what stands at a
--- key, or `None`. Two maps are equal when they give the same everywhere.
+-- Digits, octet strings and ids as lists of numbers, and maps from them. A map is a function from a key to its value, or to
+-- `None`. Two maps are equal if they agree on every key.
 use Rattle.std.specs.Prelude.{ℕ, List, [], ◌∷◌, Bool, true, false, cond, ◌&&◌, bytes_eq, ◌+◌, ◌-◌, ◌*◌, ◌%◌, ◌==◌, length, slice_index, ◌≡◌, ◌≢◌, ◌⊎◌}
 
 -- whether two lists are the same
 abbrev pub same : List ℕ → List ℕ → Bool
 same a b = bytes_eq a b
 
--- the map with what stands at one key changed
+-- the map with the value at one key replaced
 unfoldable pub put : {X : Type 0} → (List ℕ → X) → List ℕ → X → List ℕ → X
 put map key value asked = cond (same key asked) value (map asked)
 
--- the same where the keys are numbers
+-- the same with numbers as keys
 unfoldable pub put_at : {X : Type 0} → (ℕ → X) → ℕ → X → ℕ → X
 put_at map key value asked = cond (key == asked) value (map asked)
 
@@ -33,16 +33,16 @@ abbrev pub Every : {X : Type 0} → (X → Type 0) → List X → Type 0
 Every P [] = Unit {0}
 Every P (x ∷ xs) = P x × Every P xs
 
--- the key stands in the list
+-- the key is in the list
 abbrev pub IsIn : List ℕ → List (List ℕ) → Type 0
 IsIn key [] = ⊥
 IsIn key (k ∷ ks) = (key ≡ k) ⊎ IsIn key ks
 
--- the key stands nowhere in the list
+-- the key is not in the list
 abbrev pub IsNotIn : List ℕ → List (List ℕ) → Type 0
 IsNotIn key keys = Every (λ k. key ≢ k) keys
 
--- no key stands twice
+-- no key occurs twice
 abbrev pub AreDifferent : List (List ℕ) → Type 0
 AreDifferent [] = Unit {0}
 AreDifferent (k ∷ ks) = IsNotIn k ks × AreDifferent ks

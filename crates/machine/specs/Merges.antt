@@ -1,4 +1,4 @@
--- One journal of sixteen.
+-- One journal made of sixteen.
 use Rattle.std.specs.Prelude.{◌≡◌, ℕ, ◌<◌, List, [], ◌∷◌}
 use Rattle.machine.specs.Keys.{put_at}
 use Rattle.machine.specs.Numbers.{shards}

@@ -1,7 +1,7 @@
 -- The numbers of the standards by their names there, and those that this project's profile chooses.
 use Rattle.std.specs.Prelude.{ℕ, ◌^◌}
 
--- operations (TS 29.002)
+-- operations (TS 29.002, MAP-MobileServiceOperations and MAP-ShortMessageServiceOperations)
 abbrev pub update_location : ℕ
 update_location = 2
 
@@ -11,7 +11,7 @@ send_routing_info_for_sm = 45
 abbrev pub purge_ms : ℕ
 purge_ms = 67
 
--- errors (TS 29.002)
+-- errors (TS 29.002, MAP-Errors)
 abbrev pub unknown_subscriber : ℕ
 unknown_subscriber = 1
 
@@ -33,7 +33,7 @@ data_missing = 35
 abbrev pub unexpected_data_value : ℕ
 unexpected_data_value = 36
 
--- teleservices (TS 29.002): the group of all short message services, and the one to a mobile station
+-- teleservices (TS 29.002, MAP-TS-Code): allShortMessageServices, and shortMessageMT-PP, the one to a mobile station
 abbrev pub short_message_services : ℕ
 short_message_services = 0x20
 
@@ -47,7 +47,7 @@ unrecognized_transaction_id = 1
 abbrev pub no_resources : ℕ
 no_resources = 4
 
--- problems of an Invoke (Q.773)
+-- invoke problems (Q.773)
 abbrev pub duplicate_invoke_id : ℕ
 duplicate_invoke_id = 0
 
@@ -66,29 +66,29 @@ unrecognized_linked_id = 5
 abbrev pub linked_response_unexpected : ℕ
 linked_response_unexpected = 6
 
--- the problem of a result or of an error that answers no own invocation (Q.773)
+-- the problem of a result or an error that answers no own invocation (Q.773, return result and return error problems)
 abbrev pub unrecognized_invoke_id : ℕ
 unrecognized_invoke_id = 0
 
--- the timers in ticks of a shard's clock: how long an answer is waited for, and then a Reject of it (profile)
+-- timers, in ticks of a shard's clock: how long to wait for an answer, and then for a Reject of it (profile)
 abbrev pub invocation_timer : ℕ
 invocation_timer = 20
 
 abbrev pub reject_timer : ℕ
 reject_timer = 5
 
--- a greater clock value counts as this one (profile)
+-- the greatest clock value; a greater one counts as this one (profile)
 abbrev pub latest_clock : ℕ
 latest_clock = 2 ^ 62
 
--- how many teleservice codes one insertSubscriberData carries, and how often a cancelLocation is tried (profile)
+-- the teleservice codes in one insertSubscriberData, and the attempts at a cancelLocation (profile)
 abbrev pub codes_in_insert : ℕ
 codes_in_insert = 8
 
 abbrev pub most_attempts : ℕ
 most_attempts = 3
 
--- the shards, and the open dialogues of one (profile)
+-- the number of shards, and the most open dialogues in one (profile)
 abbrev pub shards : ℕ
 shards = 16
 

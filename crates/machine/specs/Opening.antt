@@ -13,7 +13,7 @@ opening records directory hlr = record {
   hlr = hlr;
 }
 
--- A record that may be loaded: no update is in progress, what has no register is not purged, and what is withdrawn has none.
+-- A record that may be loaded: no update is in progress, it is not purged without a register, and if withdrawn it has none.
 pub record IsLoaded (s : Subscriber) : Type 0 where
   pub unmarked : s.current ≡ None
   pub purged : s.register ≡ None → s.purged ≡ false

@@ -1,12 +1,12 @@
--- What a procedure on one subscriber leaves, and what its parts have in common.
+-- The outcome of a procedure on one subscriber, and what the procedures have in common.
 use Rattle.std.specs.Prelude.{ℕ, zero, suc, ℤ, pos, ◌+◌, ◌-◌, ◌*◌, ◌/◌, List, [], ◌∷◌, ◌++◌, map, take, drop, length, Bool, false, cond, Option, Some, None}
 use Rattle.machine.specs.Keys.{same}
 use Rattle.machine.specs.Numbers.{invocation_timer, codes_in_insert}
 use Rattle.machine.specs.Sent.{CancellationType, LocationCancellation, Rejection, SentComponent, Insert, Cancel, SentMessage, SentBegin, SentContinue, SentEnd, Out}
 use Rattle.machine.specs.State.{Subscriber, Transaction, OperationSent, Invocation, Cancels, Dialogue, Local}
 
--- The record after, the dialogue that the event names as it stays (`None`: it is gone, or none is named), a dialogue that
--- opens under the new id, and what is sent, in order. The new id is a procedure's only free choice.
+-- The record after; the dialogue that the event names after it (`None`: it is gone, or none is named); a dialogue that opens
+-- under the new id; and what is sent, in order. The new id is a procedure's only free choice.
 pub record Outcome : Type 0 where
   pub after : Option Subscriber
   pub stays : Option Dialogue
@@ -32,7 +32,7 @@ abbrev pub below : ℕ → List ℕ
 below zero = []
 below (suc k) = below k ++ k ∷ []
 
--- how many inserts follow the first, which is always sent
+-- the number of inserts after the first, which is always sent
 abbrev pub further : List ℕ → ℕ
 further codes = (length codes - 1) / codes_in_insert
 
@@ -40,14 +40,14 @@ further codes = (length codes - 1) / codes_in_insert
 abbrev pub inserts_invoked : ℕ → List ℕ → List Invocation
 inserts_invoked now codes = invoked now (pos 1) ∷ map (λ k. invoked now (pos (k + 2))) (below (further codes))
 
--- The subscriber data (TS 29.002, insertSubscriberData): the codes in their order, eight to an insert, and the MSISDN in
--- the first. The IMSI goes along where no update names the subscriber.
+-- The subscriber data (TS 29.002, 8.8.1, MAP-INSERT-SUBSCRIBER-DATA): the codes in order, eight to an insert, and the MSISDN
+-- in the first. The IMSI is included if no update names the subscriber.
 abbrev pub inserts : (imsi : Option (List ℕ)) → (msisdn codes : List ℕ) → List SentComponent
 inserts imsi msisdn codes =
     Insert (pos 1) imsi (Some msisdn) (take codes_in_insert codes)
     ∷ map (λ k. Insert (pos (k + 2)) imsi None (take codes_in_insert (drop (codes_in_insert * (k + 1)) codes))) (below (further codes))
 
--- A cancel (TS 29.002, cancelLocation) to these VLR digits, and its Begin.
+-- The dialogue of a cancel to these VLR digits (TS 29.002, 8.1.3, MAP_CANCEL_LOCATION).
 abbrev pub cancel : Local → List ℕ → (attempt : ℕ) → CancellationType → Dialogue
 cancel here vlr attempt cause = record {
   subscriber = here.imsi;
@@ -62,12 +62,12 @@ cancel_begin here vlr cause new = send vlr (SentBegin new LocationCancellation (
 
 -- what is sent in a dialogue
 
--- an End, where the dialogue is Active
+-- an End, if the dialogue is Active
 abbrev pub ended : Transaction → (remote : Option (List ℕ)) → List Rejection → List SentComponent → List Out
 ended t None rejects components = []
 ended t (Some remote) rejects components = send t.peer (SentEnd remote None rejects components)
 
--- a Continue, where there is a Reject to send; the Continue that was received has made the dialogue Active
+-- a Continue, if there is a Reject to send; the received Continue has made the dialogue Active
 abbrev pub continued : List ℕ → Transaction → (remote : Option (List ℕ)) → List Rejection → List Out
 continued id t remote [] = []
 continued id t None (r ∷ rs) = []
@@ -80,7 +80,7 @@ abbrev pub is_marked : (current : Option (List ℕ)) → List ℕ → Bool
 is_marked None id = false
 is_marked (Some current) id = same current id
 
--- the record without the mark, where it is this dialogue's
+-- the record, without the mark if it is this dialogue's
 abbrev pub unmarked : List ℕ → Option Subscriber → Option Subscriber
 unmarked id None = None
 unmarked id (Some subscriber) =

@@ -1,4 +1,4 @@
--- The whole state and the parts of the shards.
+-- The whole state, and the part of each shard.
 use Rattle.std.specs.Prelude.{◌≡◌, ℕ, List, cond, ◌==◌, nat_lt, None}
 use Rattle.machine.specs.Keys.{shard_of, shard_of_id}
 use Rattle.machine.specs.Numbers.{shards}
@@ -24,7 +24,7 @@ union states = record {
   hlr = (states 0).hlr;
 }
 
--- from S to T, what is not of shard n stays
+-- from S to T, nothing outside of shard n changes
 pub record Leaves (S T : State) (n : ℕ) : Type 0 where
   pub records : (x : List ℕ) → (shard_of x ≡ n → ⊥) → T.records x ≡ S.records x
   pub dialogues : (i : List ℕ) → (shard_of_id i ≡ n → ⊥) → T.dialogues i ≡ S.dialogues i

@@ -1,29 +1,29 @@
--- What a received frame reads to, as plain values: messages and components of Q.773, parameters of TS 29.002. There is
--- one such type for the whole project: the codecs read to it, and the machine acts on it.
+-- What a received frame reads to, as plain values: messages and components of Q.773, parameters of TS 29.002. The whole
+-- project uses these types: the decoders produce them, and the machine acts on them.
 use Rattle.std.specs.Prelude.{ℕ, ℤ, List, Option}
 
--- The register that serves a subscriber (TS 23.012): the digits of its VLR number and of its MSC number, and the LMSI
+-- The register that serves a subscriber (TS 23.012): the digits of its VLR number and of its MSC number (E.164), and the LMSI
 -- under which it knows the subscriber.
 pub record Register : Type 0 where
   pub vlr : List ℕ
   pub msc : List ℕ
   pub lmsi : Option (List ℕ)
 
--- The argument of an operation that a peer may invoke (TS 29.002). `BadValue` is of the operation's type, and one of
--- its identities or numbers is none.
+-- The argument of an operation that a peer may invoke (TS 29.002). `BadValue` is of the operation's type, but an identity
+-- or number in it is invalid.
 pub data Argument : Type 0 where
   BadValue : Argument
-  Update : (imsi : List ℕ) → Register → Argument  -- updateLocation
-  Purge : (imsi : List ℕ) → (vlr : Option (List ℕ)) → Argument  -- purgeMS
-  Route : (msisdn : List ℕ) → Argument  -- sendRoutingInfoForSM
+  Update : (imsi : List ℕ) → Register → Argument  -- updateLocation (UpdateLocationArg)
+  Purge : (imsi : List ℕ) → (vlr : Option (List ℕ)) → Argument  -- purgeMS (PurgeMS-Arg)
+  Route : (msisdn : List ℕ) → Argument  -- sendRoutingInfoForSM (RoutingInfoForSM-Arg)
 
 -- The parameter of a received Invoke, read by its operation: not of that operation's type, or an argument.
 pub data Parameter : Type 0 where
   Mistyped : Parameter
   Typed : Argument → Parameter
 
--- The code of an operation or an error (Q.773). Codes of more than one octet and OBJECT IDENTIFIERs are those of no
--- operation that is known here.
+-- The code of an operation or an error (Q.773). No operation known here has a code of more than one octet or an OBJECT
+-- IDENTIFIER.
 pub data Code : Type 0 where
   Number : ℕ → Code
   Other : Code
@@ -35,15 +35,15 @@ pub data Side : Type 0 where
   OfResult : Side
   OfError : Side
 
--- A received component (Q.773). P is what stands for the parameter of an Invoke. The code and the parameter of a result,
--- and the parameter of an error, are accepted unread (profile).
+-- A received component (Q.773). P is the type of an Invoke's parameter. The code and the parameter of a result, and the
+-- parameter of an error, are accepted unread (profile).
 pub data ComponentOf (P : Type 0) : Type 0 where
   Invoke : (id : ℤ) → (linked : Option ℤ) → (operation : Code) → (parameter : Option P) → ComponentOf P
   ResultLast : (id : ℤ) → ComponentOf P
   ResultNotLast : (id : ℤ) → ComponentOf P
   ReturnError : (id : ℤ) → (error : Code) → ComponentOf P
   Reject : (id : Option ℤ) → Side → (problem : ℕ) → ComponentOf P
-  Bad : (id : Option ℤ) → (problem : ℕ) → ComponentOf P  -- ill-formed, with the general problem that it gives
+  Bad : (id : Option ℤ) → (problem : ℕ) → ComponentOf P  -- ill-formed, with the general problem that is answered
   Ignored : ComponentOf P  -- an ill-formed Reject, which keeps its place
 
 abbrev pub Component : Type 0
@@ -74,7 +74,7 @@ pub data Message : Type 0 where
   End : (destination : List ℕ) → Option Response → List Component → Message
   Abort : (destination : List ℕ) → Message
 
--- What a frame reads to: it is discarded, it is answered with an Abort of this P-Abort cause, or it is a message.
+-- The verdict on a frame: it is discarded, answered with an Abort with this P-Abort cause, or a message.
 pub data Verdict : Type 0 where
   Discard : Verdict
   Refuse : (origin : List ℕ) → (cause : ℕ) → Verdict

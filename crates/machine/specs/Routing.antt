@@ -6,34 +6,34 @@ use Rattle.machine.specs.Received.{Argument, Update, Purge, Route, Component, Me
 use Rattle.machine.specs.Events.{Event, Frame, Clock, Expire, Operator}
 use Rattle.machine.specs.Begins.{first_argument}
 
--- the subscriber that an argument names; an SM route is asked for by MSISDN
+-- the subscriber that an argument names; an SM route names it by MSISDN
 abbrev pub named_in : (directory : List ℕ → Option (List ℕ)) → Option Argument → Option (List ℕ)
 named_in directory (Some (Update imsi register)) = Some imsi
 named_in directory (Some (Purge imsi vlr)) = Some imsi
 named_in directory (Some (Route msisdn)) = directory msisdn
 named_in directory _ = None
 
--- The subscriber that a Begin asks about, by its first component alone. Its context is not looked at.
+-- The subscriber that a Begin names, by its first component alone. Its context is not considered.
 abbrev pub asked : (directory : List ℕ → Option (List ℕ)) → List Component → Option (List ℕ)
 asked directory components = named_in directory (first_argument components)
 
--- where there is no subscriber, shard 0
+-- without a subscriber, shard 0
 abbrev pub shard_asked : Option (List ℕ) → ℕ
 shard_asked None = 0
 shard_asked (Some imsi) = shard_of imsi
 
--- the shard of a destination id, which may be none of a local id's form
+-- the shard of a destination id, which may not have the form of a local id
 abbrev pub shard_named : List ℕ → ℕ
 shard_named id = cond ((length id == 4) && nat_lt (shard_of_id id) shards) (shard_of_id id) 0
 
--- a Begin goes by the subscriber it asks about, what follows by the local id
+-- a Begin is routed by the subscriber that it names, later messages by the local id
 abbrev pub route_message : (directory : List ℕ → Option (List ℕ)) → Message → ℕ
 route_message directory (Begin origin name components) = shard_asked (asked directory components)
 route_message directory (Continue origin destination portion components) = shard_named destination
 route_message directory (End destination portion components) = shard_named destination
 route_message directory (Abort destination) = shard_named destination
 
--- what is no message goes to shard 0
+-- a frame that is no message goes to shard 0
 abbrev pub route_verdict : (directory : List ℕ → Option (List ℕ)) → Verdict → ℕ
 route_verdict directory (Read message) = route_message directory message
 route_verdict directory _ = 0

@@ -1,4 +1,4 @@
--- Where short messages for a subscriber go (TS 29.002, sendRoutingInfoForSM).
+-- Where short messages for a subscriber go (TS 29.002, 12.1, MAP-SEND-ROUTING-INFO-FOR-SM).
 use Rattle.std.specs.Prelude.{ℕ, List, Bool, cond, ◌||◌, ◌==◌, Option, Some, None}
 use Rattle.std.specs.List.{list_any}
 use Rattle.machine.specs.Numbers.{unknown_subscriber, absent_subscriber_sm, teleservice_not_provisioned, short_message_services, short_message_to_mobile}
@@ -10,7 +10,7 @@ pub data RouteAnswer : Type 0 where
   NoRoute : (error : ℕ) → RouteAnswer
   RouteTo : (imsi msc : List ℕ) → (lmsi : Option (List ℕ)) → RouteAnswer
 
--- whether the subscriber may get short messages
+-- whether the subscriber may receive short messages
 abbrev pub has_short_messages : List ℕ → Bool
 has_short_messages codes = list_any (λ code. (code == short_message_services) || (code == short_message_to_mobile)) codes
 

@@ -6,8 +6,8 @@ use Rattle.machine.specs.Numbers.{most_dialogues}
 use Rattle.machine.specs.Received.{Register}
 use Rattle.machine.specs.Sent.{CancellationType}
 
--- A subscriber's record; its key is the IMSI. `roam` has the prefixes of the VLR numbers that are allowed, or `None` where
--- all are. `current` is the local id of the update that counts.
+-- A subscriber's record; its key is the IMSI. `roam` has the prefixes of the VLR numbers that are allowed, or `None` if all
+-- are. `current` is the local id of the latest update, which alone may complete.
 pub record Subscriber : Type 0 where
   pub msisdn : List ℕ
   pub codes : List ℕ
@@ -17,7 +17,7 @@ pub record Subscriber : Type 0 where
   pub current : Option (List ℕ)
   pub withdrawn : Bool
 
--- A transaction (Q.774): Active where the peer's id is known, otherwise Initiation Sent.
+-- A transaction (Q.774, transaction sublayer): Active if the peer's id is known, otherwise Initiation Sent.
 pub record Transaction : Type 0 where
   pub peer : List ℕ
   pub remote : Option (List ℕ)
@@ -27,20 +27,20 @@ pub data Was : Type 0 where
   OperationSent : Was
   WaitForReject : Was
 
--- an own invocation: its invoke id, its state, and when its timer runs out
+-- an own invocation: its invoke id, its state, and when its timer expires
 pub record Invocation : Type 0 where
   pub id : ℤ
   pub was : Was
   pub deadline : ℕ
 
--- What a dialogue is for: an update, with the register of its argument and the invoke id that the peer waits for; a cancel,
--- with the VLR digits it goes to; or new subscriber data.
+-- The kind of a dialogue: an update, with the register of its argument and the invoke id that the peer waits for; a cancel,
+-- with the VLR digits it is sent to; or new subscriber data.
 pub data Kind : Type 0 where
   Updates : Register → (invoke : ℤ) → Kind
   Cancels : (vlr : List ℕ) → (attempt : ℕ) → CancellationType → Kind
   Data : Kind
 
--- An open dialogue. Its invocations stand by rising ids.
+-- An open dialogue. Its invocations are in rising order of their ids.
 pub record Dialogue : Type 0 where
   pub subscriber : List ℕ
   pub transaction : Transaction
@@ -56,7 +56,7 @@ pub record State : Type 0 where
   pub directory : List ℕ → Option (List ℕ)
   pub hlr : List ℕ
 
--- whether it waits for its answer
+-- whether an invocation in this state waits for its answer
 abbrev pub is_sent : Was → Bool
 is_sent OperationSent = true
 is_sent WaitForReject = false
@@ -66,7 +66,7 @@ abbrev pub any_sent : List Invocation → Bool
 any_sent [] = false
 any_sent (v ∷ vs) = cond (is_sent v.was) true (any_sent vs)
 
--- the dialogue, where it is this subscriber's
+-- the dialogue, if it is this subscriber's
 abbrev pub if_of : List ℕ → Option Dialogue → Option Dialogue
 if_of imsi None = None
 if_of imsi (Some dialogue) = cond (same dialogue.subscriber imsi) (Some dialogue) None
@@ -90,7 +90,7 @@ local_of S shard imsi = record {
   hlr = S.hlr;
 }
 
--- what it sees where there is no subscriber
+-- what it sees if there is no subscriber
 unfoldable pub local_of_nobody : State → ℕ → Local
 local_of_nobody S shard = record {
   imsi = [];
@@ -112,6 +112,6 @@ pub record AreOpen (S : State) (n : ℕ) (is : List (List ℕ)) : Type 0 where
   pub different : AreDifferent is
   pub open_ones : Every (λ i. (shard_of_id i ≡ n) × (S.dialogues i ≢ None)) is
 
--- as many dialogues are open in the shard as may be
+-- the shard is full: it has the most open dialogues that it may have
 abbrev pub IsFull : State → ℕ → Type 0
 IsFull S n = (is : List (List ℕ)) × AreOpen S n is × (length is ≡ most_dialogues)

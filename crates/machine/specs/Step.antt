@@ -14,7 +14,7 @@ use Rattle.machine.specs.Changes.{changes}
 use Rattle.machine.specs.Routing.{route}
 use Rattle.machine.specs.Turns.{Turn, Dismissed, Ticks, Begins, Continues, Closes, Expires, Changes, TurnsTo, concern, named}
 
--- the procedure, on what it sees
+-- the turn's procedure, on what it sees
 abbrev pub outcome : Local → Turn → (new : List ℕ) → Outcome
 outcome here (Dismissed sent) new = unchanged here sent
 outcome here (Ticks shard now) new = unchanged here []
@@ -24,12 +24,12 @@ outcome here (Closes id d) new = closes here id
 outcome here (Expires id d invoke was) new = expires here id d invoke was new
 outcome here (Changes imsi change) new = changes here change here.record_of new
 
--- what the procedure sees of the subscriber whom it concerns, if any
+-- what the procedure sees of its subscriber, if any
 abbrev pub seen : State → ℕ → Option (List ℕ) → Local
 seen S shard None = local_of_nobody S shard
 seen S shard (Some imsi) = local_of S shard imsi
 
--- the outcome of a turn in a shard, where a dialogue that opens takes this id
+-- the outcome of a turn in a shard, with this id for a dialogue that opens
 abbrev pub outcome_in : State → ℕ → Turn → (new : List ℕ) → Outcome
 outcome_in S shard turn new = outcome (seen S shard (concern S.directory turn)) turn new
 
@@ -39,12 +39,12 @@ pub record Answer : Type 0 where
   pub subject : Option (List ℕ)
   pub sent : List Out
 
--- a dialogue that opens takes the new id
+-- the id that is taken: the new one, if a dialogue opens
 abbrev pub taken : (new : List ℕ) → Option Dialogue → Option (List ℕ)
 taken new None = None
 taken new (Some d) = Some new
 
--- the subscriber, where there is a record
+-- the subscriber, if there is a record
 abbrev pub if_known : List ℕ → Option Subscriber → Option (List ℕ)
 if_known imsi None = None
 if_known imsi (Some s) = Some imsi
@@ -54,15 +54,15 @@ abbrev pub known_in : State → Option (List ℕ) → Option (List ℕ)
 known_in S None = None
 known_in S (Some imsi) = if_known imsi (S.records imsi)
 
--- The subject of a turn: the subscriber of the open dialogue that it is for, or the one whom a Begin asks about or a change
--- names, where there is a record.
+-- The subject of a turn: the subscriber of the open dialogue that it is for; otherwise the one that a Begin or a change names,
+-- if there is a record.
 abbrev pub subject_of : State → Turn → Option (List ℕ)
 subject_of S (Continues id d components) = Some d.subscriber
 subject_of S (Closes id d) = Some d.subscriber
 subject_of S (Expires id d invoke was) = Some d.subscriber
 subject_of S turn = known_in S (concern S.directory turn)
 
--- the dialogues after: the one that is named as it stays, then the one that opens
+-- the dialogues after: the named one is replaced or removed
 abbrev pub named_stays : Option (List ℕ) → Option Dialogue → (List ℕ → Option Dialogue) → List ℕ → Option Dialogue
 named_stays None stays dialogues = dialogues
 named_stays (Some id) stays dialogues = put dialogues id stays
@@ -72,7 +72,7 @@ abbrev pub new_opens : (new : List ℕ) → Option Dialogue → (List ℕ → Op
 new_opens new None dialogues = dialogues
 new_opens new (Some d) dialogues = put dialogues new (Some d)
 
--- the state with one subscriber's record and these dialogues as the outcome has them
+-- the state with the subscriber's record and the dialogues of the outcome
 abbrev pub moved : State → (imsi id : Option (List ℕ)) → (new : List ℕ) → Outcome → State
 moved S None id new o = S
 moved S (Some imsi) id new o = record S {
@@ -85,7 +85,7 @@ abbrev pub ticked : Turn → State → State
 ticked (Ticks shard now) S = record S { clocks = put_at S.clocks shard (max (S.clocks shard) (min now latest_clock)) }
 ticked _ S = S
 
--- A dialogue would open beside the open ones, of which there are as many as may be.
+-- A dialogue would open in a full shard, and not in place of a named one.
 pub record WouldOverflow (S : State) (n : ℕ) (turn : Turn) (o : Outcome) : Type 0 where
   pub opens : IsTrue (is_some o.opens)
   pub beside : named turn ≡ None

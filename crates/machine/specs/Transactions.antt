@@ -1,9 +1,9 @@
--- The transaction table (Q.774; in this project's profile no source address is compared).
+-- The transaction table (Q.774, transaction sublayer). Source addresses are not compared (profile).
 use Rattle.std.specs.Prelude.{ℕ, List, cond, Option, Some, None}
 use Rattle.machine.specs.Keys.{same}
 use Rattle.machine.specs.State.{Transaction}
 
--- What comes for a local id, or is done with it by the register itself.
+-- What is received for a local id, or what the register itself does with it.
 pub data Primitive : Type 0 where
   OwnBegin : (to : List ℕ) → Primitive
   Answered : (from origin : List ℕ) → Primitive  -- a Begin came, and is answered by a Continue
@@ -13,7 +13,7 @@ pub data Primitive : Type 0 where
   OwnEnd : Primitive
   OwnClose : Primitive  -- the end without a frame
 
--- What becomes of it: it is sent; it is for the dialogue; it is for none and answered with an Abort, cause
+-- What becomes of it: it is sent; it is for the dialogue; it is for none, and answered with an Abort with the cause
 -- unrecognizedTransactionID; nothing.
 pub data Fate : Type 0 where
   IsSent : Fate
@@ -21,16 +21,16 @@ pub data Fate : Type 0 where
   Unassigned : Fate
   Nothing : Fate
 
--- the transaction after, and what becomes of what came
+-- the transaction after, and what becomes of the primitive
 pub record Row : Type 0 where
   pub after : Option Transaction
   pub fate : Fate
 
--- a row that happens
+-- a row of the table
 abbrev pub row : Option Transaction → Fate → Option Row
 row after fate = Some (record { after = after; fate = fate })
 
--- A Continue at an open dialogue. In Initiation Sent it sets the peer's id and address; in Active it has to have that id.
+-- A Continue for an open dialogue. In Initiation Sent it sets the peer's address and id; in Active it must have that id.
 abbrev pub continue_row : Transaction → (remote : Option (List ℕ)) → (from origin : List ℕ) → Option Row
 continue_row t None from origin = row (Some (record { peer = from; remote = Some origin })) ForIt
 continue_row t (Some known) from origin = cond (same known origin) (row (Some t) ForIt) (row (Some t) Unassigned)
@@ -45,7 +45,7 @@ abbrev pub if_initiated : Option (List ℕ) → Option Row → Option Row
 if_initiated None then = then
 if_initiated (Some remote) then = None
 
--- The table. The transaction is `None` where no dialogue has the id; a row that is `None` never happens.
+-- The table. The transaction is `None` if no dialogue has the id; a row that is `None` never happens.
 abbrev pub transact : Option Transaction → Primitive → Option Row
 transact None (OwnBegin to) = row (Some (record { peer = to; remote = None })) IsSent
 transact None (Answered from origin) = row (Some (record { peer = from; remote = Some origin })) IsSent

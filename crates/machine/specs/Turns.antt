@@ -1,4 +1,4 @@
--- What an event turns to in a state: what is to be done, and for which dialogue.
+-- What an event leads to in a state: the procedure, and the dialogue that it is for.
 use Rattle.std.specs.Prelude.{◌≡◌, ℕ, ℤ, ◌≤◌, List, [], ◌∷◌, false, cond, Option, Some, None}
 use Rattle.std.specs.declared.cmp.Ordering.{Ordering}
 use Rattle.std.specs.Ordering.{nat_cmp, int_cmp, int_eq, ordering_then, is_gt}
@@ -13,7 +13,7 @@ use Rattle.machine.specs.Transactions.{transact, ContinueComes, Row, Fate, ForIt
 use Rattle.machine.specs.Outcome.{send}
 use Rattle.machine.specs.Routing.{asked}
 
--- What is to be done: nothing but to answer, to set a clock, or a procedure of one of five kinds.
+-- What is to be done: only to answer, to set a clock, or one of five procedures.
 pub data Turn : Type 0 where
   Dismissed : List Out → Turn  -- nothing changes, and this is sent
   Ticks : (shard now : ℕ) → Turn
@@ -23,7 +23,7 @@ pub data Turn : Type 0 where
   Expires : (id : List ℕ) → Dialogue → (invoke : ℤ) → Was → Turn
   Changes : (imsi : List ℕ) → Change → Turn
 
--- The transaction after a Continue, where the transaction table says that the Continue is for the dialogue.
+-- The transaction after a Continue, if the transaction table says that the Continue is for the dialogue.
 abbrev pub if_for_it : Fate → Option Transaction → Option Transaction
 if_for_it ForIt t = t
 if_for_it _ t = None
@@ -33,21 +33,21 @@ abbrev pub for_it : Option Row → Option Transaction
 for_it None = None
 for_it (Some row) = if_for_it row.fate row.after
 
--- a Continue at an open dialogue
+-- a Continue with the id of an open dialogue
 abbrev pub continue_for : (from origin id : List ℕ) → List Component → Dialogue → Option Transaction → Turn
 continue_for from origin id components dialogue None =
     Dismissed (send from (SentAbort origin (Cause unrecognized_transaction_id)))
 continue_for from origin id components dialogue (Some t) =
     Continues id (record dialogue { transaction = t }) components
 
--- a Continue, whether its id is open or not
+-- a Continue, whether a dialogue is open under its id or not
 abbrev pub continue_at : (from origin id : List ℕ) → List Component → Option Dialogue → Turn
 continue_at from origin id components None =
     Dismissed (send from (SentAbort origin (Cause unrecognized_transaction_id)))
 continue_at from origin id components (Some dialogue) =
     continue_for from origin id components dialogue (for_it (transact (Some dialogue.transaction) (ContinueComes from origin)))
 
--- an End or an Abort; for no open dialogue it is discarded
+-- an End or an Abort; without an open dialogue it is discarded
 abbrev pub close_at : List ℕ → Option Dialogue → Turn
 close_at id None = Dismissed []
 close_at id (Some dialogue) = Closes id dialogue
@@ -71,7 +71,7 @@ abbrev pub invocation_of : ℤ → List Invocation → Option Invocation
 invocation_of id [] = None
 invocation_of id (v ∷ vs) = cond (int_eq v.id id) (Some v) (invocation_of id vs)
 
--- The deadline of the invocation j of the open dialogue i, of shard n, is not after the shard's clock.
+-- The invocation j of the open dialogue i of shard n is due: its deadline is not after the shard's clock.
 pub record IsDue (S : State) (n : ℕ) (i : List ℕ) (d : Dialogue) (j : ℤ) (v : Invocation) : Type 0 where
   pub of_shard : shard_of_id i ≡ n
   pub is_open : S.dialogues i ≡ Some d
@@ -82,27 +82,27 @@ pub record IsDue (S : State) (n : ℕ) (i : List ℕ) (d : Dialogue) (j : ℤ) (
 abbrev pub triple_cmp : ℕ → List ℕ → ℤ → ℕ → List ℕ → ℤ → Ordering
 triple_cmp t i j t' i' j' = ordering_then (nat_cmp t t') (ordering_then (slice_cmp nat_cmp i i') (int_cmp j j'))
 
--- nothing that is due comes before this
+-- nothing that is due precedes this
 abbrev pub IsLeast : State → ℕ → (deadline : ℕ) → (id : List ℕ) → (invoke : ℤ) → Type 0
 IsLeast S n t i j =
     (i' : List ℕ) (d' : Dialogue) (j' : ℤ) (v' : Invocation) → IsDue S n i' d' j' v'
     → is_gt (triple_cmp t i j v'.deadline i' j') ≡ false
 
--- An expiry is of the least that is due, or nothing is due.
+-- An expiry takes the least of what is due, or nothing is due.
 pub data Expiry (S : State) (n : ℕ) (turn : Turn) : Type 0 where
   OneDue : (i : List ℕ) (d : Dialogue) (j : ℤ) (v : Invocation) → IsDue S n i d j v → IsLeast S n v.deadline i j
       → turn ≡ Expires i d j v.was → Expiry S n turn
   NoneDue : ((i : List ℕ) (d : Dialogue) (j : ℤ) (v : Invocation) → IsDue S n i d j v → ⊥) → turn ≡ Dismissed []
       → Expiry S n turn
 
--- the event turns to this
+-- the event leads to this turn
 abbrev pub TurnsTo : State → Event → Turn → Type 0
 TurnsTo S (Frame from verdict) turn = turn ≡ turn_of_verdict S.dialogues from verdict
 TurnsTo S (Clock shard now) turn = turn ≡ Ticks shard now
 TurnsTo S (Expire shard) turn = Expiry S shard turn
 TurnsTo S (Operator imsi change) turn = turn ≡ Changes imsi change
 
--- the subscriber whom it concerns
+-- the turn's subscriber
 abbrev pub concern : (directory : List ℕ → Option (List ℕ)) → Turn → Option (List ℕ)
 concern directory (Dismissed sent) = None
 concern directory (Ticks shard now) = None

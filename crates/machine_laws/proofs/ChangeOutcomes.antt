@@ -1,4 +1,4 @@
--- What every outcome of an operator's change has in common with the others.
+-- What all outcomes of an operator's change have in common.
 use Rattle.std.proofs.Common.{◌≡◌, ◌+◌, ◌*◌, take, drop, map, ℕ, pos, List, [], ◌∷◌, Bool, true, false, cond, refl, sym, ap, ◌∙◌, subst, Option, Some, None, is_some}
 use Rattle.std.proofs.lemmas.Bool.{both_ways}
 use Rattle.std.specs.List.{list_any}

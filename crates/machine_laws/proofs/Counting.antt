@@ -36,7 +36,7 @@ length_less i (j ∷ js) = go (same i j) (length_less i js)
     go true ih = omega arith
     go false ih = omega arith
 
--- it is gone, where the ids differ
+-- it is gone, if the ids differ
 pub none_less : (i : List ℕ) (js : List (List ℕ)) → AreDifferent js → IsNotIn i (less i js)
 unfolding less
 none_less i [] h = tt
@@ -64,7 +64,7 @@ different_take Rattle.std.proofs.Common.zero js h = tt
 different_take (suc n) [] h = tt
 different_take (suc n) (j ∷ js) h = (every_take n (λ k. j ≡ k → ⊥) js h.0, different_take n js h.1)
 
--- whether a table of ids tells that a shard is full
+-- whether a shard is full, by a table of ids
 
 in_less : (i k : List ℕ) (js : List (List ℕ)) → (i ≡ k → ⊥) → IsIn k js → IsIn k (less i js)
 unfolding less
@@ -98,7 +98,7 @@ every_in_less : (i : List ℕ) (js is : List (List ℕ)) → IsNotIn i is → Ev
 every_in_less i js [] n h = tt
 every_in_less i js (k ∷ is) n h = (in_less i k js n.0 h.0, every_in_less i js is n.1 h.1)
 
--- different ids that all stand in a table are no more than the table has
+-- different ids that are all in a table are no more than the table has
 pub no_more : (is js : List (List ℕ)) → AreDifferent is → Every (λ k. IsIn k js) is → length is ≤ length js
 no_more [] js d h = omega arith
 no_more (i ∷ is) js d h =

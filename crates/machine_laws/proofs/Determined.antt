@@ -23,7 +23,7 @@ use Rattle.machine.specs.Keys.{put, same}
 use Rattle.machine.specs.Routing.{route}
 use Rattle.machine_laws.proofs.Keys.{none_some, some_inj}
 
--- two outcomes with two new ids: they open a dialogue alike, and where they open none they are one
+-- two outcomes with two new ids: both open a dialogue or neither does, and if neither does they are equal
 
 pub record Free (o p : Outcome) : Type 0 where
   pub opens : is_some o.opens ≡ is_some p.opens
@@ -166,7 +166,7 @@ pub record SameTriple (t : ℕ) (i : List ℕ) (j : ℤ) (t' : ℕ) (i' : List �
   pub id : i ≡ i'
   pub invoke : j ≡ j'
 
-same_triple : (t : ℕ) (i : List ℕ) (j : ℤ) (t' : ℕ) (i' : List ℕ) (j' : ℤ) → is_gt (triple_cmp t i j t' i' j') ≡ false → is_gt (triple_cmp t' i' j' t i j) ≡ false → SameTriple t i j t' i' j'
+pub same_triple : (t : ℕ) (i : List ℕ) (j : ℤ) (t' : ℕ) (i' : List ℕ) (j' : ℤ) → is_gt (triple_cmp t i j t' i' j') ≡ false → is_gt (triple_cmp t' i' j' t i j) ≡ false → SameTriple t i j t' i' j'
 same_triple t i j t' i' j' h g =
     let a : Level (nat_cmp t t') (ordering_then (slice_cmp nat_cmp i i') (int_cmp j j')) (ordering_then (slice_cmp nat_cmp i' i) (int_cmp j' j)) = level _ _ _ _ (nat_cmp_total.antisymm t t') h g in
     let b : Level (slice_cmp nat_cmp i i') (int_cmp j j') (int_cmp j' j) = level _ _ _ _ (nat_list_cmp_total.antisymm i i') a.first a.second in
@@ -186,7 +186,7 @@ expiry_one S n turn come (OneDue i d j v due least is) (NoneDue none is') = absu
 expiry_one S n turn come (NoneDue none is) (OneDue i' d' j' v' due' least' is') = absurd (none i' d' j' v' due')
 expiry_one S n turn come (NoneDue none is) (NoneDue none' is') = is ∙ sym is'
 
--- what an event comes to is determined
+-- the turn of an event is determined
 pub comes_one : (S : State) (e : Event) (turn come : Turn) → TurnsTo S e turn → TurnsTo S e come → turn ≡ come
 comes_one S (Frame from v) turn come c d = c ∙ sym d
 comes_one S (Clock n now) turn come c d = c ∙ sym d
@@ -200,7 +200,7 @@ module _ (S : State) (e : Event) (turn : Turn) (new old : List ℕ) where
   free_here : Free (outcome_in S (route S.directory e) turn new) (outcome_in S (route S.directory e) turn old)
   free_here = free (seen S (route S.directory e) (concern S.directory turn)) new old turn
 
-  -- where no dialogue opens, the new id does not matter
+  -- if no dialogue opens, the new id does not matter
   moved_alike : (o : Outcome) → o.opens ≡ None → moved S (concern S.directory turn) (named turn) new o ≡ moved S (concern S.directory turn) (named turn) old o
   moved_alike o n = by (concern S.directory turn)
     where

@@ -1,4 +1,4 @@
--- What a fold over components needs: the effect of one more, from the table as it then stands.
+-- What a fold over components needs: the effect of one more component, from the table as it is then.
 use Rattle.std.proofs.Common.{◌≡◌, ◌+◌, ℕ, ℤ, List, [], ◌∷◌, ◌++◌, Bool, true, false, cond, not, ◌&&◌, ◌||◌, refl, sym, ap, ◌∙◌, subst, Option, Some, None, is_some, append_assoc, append-nil, int_eq}
 use Rattle.std.specs.Cmp.{int_eq_equiv}
 use Rattle.machine.specs.Received.{Bad, ComponentOf, Ignored, Invoke, Reject, ResultLast, ResultNotLast, ReturnError}
@@ -77,7 +77,7 @@ module _ {P : Type 0} where
       ∙ ap (λ ws. invocations_after now ds (concluded now cs v) ++ ws) (invocations_more now cs ds vs)
       ∙ sym (after_append now ds (concluded now cs v) (invocations_after now cs vs))
 
-  -- an id is in Operation Sent and not concluded by earlier components exactly where the table after them has it in Operation Sent
+  -- an id is in Operation Sent and not concluded by earlier components exactly if the table after them has it in Operation Sent
   pub open_is_sent : (now : ℕ) (vs : List Invocation) (cs : List (ComponentOf P)) (j : ℤ) → IsMap vs → open_at vs cs j ≡ in_sent j (invocations_after now cs vs)
   open_is_sent now [] cs j m = refl
   open_is_sent now (v ∷ vs) cs j m = by (int_eq v.id j) refl (open_is_sent now vs cs j m.1)

@@ -31,7 +31,7 @@ begins_sound S none records = record {
     few_at n [] h = omega arith
     few_at n (i ∷ is) h = absurd (h.0.1 (none i))
 
--- a step puts its entry last
+-- a step appends its entry
 pub legal_push : (n : ℕ) (base S T : State) (js : List Entry) (e : Event) (a : Answer) → Legal n base js S → route S.directory e ≡ n → Step S e T a → Legal n base (js ++ record { event = e; answer = a } ∷ []) T
 legal_push n base S T js e a legal r step =
     let leaves : Leaves S T n = subst (λ m. Leaves S T m) r (step_leaves S e T a legal.after_sound step) in

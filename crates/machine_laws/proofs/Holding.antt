@@ -22,7 +22,7 @@ use Rattle.machine_laws.proofs.Soundness.{From, from, Opened, Stayed, Was_there}
 use Rattle.machine_laws.proofs.Steps.{Facts, facts, began_of, state_of, state_none, outcome_of, step_sound}
 use Rattle.machine_laws.proofs.Subjects.{subject_known}
 
--- where nobody is concerned, no dialogue opens and what is sent is quiet
+-- without a subscriber no dialogue opens, and what is sent changes no holder
 
 pub record Bare (o : Outcome) : Type 0 where
   pub opens : o.opens ≡ None
@@ -121,7 +121,7 @@ ticked_dialogues S (Expires i d j was) = refl
 ticked_dialogues S (Changes y k) = refl
 
 module _ (S : State) (e : Event) (turn : Turn) (new x : List ℕ) (began : List ℕ → Option (List ℕ)) (sound : Sound S) (v : View S e turn) (right : BeganRight S began) where
-  -- nobody is concerned
+  -- the turn has no subscriber
   held_none : (T : State) (a : Answer) → concern S.directory turn ≡ None → Moves S (route S.directory e) turn new (outcome_in S (route S.directory e) turn new) T a → Holds S T e a x began
   held_none T a c m =
       let n : ℕ = route S.directory e in
@@ -139,7 +139,7 @@ module _ (S : State) (e : Event) (turn : Turn) (new x : List ℕ) (began : List 
         right = record { each = λ i d there. ap (λ o. began_by began e o i) no_id ∙ right.each i d (sym (ap (λ (U : State). U.dialogues i) state ∙ ap (λ (r : List ℕ → Option Dialogue). r i) (ticked_dialogues S turn)) ∙ there) };
       }
 
-  -- y is concerned
+  -- the turn's subscriber is y
   module _ (y : List ℕ) (T : State) (a : Answer) (c : concern S.directory turn ≡ Some y) (m : Moves S (route S.directory e) turn new (outcome_in S (route S.directory e) turn new) T a) where
     n : ℕ
     n = route S.directory e

@@ -127,7 +127,7 @@ outside_moved S e turn new x y T a sound v c m sub =
     f : Facts S e turn y new (route S.directory e)
     f = facts S e turn y new (route S.directory e) sound v c
 
-    -- x has no record, if it is x who is concerned
+    -- x has no record, if x is the turn's subscriber
     no_record : y ≡ x → S.records y ≡ None
     no_record yx = by (S.records y) refl
       where
@@ -174,11 +174,11 @@ step_outside x S e T a sound step h = go (is_clock e) refl h step
 
 -- an entry of x in a state with nothing of others
 
--- a dialogue of x stands in both
+-- a dialogue of x is in both
 there_too : (x : List ℕ) (S T : State) (i : List ℕ) (d : Dialogue) → AgreeOf x S T → S.dialogues i ≡ Some d → d.subscriber ≡ x → T.dialogues i ≡ Some d
 there_too x S T i d h e s = (if_of_is x (T.dialogues i) d (h.dialogues i ∙ if_of_at x (S.dialogues i) d e s)).0
 
--- each dialogue of the second state stands in the first
+-- each dialogue of the second state is in the first
 there_before : (x : List ℕ) (S T : State) (i : List ℕ) (d : Dialogue) → AgreeOf x S T → T.dialogues i ≡ Some d → S.dialogues i ≡ Some d
 there_before x S T i d h e = (if_of_is x (S.dialogues i) d (sym (h.dialogues i) ∙ if_of_at x (T.dialogues i) d e (h.alone i d e))).0
 
@@ -222,7 +222,7 @@ verdict_too x S T from Discard turn h is c = is
 verdict_too x S T from (Refuse r k) turn h is c = is
 verdict_too x S T from (Read m) turn h is c = message_too x S T from m turn h is c
 
--- the least triple of all, where it is x's, is the least of x's
+-- the least triple of all, if it is x's, is the least of x's
 expiry_too : (x : List ℕ) (S T : State) (n : ℕ) (turn : Turn) → AgreeOf x S T → Expiry S n turn → concern S.directory turn ≡ Some x → Expiry T n turn
 expiry_too x S T n turn h (OneDue i d j v due least is) c =
     let s : d.subscriber ≡ x = some_inj d.subscriber x _ refl (sym (ap (λ k. concern S.directory k) is) ∙ c) in
@@ -240,7 +240,7 @@ comes_too x S T (Operator y u) turn h k c = k
 full_before : (x : List ℕ) (S T : State) (n : ℕ) → AgreeOf x S T → IsFull T n → IsFull S n
 full_before x S T n h (is, o, len) = (is, record { different = o.different; open_ones = every_to (λ i. (shard_of_id i ≡ n) × (T.dialogues i ≡ None → ⊥)) (λ i. (shard_of_id i ≡ n) × (S.dialogues i ≡ None → ⊥)) (λ i q. (q.0, λ z. q.1 (none_too x S T i h z))) is o.open_ones }, len)
 
--- what the step looks at, where x is concerned or where the clock moves
+-- what the step reads, if its subscriber is x or if the clock moves
 alike_with : (x : List ℕ) (S T : State) (e : Event) (turn : Turn) → AgreeOf x S T → TurnsTo T e turn → (c : Option (List ℕ)) → concern S.directory turn ≡ c → (c ≡ None) ⊎ (c ≡ Some x) → Alike S T e turn
 alike_with x S T e turn h comes c q either = record {
   comes = comes;
@@ -347,7 +347,7 @@ own_moved x S T e turn new S' a sound h comes_s comes_t c q either m =
         (subst (λ o. AgreeOf x (moved S (Some x) (named turn) new o) (moved T (Some x) (named turn) new o)) (sym (outcome_of S (route S.directory e) turn x new k_is))
         (after_moved x S T (route S.directory e) (named turn) new _ _ _ h good))
 
--- a clock event concerns nobody, and comes alike
+-- a clock event has no subscriber, and is the same in both
 clock_comes : (S T : State) (e : Event) (turn : Turn) → is_clock e ≡ true → TurnsTo S e turn → (TurnsTo T e turn) × (concern S.directory turn ≡ None)
 clock_comes S T (Frame from v) turn q k = absurd (both_ways false refl q)
 clock_comes S T (Clock m now) turn q k = (k, ap (λ o. concern S.directory o) k)

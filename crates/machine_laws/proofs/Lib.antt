@@ -20,10 +20,12 @@ pub mod OneByOne
 pub mod Determined
 pub mod Refusing
 pub mod Ruling
+pub mod Answering
 pub mod Tabled
 pub mod Bounding
 pub mod Within
 pub mod Starting
+pub mod Timing
 pub mod Progress
 pub mod FullShard
 pub mod Opened

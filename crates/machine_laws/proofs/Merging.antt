@@ -156,7 +156,7 @@ step_in_whole S P e a n sound r step =
 
 -- merges
 
--- the whole state goes with the sixteen states
+-- the whole state agrees with the sixteen states
 pub record Goes (W : State) (states : ℕ → State) : Type 0 where
   pub agree : (n : ℕ) → n < 16 → AgreeOn n (states n) W
   pub sound : Sound W
@@ -191,7 +191,7 @@ goes_union W states g = λ k. record {
         go (inl h) = (g.agree n h).clock ∙ sym (cond_at _ _ _ (lt-ltb _ _ h))
         go (inr h) = g.clocks n h ∙ sym (cond_off _ _ _ (le-ltb _ _ h))
 
--- the union of sound states under one directory and HLR number goes with them
+-- the union of sound states under one directory and HLR number agrees with them
 pub union_goes : (states : ℕ → State) → ((n : ℕ) → n < 16 → Sound (states n)) → ((n : ℕ) → n < 16 → (states n).directory ≡ (states 0).directory) → ((n : ℕ) → n < 16 → (states n).hlr ≡ (states 0).hlr) → Goes (union states) states
 unfolding union
 union_goes states sounds directories hlrs = record {
@@ -252,7 +252,7 @@ union_goes states sounds directories hlrs = record {
         go (inl s) = (sounds n s).few n is (record { different = h.different; open_ones = every_to (λ i. (shard_of_id i ≡ n) × (cond (nat_lt (shard_of_id i) 16) ((states (shard_of_id i)).dialogues i) None ≡ None → ⊥)) (λ i. (shard_of_id i ≡ n) × ((states n).dialogues i ≡ None → ⊥)) (open_one s) is h.open_ones })
         go (inr s) = no_one s is h.open_ones
 
--- each shard's own run, from where it is to where it ends
+-- each shard's own run, from its state to its end
 pub record Ahead (states finals : ℕ → State) (journals : ℕ → List Entry) : Type 0 where
   pub runs : (n : ℕ) → n < 16 → Run (states n) (events_of (journals n)) (finals n) (answers_of (journals n))
   pub routed : (n : ℕ) → n < 16 → Every (λ j. route (states n).directory j.event ≡ n) (journals n)

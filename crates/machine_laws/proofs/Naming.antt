@@ -17,7 +17,7 @@ named_frame S (Clock n now) j q = absurd (none_some j None refl q)
 named_frame S (Expire n) j q = absurd (none_some j None refl q)
 named_frame S (Operator x c) j q = absurd (none_some j None refl q)
 
--- the dialogue that came names is the one that the event names
+-- the dialogue that the turn names is the one that the event names
 names_it : (S : State) (e : Event) (turn : Turn) (j : List ℕ) → View S e turn → named turn ≡ Some j → IsNamed S e j
 names_it S e _ j (Idly out q) n = absurd (none_some j None refl n)
 names_it S e _ j (Ticking m now q) n = absurd (none_some j None refl n)

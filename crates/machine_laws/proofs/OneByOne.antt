@@ -144,7 +144,7 @@ module _ {P : Type 0} (now : ℕ) (c : ComponentOf P) (j : ℤ) where
           failed = ap (λ b. cond b true (any_failed (c ∷ []) vs)) (fails_not v (others v.id q)) ∙ rest.failed;
         })
 
-    -- the row, where the invocation is there and where it is not
+    -- the row, whether the invocation is there or not
     row_of : (offer : Offer) (vs : List Invocation) → IsMap vs → (x : Happening) (reply : Was → Reply) (idle : Reply) (rejects : Bool → List Rejection)
         → ((was : Was) (t : ℕ) → invocation (Some (was, t)) x now ≡ Some (first_standing (cond (is_sent was) (concluded_by now (one_of j was t) (cond hit (Some c) None)) (one_of j was t ∷ [])), reply was))
         → invocation None x now ≡ Some (None, idle)
@@ -288,7 +288,7 @@ module _ {P : Type 0} (now : ℕ) (offer : Offer) (vs : List Invocation) (m : Is
   moves_by_row (Bad id problem) x h = none_happens x _ h
   moves_by_row Ignored x h = none_happens x _ h
 
--- a component that is nothing to an invocation does not conclude it
+-- a component that means nothing for an invocation does not conclude it
 not_concluded : {P : Type 0} (j : ℤ) (c : ComponentOf P) → happening j c ≡ None → concludes j c ≡ false
 not_concluded j (ResultLast id) h = of (int_eq id j) GetsResultLast h
   where

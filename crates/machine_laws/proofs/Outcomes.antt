@@ -34,7 +34,7 @@ pub record Like (x : List ℕ) (vlr : Option (List ℕ)) (d : Dialogue) : Type 0
   pub vlr_is : vlr_of_kind d.kind ≡ vlr
   pub rising : AreRising d.invocations
 
--- y is another subscriber, or the one whom it concerns has no record
+-- y is another subscriber, or the turn's subscriber has no record
 abbrev pub Other : Local → List ℕ → Type 0
 Other L y = (same L.imsi y ≡ false) ⊎ (is_some L.record_of ≡ false)
 
@@ -291,7 +291,7 @@ cond_same : (t : Bool) → cond t true false ≡ t
 cond_same true = refl
 cond_same false = refl
 
--- the old register, if another, has been told
+-- the old register, if another, has been sent a cancel
 told : (old vlr w : List ℕ) → same old vlr ≡ false → cond (same old w) false (cond (same vlr w) true (same old w)) ≡ same vlr w
 told old vlr w ne = go (same old w) refl
   where

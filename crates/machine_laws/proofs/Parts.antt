@@ -103,7 +103,7 @@ comes_alike n S T (Operator x k) turn sound sound' h r c = c
 open_alike : (n : ℕ) (S T : State) → AgreeOn n S T → IsFull T n → IsFull S n
 open_alike n S T h (is, o, len) = (is, record { different = o.different; open_ones = every_to (λ i. (shard_of_id i ≡ n) × (T.dialogues i ≡ None → ⊥)) (λ i. (shard_of_id i ≡ n) × (S.dialogues i ≡ None → ⊥)) (λ i q. (q.0, λ z. q.1 (h.dialogues i q.0 ∙ z))) is o.open_ones }, len)
 
--- the subscriber whom it concerns is of the shard
+-- the turn's subscriber is of the shard
 concern_shard : (S : State) (e : Event) (turn : Turn) (x : List ℕ) → Sound S → View S e turn → concern S.directory turn ≡ Some x → shard_of x ≡ route S.directory e
 concern_shard S e turn x sound v c = sym (facts S e turn x [] (route S.directory e) sound v c).here
 

@@ -1,4 +1,4 @@
--- Each event has a step in a sound state, but for a change without room.
+-- Each event has a step in a sound state, except a change without room.
 use Rattle.std.proofs.Common.{◌≡◌, ◌/◌, ◌%◌, ◌<◌, ◌≤◌, ℕ, zero, suc, ℤ, List, [], ◌∷◌, ◌++◌, map, length, take, slice_index, Bool, true, false, cond, refl, sym, ap, ◌∙◌, subst, ◌⊎◌, inl, inr, Option, Some, None, is_some, IsTrue, arith, lit<, nat_cmp, int_cmp, int_eq, is_gt, Ordering, Less, Equal, Greater, length-take-le}
 use Rattle.std.specs.Ordering.{on, then_cmp, ordering_reverse}
 use Rattle.std.specs.Cmp.{IsTotalOrder, nat_cmp_total, int_cmp_total, then_total, on_total}
@@ -65,7 +65,7 @@ in_octet_lists (suc n) (o ∷ i) e h = in_with_first 256 o i (octet_lists n) h.0
 all_ids : List (List ℕ)
 all_ids = octet_lists 4
 
--- every open id stands there
+-- every open id is there
 open_in_all : (S : State) (i : List ℕ) → Sound S → (S.dialogues i ≡ None → ⊥) → IsIn i all_ids
 unfolding all_ids
 open_in_all S i sound h = by (S.dialogues i) refl
@@ -160,7 +160,7 @@ candidate_is : (n k : ℕ) → n < 16 → k < 65536 → IsIdOf n (candidate n k)
 unfolding candidate shard_of_id
 candidate_is n k small few = record { four = refl; octets = (omega arith, (lit< tt, (omega arith, (omega arith, tt)))); shard = refl; not_zero = λ (p, q, r). absurd (omega (arith, p)) }
 
--- a free one below m, or as many that are open
+-- a free one below m, or m that are open
 search_free : (S : State) (n m : ℕ) → n < 16 → m ≤ 65536 → ((k : ℕ) × (k < 65536) × (S.dialogues (candidate n k) ≡ None)) ⊎ ((is : List (List ℕ)) × AreOpen S n is × (length is ≡ m) × ((k : ℕ) → m ≤ k → IsNotIn (candidate n k) is))
 search_free S n zero small few = inr ([], record { different = tt; open_ones = tt }, refl, (λ k h. tt))
 search_free S n (suc m) small few = go (search_free S n m small (omega arith)) (S.dialogues (candidate n m)) refl
@@ -367,7 +367,7 @@ found_in : (S : State) (n : ℕ) (js : List (List ℕ)) → Found S n (λ i j. I
 found_in S n [] = inr (λ i d j v h due. h)
 found_in S n (k ∷ js) = found_both S n (λ i j. i ≡ k) (λ i j. IsIn i js) (found_at S n k) (found_in S n js)
 
--- what an expiry turns to
+-- the turn of an expiry
 expiry_turns : (S : State) (n : ℕ) → Sound S → (turn : Turn) × Expiry S n turn
 expiry_turns S n sound = go (found_in S n all_ids)
   where
@@ -402,7 +402,7 @@ change_event S e _ imsi change (Closing i d there v nm rt) q = cc
 change_event S e _ imsi change (Expiring m i d j v is due least) q = cc
 change_event S e _ imsi change (Changing y k is) q = cc
 
--- in a full shard, beside the open ones
+-- in a full shard, in addition to the open ones
 overflows : (S : State) (e : Event) (turn : Turn) (new : List ℕ) → View S e turn → TurnsTo S e turn → WouldOverflow S (route S.directory e) turn (outcome_in S (route S.directory e) turn new) → (x : List ℕ) → concern S.directory turn ≡ Some x → Goes S e
 overflows S e turn new v turns w x c = by turn refl
   where

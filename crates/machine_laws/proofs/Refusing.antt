@@ -1,4 +1,4 @@
--- What is refused in a full shard: an operator's change has no step, an update is turned away and tells it.
+-- What is refused in a full shard: an operator's change has no step, and an update is turned away, as its answer shows.
 use Rattle.std.proofs.Common.{◌≡◌, ℕ, ℤ, List, [], ◌∷◌, Bool, true, false, cond, refl, sym, ap, ◌∙◌, subst, Option, Some, None, is_some, IsTrue}
 use Rattle.std.proofs.lemmas.Bool.{both_ways}
 use Rattle.machine.specs.Step.{Answer, Full, HasNoRoom, Moves, Step, Taken, TurnedAway, known_in, outcome_in, seen, subject_of}
@@ -45,7 +45,7 @@ pub record IsUpdateHere (L : Local) (cs : List Component) : Type 0 where
   pub argument : first_argument cs ≡ Some (Update imsi register)
   pub known : IsTrue (is_some L.record_of)
 
--- either way of a test, where only the first opens
+-- either way of a test of which only the first opens
 opens_first : (P : Type 0) (b : Bool) (o p : Outcome) → (IsTrue (is_some o.opens) → P) → (IsTrue (is_some p.opens) → P) → IsTrue (is_some (cond b o p).opens) → P
 opens_first P true o p f g h = f h
 opens_first P false o p f g h = g h

@@ -1,4 +1,4 @@
--- The invocations of a dialogue stay by rising ids.
+-- The invocations of a dialogue stay in rising order of their ids.
 use Rattle.std.proofs.Common.{◌≡◌, ◌+◌, ◌<◌, ◌≤◌, ℕ, zero, suc, ℤ, pos, ◌<ℤ◌, List, [], ◌∷◌, ◌++◌, map, Bool, true, false, cond, refl, sym, ap, subst, Option, Some, None, arith, int_eq, int_cmp, is_eq, Ordering, Less, Equal, Greater}
 use Rattle.std.specs.FinMap.{int_cmp-IsAntisymmetric}
 use Rattle.std.specs.Int.Signed.{<ℤ_irrefl}
@@ -28,7 +28,7 @@ less_differs x y l = go (int_eq y x) refl
     go true e = let P : ℤ → Type 0 = λ z. x <ℤ z in absurd (<ℤ_irrefl (subst P (int_is y x e) l))
     go false e = refl
 
--- each id stands once
+-- each id occurs once
 abbrev pub IsMap : List Invocation → Type 0
 IsMap [] = Unit {0}
 IsMap (v ∷ vs) = Every (λ (u : Invocation). int_eq u.id v.id ≡ false) vs × IsMap vs

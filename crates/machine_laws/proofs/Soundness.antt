@@ -118,13 +118,13 @@ module _ (S : State) (n : ℕ) (x : List ℕ) (i : Option (List ℕ)) (new : Lis
       (λ ne e. record_keeps y S.dialogues (new_opens new o.opens (named_stays i o.stays S.dialogues)) s (sound.records y s e)
       (λ j c u. let P : Option Dialogue → Type 0 = λ v. IsUpdateOf y v in subst P (sym (other_update y j ne u)) u))
 
-  -- what is open afterwards, but for the new one, was open
+  -- what is open afterwards, except the new one, was open
   was_open : (j : List ℕ) (d : Dialogue) → From S i new o j d → (new ≡ j → ⊥) → S.dialogues j ≡ None → ⊥
   was_open j d (Opened nj e) ne z = ne nj
   was_open j d (Stayed ij e) ne z = let was : (f : Dialogue) × (S.dialogues j ≡ Some f) × (f.subscriber ≡ x) = names j ij in none_some was.0 _ z was.1
   was_open j d (Was_there e h) ne z = none_some d _ z e
 
-  -- where nothing opens, all were open
+  -- if nothing opens, all were open
   was_open_all : (opens : o.opens ≡ None) (j : List ℕ) (d : Dialogue) → From S i new o j d → S.dialogues j ≡ None → ⊥
   was_open_all q j d (Opened nj e) z = none_some d _ q e
   was_open_all q j d (Stayed ij e) z = let was : (f : Dialogue) × (S.dialogues j ≡ Some f) × (f.subscriber ≡ x) = names j ij in none_some was.0 _ z was.1

@@ -115,14 +115,14 @@ no_tick S T (Closes i d) x c = refl
 no_tick S T (Expires i d j was) x c = refl
 no_tick S T (Changes y k) x c = refl
 
--- the state after a step that concerns x
+-- the state after a step whose subscriber is x
 pub state_of : (S : State) (e : Event) (turn : Turn) (x new : List ℕ) (after : State) (a : Answer) → concern S.directory turn ≡ Some x → Moves S (route S.directory e) turn new (outcome_in S (route S.directory e) turn new) after a → after ≡ moved S (Some x) (named turn) new (outcome (local_of S (route S.directory e) x) turn new)
 state_of S e turn x new after a c m = m.state ∙ no_tick S _ turn x c ∙ ap (λ (o : Option (List ℕ)). moved S o (named turn) new (outcome (seen S (route S.directory e) o) turn new)) c
 
 pub outcome_of : (S : State) (n : ℕ) (turn : Turn) (x new : List ℕ) → concern S.directory turn ≡ Some x → outcome_in S n turn new ≡ outcome (local_of S n x) turn new
 outcome_of S n turn x new c = ap (λ (o : Option (List ℕ)). outcome (seen S n o) turn new) c
 
--- where nobody is concerned, only a clock moves
+-- without a subscriber, only a clock moves
 pub state_none : (S : State) (e : Event) (turn : Turn) (new : List ℕ) (after : State) (a : Answer) → concern S.directory turn ≡ None → Moves S (route S.directory e) turn new (outcome_in S (route S.directory e) turn new) after a → after ≡ ticked turn S
 state_none S e turn new after a c m = m.state ∙ ap (λ (o : Option (List ℕ)). ticked turn (moved S o (named turn) new (outcome_in S (route S.directory e) turn new))) c
 

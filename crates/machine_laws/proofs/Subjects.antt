@@ -1,4 +1,4 @@
--- The subject of a turn is the subscriber whom it concerns, where there is a record.
+-- The subject of a turn is the turn's subscriber, if there is a record.
 use Rattle.std.proofs.Common.{◌≡◌, ℕ, List, true, false, refl, sym, ap, Option, Some, None, is_some, IsTrue}
 use Rattle.std.proofs.lemmas.Bool.{both_ways}
 use Rattle.machine.specs.Turns.{Begins, Changes, Closes, Continues, Dismissed, Expires, Ticks, Turn, concern}
@@ -46,7 +46,7 @@ known_concern S x (Some y) h = go (S.records y) h
     go None q = absurd (both_ways false refl q)
     go (Some s) q = ap (λ (z : List ℕ). Some z) (same_is y x q)
 
--- the subject is the subscriber whom it concerns
+-- the subject is the turn's subscriber
 pub subject_concern : (S : State) (x : List ℕ) (turn : Turn) → is_subject x (subject_of S turn) ≡ true → concern S.directory turn ≡ Some x
 subject_concern S x (Dismissed out) h = known_concern S x None h
 subject_concern S x (Ticks n now) h = known_concern S x None h

@@ -25,7 +25,8 @@ use Rattle.machine_laws.proofs.Soundness.{opens_other}
 use Rattle.machine_laws.proofs.Naming.{ticked_there}
 use Rattle.machine_laws.proofs.Determined.{expiry_one}
 use Rattle.machine_laws.proofs.Holding.{Bare, bare_came}
-use Rattle.machine_laws.proofs.Ruling.{Ruled, ruled_unchanged, ruled_begins, ruled_continues, ruled_expires, ruled_changes}
+use Rattle.machine_laws.proofs.Answering.{begins_for}
+use Rattle.machine_laws.proofs.Ruling.{AreKept, Ruled, ruled_unchanged, ruled_begins, ruled_continues, ruled_expires, ruled_changes}
 
 -- the named transaction once the frame is received
 abbrev received : Turn → Option Transaction
@@ -33,17 +34,22 @@ received (Continues i d cs) = Some d.transaction
 received (Expires i d j was) = Some d.transaction
 received _ = None
 
-ruled_closes : (L : Local) (new i : List ℕ) → Ruled L.clock (Some i) None new (closes L i)
+-- the Rejects of what was received
+abbrev rejected : ℕ → Turn → List Rejection
+rejected now (Continues i d cs) = (effect now (offer_to d.kind) d.invocations cs).rejects
+rejected now _ = []
+
+ruled_closes : (L : Local) (new i : List ℕ) → Ruled L.clock (Some i) None [] new (closes L i)
 ruled_closes L new i = record {
   first = [];
   second = [];
   both = refl;
-  named = λ j q. DoesNothing refl refl;
+  named = λ j q kept. DoesNothing refl refl refl;
   opened = λ d q. absurd (none_some d None refl q);
   alone = λ q. refl;
 }
 
-ruled : (L : Local) (turn : Turn) (new : List ℕ) → Ruled L.clock (named turn) (received turn) new (outcome L turn new)
+ruled : (L : Local) (turn : Turn) (new : List ℕ) → Ruled L.clock (named turn) (received turn) (rejected L.clock turn) new (outcome L turn new)
 ruled L (Dismissed out) new = ruled_unchanged L.clock L new None _ refl
 ruled L (Ticks n now) new = ruled_unchanged L.clock L new None _ refl
 ruled L (Begins from r p cs) new = ruled_begins L new from r p cs
@@ -57,8 +63,8 @@ unfolding local_of local_of_nobody
 seen_clock S n None = refl
 seen_clock S n (Some x) = refl
 
-ruled_in : (S : State) (n : ℕ) (turn : Turn) (new : List ℕ) → Ruled (S.clocks n) (named turn) (received turn) new (outcome_in S n turn new)
-ruled_in S n turn new = subst (λ t. Ruled t (named turn) (received turn) new (outcome_in S n turn new)) (seen_clock S n (concern S.directory turn)) (ruled (seen S n (concern S.directory turn)) turn new)
+ruled_in : (S : State) (n : ℕ) (turn : Turn) (new : List ℕ) → Ruled (S.clocks n) (named turn) (received turn) (rejected (S.clocks n) turn) new (outcome_in S n turn new)
+ruled_in S n turn new = subst (λ t. Ruled t (named turn) (received turn) (rejected t turn) new (outcome_in S n turn new)) (seen_clock S n (concern S.directory turn)) (ruled (seen S n (concern S.directory turn)) turn new)
 
 -- the dialogue that is named, after the step
 after_named : (S : State) (turn : Turn) (new j x : List ℕ) (o : Outcome) → concern S.directory turn ≡ Some x → named turn ≡ Some j → (IsTrue (is_some o.opens) → new ≡ j → ⊥) → (ticked turn (moved S (concern S.directory turn) (named turn) new o)).dialogues j ≡ o.stays
@@ -83,24 +89,25 @@ module _ (S : State) (e : Event) (turn : Turn) (new : List ℕ) (T : State) (a :
   taken_none (Some d) q h = absurd (none_some new _ h (m.id ∙ ap (λ p. taken new p) q))
 
   -- the named dialogue, open before
-  does_first : (j x : List ℕ) (d : Dialogue) → S.dialogues j ≡ Some d → concern S.directory turn ≡ Some x → named turn ≡ Some j → DoesFirst j (received turn) a.sent a.id (T.dialogues j)
-  does_first j x d there c n =
-      let r : Ruled (S.clocks (route S.directory e)) (named turn) (received turn) new (outcome_in S (route S.directory e) turn new) = ruled_in S (route S.directory e) turn new in
+  does_first : (j x : List ℕ) (d : Dialogue) → S.dialogues j ≡ Some d → concern S.directory turn ≡ Some x → named turn ≡ Some j
+      → AreKept (received turn) (rejected (S.clocks (route S.directory e)) turn) → DoesFirst j (received turn) (rejected (S.clocks (route S.directory e)) turn) a.sent a.id (T.dialogues j)
+  does_first j x d there c n kept =
+      let r : Ruled (S.clocks (route S.directory e)) (named turn) (received turn) (rejected (S.clocks (route S.directory e)) turn) new (outcome_in S (route S.directory e) turn new) = ruled_in S (route S.directory e) turn new in
       let after : T.dialogues j ≡ (outcome_in S (route S.directory e) turn new).stays = ap (λ (U : State). U.dialogues j) m.state ∙ after_named S turn new j x _ c n (λ t nj. none_some d _ (ap S.dialogues (sym nj) ∙ (m.opens t).is_new) there) in
       record {
         first = r.first;
         second = r.second;
         both = m.sent ∙ r.both;
-        does = subst (λ o. Does j (received turn) r.first (transaction_of o)) (sym after) (r.named j n);
+        does = subst (λ o. Does j (received turn) (rejected (S.clocks (route S.directory e)) turn) r.first (transaction_of o)) (sym after) (r.named j n kept);
         alone = λ h. r.alone (taken_none _ refl h);
       }
 
   after_is : (j x : List ℕ) (d : Dialogue) → S.dialogues j ≡ Some d → concern S.directory turn ≡ Some x → named turn ≡ Some j → T.dialogues j ≡ (outcome_in S (route S.directory e) turn new).stays
   after_is j x d there c n = ap (λ (U : State). U.dialogues j) m.state ∙ after_named S turn new j x _ c n (λ t nj. none_some d _ (ap S.dialogues (sym nj) ∙ (m.opens t).is_new) there)
 
-  open_moves : (x : List ℕ) (d : Dialogue) → concern S.directory turn ≡ Some x → (outcome_in S (route S.directory e) turn new).opens ≡ Some d → OpeningMoves S (route S.directory e) new T a
-  open_moves x d c q =
-      let r : Ruled (S.clocks (route S.directory e)) (named turn) (received turn) new (outcome_in S (route S.directory e) turn new) = ruled_in S (route S.directory e) turn new in
+  open_moves : (x : List ℕ) (d : Dialogue) → TurnsTo S e turn → concern S.directory turn ≡ Some x → (outcome_in S (route S.directory e) turn new).opens ≡ Some d → OpeningMoves S e (route S.directory e) new T a
+  open_moves x d turns c q =
+      let r : Ruled (S.clocks (route S.directory e)) (named turn) (received turn) (rejected (S.clocks (route S.directory e)) turn) new (outcome_in S (route S.directory e) turn new) = ruled_in S (route S.directory e) turn new in
       let after : T.dialogues new ≡ Some d = ap (λ (U : State). U.dialogues new) m.state ∙ after_opened S turn new x _ d c q in
       record {
         dialogue = d;
@@ -109,24 +116,29 @@ module _ (S : State) (e : Event) (turn : Turn) (new : List ℕ) (T : State) (a :
           first = r.first;
           second = r.second;
           both = m.sent ∙ r.both;
-          does = subst (λ o. Does new None r.second (transaction_of o)) (sym after) (r.opened d q).0;
+          rejects = (r.opened d q).rejects;
+          does = (r.opened d q).does;
+          invoked = (r.opened d q).invoked;
+          ids = (r.opened d q).ids;
         };
-        invoked = (r.opened d q).1;
+        begun = λ from origin name components is.
+            let same : turn ≡ Begins from origin name components = subst (λ k. TurnsTo S k turn) is turns in
+            begins_for (seen S (route S.directory e) (concern S.directory turn)) new from origin name components d (ap (λ k. (outcome (seen S (route S.directory e) (concern S.directory turn)) k new).opens) (sym same) ∙ q);
       }
 
 -- a dialogue that opens
-pub opening_moves : (S : State) (e : Event) (T : State) (a : Answer) (i : List ℕ) → Step S e T a → a.id ≡ Some i → OpeningMoves S (route S.directory e) i T a
+pub opening_moves : (S : State) (e : Event) (T : State) (a : Answer) (i : List ℕ) → Step S e T a → a.id ≡ Some i → OpeningMoves S e (route S.directory e) i T a
 opening_moves S e T a i (Full turn new turns t) h = absurd (none_some i _ t.id h)
 opening_moves S e T a i (Taken turn new turns m) h = by_concern (concern S.directory turn) refl (outcome_in S (route S.directory e) turn new).opens refl
   where
-    by_concern : (c : Option (List ℕ)) → concern S.directory turn ≡ c → (o : Option Dialogue) → (outcome_in S (route S.directory e) turn new).opens ≡ o → OpeningMoves S (route S.directory e) i T a
+    by_concern : (c : Option (List ℕ)) → concern S.directory turn ≡ c → (o : Option Dialogue) → (outcome_in S (route S.directory e) turn new).opens ≡ o → OpeningMoves S e (route S.directory e) i T a
     by_concern c q None p = absurd (none_some i _ (m.id ∙ ap (λ o. taken new o) p) h)
     by_concern None q (Some d) p =
         let bare : Bare (outcome (local_of_nobody S (route S.directory e)) turn new) = bare_came S e turn (route S.directory e) new (view S e turn turns) q in
         absurd (none_some d _ bare.opens (ap (λ o. (outcome (seen S (route S.directory e) o) turn new).opens) (sym q) ∙ p))
     by_concern (Some x) q (Some d) p =
         let same_id : new ≡ i = some_inj new i _ (m.id ∙ ap (λ o. taken new o) p) h in
-        subst (λ (k : List ℕ). OpeningMoves S (route S.directory e) k T a) same_id (open_moves S e turn new T a m x d q p)
+        subst (λ (k : List ℕ). OpeningMoves S e (route S.directory e) k T a) same_id (open_moves S e turn new T a m x d turns q p)
 
 -- a dismissed turn changes nothing and sends this
 dismissed : (S : State) (e : Event) (T : State) (a : Answer) (out : List Out) (turn : Turn) → turn ≡ Dismissed out → (new : List ℕ) → Moves S (route S.directory e) turn new (outcome_in S (route S.directory e) turn new) T a → (T ≡ S) × (a.sent ≡ out)
@@ -200,11 +212,13 @@ continue_moves S from r i portion cs T a (Taken turn new turns m) = by (S.dialog
     none : (after : Option Transaction) → transact (transaction_of (S.dialogues i)) (ContinueComes from r) ≡ row after Unassigned → turn ≡ Dismissed (send from (SentAbort r (Cause unrecognized_transaction_id))) → ContinueMoves S from r i cs T a
     none after row_is is = let h : (T ≡ S) × (a.sent ≡ send from (SentAbort r (Cause unrecognized_transaction_id))) = dismissed S (Frame from (Read (Continue r i portion cs))) T a _ turn is new m in ForNone after row_is h.0 h.1
 
-    found : (d : Dialogue) (t : Transaction) → S.dialogues i ≡ Some d → transact (Some d.transaction) (ContinueComes from r) ≡ row (Some t) ForIt → turn ≡ Continues i (record d { transaction = t }) cs → ContinueMoves S from r i cs T a
-    found d t there row_is is =
+    found : (d : Dialogue) (t : Transaction) → (t.remote ≡ None → ⊥) → S.dialogues i ≡ Some d → transact (Some d.transaction) (ContinueComes from r) ≡ row (Some t) ForIt → turn ≡ Continues i (record d { transaction = t }) cs → ContinueMoves S from r i cs T a
+    found d t known there row_is is =
         let P : Turn → Type 0 = λ k. Moves S (shard_named i) k new (outcome_in S (shard_named i) k new) T a in
         let w : Moves S (shard_named i) (Continues i (record d { transaction = t }) cs) new (outcome_in S (shard_named i) (Continues i (record d { transaction = t }) cs) new) T a = subst P is m in
-        let does : DoesFirst i (Some t) a.sent a.id (T.dialogues i) = does_first S (Frame from (Read (Continue r i portion cs))) (Continues i (record d { transaction = t }) cs) new T a w i d.subscriber d there refl refl in
+        let does : DoesFirst i (Some t) (effect (S.clocks (shard_named i)) (offer_to d.kind) d.invocations cs).rejects a.sent a.id (T.dialogues i) =
+        does_first S (Frame from (Read (Continue r i portion cs))) (Continues i (record d { transaction = t }) cs) new T a w i d.subscriber d there refl refl
+        (λ u q none. absurd (known (ap (λ (v : Transaction). v.remote) (some_inj t u _ refl q) ∙ none))) in
         let after : T.dialogues i ≡ (continues (local_of S (shard_named i) d.subscriber) i (record d { transaction = t }) cs new).stays = after_is S (Frame from (Read (Continue r i portion cs))) (Continues i (record d { transaction = t }) cs) new T a w i d.subscriber d there refl refl in
         ForDialogue d t there row_is does (λ f q. goes_on_with S (shard_named i) (local_of S (shard_named i) d.subscriber) i (record d { transaction = t }) cs new f (sym after ∙ q) ∙ ap (λ now. invocations_after now cs d.invocations) (seen_clock S (shard_named i) (Some d.subscriber)))
 
@@ -218,13 +232,13 @@ continue_moves S from r i portion cs T a (Taken turn new turns m) = by (S.dialog
         at_remote : (o : Option (List ℕ)) → d.transaction.remote ≡ o → ContinueMoves S from r i cs T a
         at_remote None p =
             let row_is : transact (Some d.transaction) (ContinueComes from r) ≡ row (Some (record { peer = from; remote = Some r })) ForIt = ap (λ o. continue_row d.transaction o from r) p in
-            found d (record { peer = from; remote = Some r }) q row_is (turn_is ∙ ap (λ w. continue_for from r i cs d (for_it w)) row_is)
+            found d (record { peer = from; remote = Some r }) (λ none. none_some r _ none refl) q row_is (turn_is ∙ ap (λ w. continue_for from r i cs d (for_it w)) row_is)
         at_remote (Some known) p = matches (same known r) refl
           where
             matches : (b : Bool) → same known r ≡ b → ContinueMoves S from r i cs T a
             matches true z =
                 let row_is : transact (Some d.transaction) (ContinueComes from r) ≡ row (Some d.transaction) ForIt = ap (λ o. continue_row d.transaction o from r) p ∙ ap (λ b. cond b (row (Some d.transaction) ForIt) (row (Some d.transaction) Unassigned)) z in
-                found d d.transaction q row_is (turn_is ∙ ap (λ w. continue_for from r i cs d (for_it w)) row_is)
+                found d d.transaction (λ none. none_some known _ none p) q row_is (turn_is ∙ ap (λ w. continue_for from r i cs d (for_it w)) row_is)
             matches false z =
                 let row_is : transact (Some d.transaction) (ContinueComes from r) ≡ row (Some d.transaction) Unassigned = ap (λ o. continue_row d.transaction o from r) p ∙ ap (λ b. cond b (row (Some d.transaction) ForIt) (row (Some d.transaction) Unassigned)) z in
                 none (Some d.transaction) (ap (λ o. transact (transaction_of o) (ContinueComes from r)) q ∙ row_is) (turn_is ∙ ap (λ w. continue_for from r i cs d (for_it w)) row_is)
@@ -297,7 +311,7 @@ expiry_moves S n i d j v T a sound due least (Taken turn new turns m) =
     let w : Moves S n (Expires i d j v.was) new (outcome_in S n (Expires i d j v.was) new) T a = subst P is m in
     let after : T.dialogues i ≡ (expires (local_of S n d.subscriber) i d j v.was new).stays = after_is S (Expire n) (Expires i d j v.was) new T a w i d.subscriber d due.is_open refl refl in
     record {
-      does = does_first S (Expire n) (Expires i d j v.was) new T a w i d.subscriber d due.is_open refl refl;
+      does = does_first S (Expire n) (Expires i d j v.was) new T a w i d.subscriber d due.is_open refl refl (λ u q none. refl);
       invocations = λ f q. timed v.was refl f (sym after ∙ q);
     }
   where

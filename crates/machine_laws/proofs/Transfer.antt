@@ -1,4 +1,4 @@
--- A step in one state is a step in another that agrees with it where the step looks.
+-- A step in one state is a step in another that agrees with it on what the step reads.
 use Rattle.std.proofs.Common.{◌≡◌, ◌+◌, ◌≤◌, ◌<◌, ℕ, ℤ, suc, List, [], ◌∷◌, map, Bool, true, false, cond, ◌&&◌, ◌==◌, refl, sym, ap, ◌∙◌, subst, ◌⊎◌, inl, inr, Option, Some, None, is_some, IsTrue}
 use Rattle.std.proofs.lemmas.Bool.{ne_eqb}
 use Rattle.machine.specs.Step.{Answer, Full, Moves, Step, Taken, TurnedAway, moved, named_stays, new_opens, outcome, outcome_in, seen, subject_of, taken, ticked}
@@ -44,7 +44,7 @@ dialogues_alike D E i new stays opens j e = by_opens opens
     by_opens None = by_named i
     by_opens (Some d) = put_alike _ _ new (Some d) j (by_named i)
 
--- what a step may look at is the same in both
+-- what a step may read is the same in both
 pub record Alike (S T : State) (e : Event) (turn : Turn) : Type 0 where
   pub comes : TurnsTo T e turn
   pub same_route : route T.directory e ≡ route S.directory e
@@ -109,7 +109,7 @@ leaves_same S T n e = record {
   hlr = ap (λ (U : State). U.hlr) e;
 }
 
--- where nobody is concerned
+-- without a subscriber
 leaves_ticked : (S : State) (e : Event) (turn : Turn) → View S e turn → Leaves S (ticked turn S) (route S.directory e)
 leaves_ticked S e _ (Idly out q) = leaves_same S S _ refl
 leaves_ticked S e _ (Ticking m now q) = record {

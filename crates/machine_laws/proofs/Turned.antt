@@ -1,4 +1,4 @@
--- An entry with a subject sends an Abort with cause 4 only where an update met a full shard.
+-- An entry with a subject sends an Abort with cause 4 only if an update met a full shard.
 use Rattle.std.proofs.Common.{◌≡◌, ℕ, ℤ, List, [], ◌∷◌, ◌++◌, Bool, true, false, cond, ◌&&◌, refl, sym, ap, ◌∙◌, subst, Option, Some, None}
 use Rattle.std.proofs.lemmas.Bool.{both_ways, and_parts}
 use Rattle.machine.specs.Step.{Answer, Full, Step, Taken, outcome, seen}
@@ -139,7 +139,7 @@ module _ (L : Local) (new : List ℕ) where
       of (Codes cs) = codes cs s.register
       of Withdraw = gone s.register
 
-  -- where somebody is concerned
+  -- with a subscriber
   pub still : (directory : List ℕ → Option (List ℕ)) (turn : Turn) (x : List ℕ) → concern directory turn ≡ Some x → Still (outcome L turn new)
   still directory (Dismissed out) x c = absurd (none_some x None refl c)
   still directory (Ticks n now) x c = absurd (none_some x None refl c)

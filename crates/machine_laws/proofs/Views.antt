@@ -1,4 +1,4 @@
--- What comes, with all that is known of it.
+-- What is received, with all that is known of it.
 use Rattle.std.proofs.Common.{◌≡◌, ℕ, ℤ, List, [], Bool, true, false, cond, refl, sym, ap, subst, Option, Some, None, is_some, IsTrue}
 use Rattle.machine.specs.Received.{Abort, Begin, Component, Continue, Discard, End, Message, Read, Refuse, Response, Verdict}
 use Rattle.machine.specs.Turns.{Begins, Changes, Closes, Continues, Dismissed, Expires, Expiry, IsDue, IsLeast, NoneDue, OneDue, Ticks, Turn, TurnsTo, close_at, continue_at, continue_for, for_it, turn_of_message, turn_of_verdict}

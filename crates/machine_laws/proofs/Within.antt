@@ -25,7 +25,7 @@ use Rattle.machine_laws.proofs.Steps.{shard_small}
 use Rattle.machine_laws.proofs.Transfer.{put_at_same, put_at_other}
 use Rattle.machine_laws.proofs.Bounding.{LocalInBounds, Bounded, bounded_unchanged, bounded_begins, bounded_continues, bounded_closes, bounded_expires, bounded_changes}
 
--- what an event turns to
+-- the turn of an event
 
 abbrev TurnInBounds : Turn → Type 0
 TurnInBounds (Dismissed out) = Every OutInBounds out

@@ -1,2 +1,3 @@
+pub mod FirstTimer
 pub mod Play
 pub mod Worked

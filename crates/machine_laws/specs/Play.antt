@@ -1,8 +1,8 @@
--- A step that is computed: what an event that turns to this does in a shard that has room, where a dialogue that opens takes
--- the new id.
+-- A computed step: what an event with this turn does in a shard that has room, with the new id for a dialogue that opens.
 use Rattle.std.specs.Prelude.{ℕ, ℤ, List, [], Option, Some, None}
-use Rattle.machine.specs.Received.{Message}
-use Rattle.machine.specs.Events.{Change}
+use Rattle.machine.specs.Received.{Message, Read}
+use Rattle.machine.specs.Events.{Change, Expire, Frame}
+use Rattle.machine.specs.Legal.{Entry}
 use Rattle.machine.specs.State.{Invocation, Dialogue, State}
 use Rattle.machine.specs.Routing.{route_message}
 use Rattle.machine.specs.Keys.{shard_of, shard_of_id}
@@ -33,20 +33,28 @@ receives S from message new = play S (route_message S.directory message) (turn_o
 abbrev pub waits : State → (shard now : ℕ) → State
 waits S shard now = (play S shard (Ticks shard now) []).state
 
--- the expiry of this invocation, where it is there
+-- the expiry of this invocation, if it is there
 abbrev pub expiry_of : List ℕ → Dialogue → ℤ → Option Invocation → Turn
 expiry_of id d invoke None = Dismissed []
 expiry_of id d invoke (Some v) = Expires id d invoke v.was
 
--- and of this dialogue, where it is open
+-- and of this dialogue, if it is open
 abbrev pub expiry_at : List ℕ → Option Dialogue → ℤ → Turn
 expiry_at id None invoke = Dismissed []
 expiry_at id (Some d) invoke = expiry_of id d invoke (invocation_of invoke d.invocations)
 
--- the expiry of the invocation of this dialogue, which is to be the least that is due
+-- the expiry of this invocation of this dialogue, which must be the least that is due
 abbrev pub expires_at : State → (id : List ℕ) → (invoke : ℤ) → (new : List ℕ) → Played
 expires_at S id invoke new = play S (shard_of_id id) (expiry_at id (S.dialogues id) invoke) new
 
 -- an operator's change
 abbrev pub is_changed : State → (imsi : List ℕ) → Change → (new : List ℕ) → Played
 is_changed S imsi change new = play S (shard_of imsi) (Changes imsi change) new
+
+-- the entry of a message from this address
+abbrev pub message_entry : (from : List ℕ) → Message → Played → Entry
+message_entry from message played = record { event = Frame from (Read message); answer = played.answer }
+
+-- the entry of an expiry in this shard
+abbrev pub expiry_entry : (shard : ℕ) → Played → Entry
+expiry_entry shard played = record { event = Expire shard; answer = played.answer }

@@ -38,8 +38,8 @@ at_b = record { vlr = vlr_b; msc = digits (codes "447700900002"); lmsi = None }
 abbrev pub at_c : Register
 at_c = record { vlr = vlr_c; msc = digits (codes "447700900003"); lmsi = None }
 
--- five subscribers: the first is served by A, the third may roam only where numbers begin with 4478; the fifth is of the
--- same shard as the first
+-- five subscribers: the first is served by A, the third may roam only at VLR numbers that begin with 4478, and the fifth is
+-- in the same shard as the first
 
 abbrev pub first_imsi : List ℕ
 first_imsi = digits (codes "234150000000001")
@@ -121,7 +121,7 @@ start = opening records directory hlr
 
 -- messages
 
--- the originating id of the peers, and local ids of the shards 1 and 2
+-- the originating id of the peers, and local ids of the shards 1, 2 and 3
 abbrev pub theirs : List ℕ
 theirs = 0 ∷ 0 ∷ 0 ∷ 11 ∷ []
 
@@ -136,6 +136,9 @@ id_c = 1 ∷ 0 ∷ 16 ∷ 2 ∷ []
 
 abbrev pub id_d : List ℕ
 id_d = 2 ∷ 0 ∷ 16 ∷ 0 ∷ []
+
+abbrev pub id_e : List ℕ
+id_e = 3 ∷ 0 ∷ 16 ∷ 0 ∷ []
 
 abbrev pub begin_in : Context → List Component → Message
 begin_in context components = Begin theirs (Some (name_of context)) components

@@ -1,21 +1,22 @@
-//! Worked examples: what the definitions say of single messages, computed. The subscribers and the registers A, B and C are
-//! those of `specs/Worked.antt`; a dialogue that opens takes the id that is given.
+//! Worked examples of the procedures: what the definitions say of single messages, computed. The subscribers and the registers
+//! A, B and C are those of `specs/Worked.antt`; the id for a dialogue that opens is given.
 
-ghost use Rattle.std.specs.Prelude.{◌≡◌, ℕ, pos, List, Option, Some, None, [], ◌∷◌, true, false};
-ghost use Rattle.machine.specs.Received.{Bad, BadValue, Begin, Component, Continue, Discard, End, General, Ignored, Invoke, Mistyped, Number, OfError, OfInvoke, OfResult, Read, Refuse, Reject, ResultNotLast, ReturnError, Route, Typed, Update};
-ghost use Rattle.machine.specs.Sent.{Cancel, Cause, Insert, LocationCancellation, MsPurging, NetworkLocUp, NoCause, PurgeResult, Refusing, Rejection, RouteResult, SentAbort, SentBegin, SentComponent, SentContinue, SentEnd, SentError, ShortMsgGateway, SubscriberDataMngt, SubscriptionWithdraw, UpdateProcedure, UpdateResult, Why};
+ghost use Rattle.std.specs.Prelude.{◌≡◌, ℕ, pos, List, Option, Some, None, [], ◌∷◌, ◌++◌, true, false};
+ghost use Rattle.machine.specs.Received.{BadValue, Component, End, Invoke, Mistyped, Number, OfInvoke, Read, Register, ResultNotLast, ReturnError, Route, Typed, Update};
+ghost use Rattle.machine.specs.Sent.{Cancel, Cause, Insert, LocationCancellation, MsPurging, NetworkLocUp, Out, PurgeResult, RouteResult, SentAbort, SentBegin, SentComponent, SentContinue, SentEnd, SentError, ShortMsgGateway, SubscriberDataMngt, SubscriptionWithdraw, UpdateProcedure, UpdateResult};
 ghost use Rattle.machine.specs.State.{Cancels, IsFull, OperationSent, State};
 ghost use Rattle.machine.specs.Step.{Answer, HasNoRoom, Step};
 ghost use Rattle.machine.specs.Events.{Codes, Frame, Operator, Withdraw};
-ghost use Rattle.machine.specs.Turns.{Dismissed, turn_of_verdict};
-ghost use Rattle.machine.specs.SmRoute.{RouteTo, sm_route};
-ghost use Rattle.machine_laws.specs.Worked.{at_a, at_b, at_c, begin_in, continue_to, directory, fifth_imsi, first_imsi, first_msisdn, first_record, fourth_msisdn, gateway, hlr, id_a, id_b, id_c, id_d, one, purge_of, result_of, route_of, second_imsi, second_msisdn, second_record, start, subscriber, theirs, third_imsi, update_of, vlr_a, vlr_b, vlr_c};
-ghost use Rattle.machine_laws.specs.Play.{expires_at, is_changed, receives, waits};
-ghost use Rattle.machine.specs.Contexts.{name_of};
+ghost use Rattle.machine.specs.SmRoute.{NoRoute, RouteTo, sm_route};
+ghost use Rattle.machine.specs.Begins.{is_allowed};
+ghost use Rattle.machine.specs.Holders.{held_after, held_by_none, holders};
+ghost use Rattle.machine.specs.Outcome.{inserts, inserts_invoked, invoked};
+ghost use Rattle.machine_laws.specs.Worked.{at_a, at_b, at_c, begin_in, continue_to, directory, fifth_imsi, first_imsi, first_msisdn, first_record, fourth_msisdn, gateway, hlr, id_a, id_b, id_c, id_d, id_e, one, purge_of, result_of, route_of, second_imsi, second_msisdn, second_record, start, subscriber, theirs, third_imsi, third_msisdn, third_record, update_of, vlr_a, vlr_b, vlr_c};
+ghost use Rattle.machine_laws.specs.Play.{expiry_entry, expires_at, message_entry, is_changed, receives, waits};
 ghost use Rattle.machine.specs.Effect.{rejection};
 ghost use Rattle.machine.specs.Routing.{route};
 
-// Short messages
+// Short messages (TS 29.002, 12.1, MAP-SEND-ROUTING-INFO-FOR-SM)
 
 /// The SM route of a subscriber whom a register serves.
 pub fn first_route()
@@ -23,8 +24,8 @@ pub fn first_route()
         ≡ one gateway (SentEnd theirs (Some ShortMsgGateway) [] (RouteResult (pos 1) first_imsi at_a.msc None ∷ [])) }
 {}
 
-/// No SM route: teleserviceNotProvisioned, absentSubscriberSM, and unknownSubscriber, whose frame is for shard 0. The code of
-/// all short message services serves as well as that of those to a mobile.
+/// No SM route: teleserviceNotProvisioned, absentSubscriberSM, and unknownSubscriber, whose frame is for shard 0. Either of the
+/// codes allShortMessageServices and shortMessageMT-PP is enough.
 pub fn route_errors()
     ensures errors { let asks = λ (msisdn : List ℕ). (receives start gateway (begin_in ShortMsgGateway (route_of msisdn ∷ [])) id_a).answer.sent in
         let answer = λ (code : ℕ). one gateway (SentEnd theirs (Some ShortMsgGateway) [] (SentError (pos 1) code ∷ [])) in
@@ -41,10 +42,15 @@ pub fn second_invoke_refused()
         ≡ one gateway (SentEnd theirs (Some ShortMsgGateway) (rejection (Some (pos 2)) OfInvoke 3 ∷ []) (RouteResult (pos 1) first_imsi at_a.msc None ∷ [])) }
 {}
 
-// Updates
+/// A subscriber whose subscription has ended is unknown; this is checked before the services.
+pub fn withdrawn_is_unknown()
+    ensures { sm_route first_imsi (Some (record first_record { codes = []; register = None; withdrawn = true })) ≡ NoRoute 1 }
+{}
 
-/// Nine codes go in two inserts. The result of the second alone sends nothing; then that of the first completes the update,
-/// and no register is cancelled where there was none.
+// Updates (TS 29.002, 8.1.2, MAP_UPDATE_LOCATION; TS 23.012, Location updating)
+
+/// Nine codes go in two inserts. The result of the second alone sends nothing; that of the first then completes the update.
+/// There was no old register, so none is cancelled.
 pub fn two_inserts()
     ensures { let begun = receives start vlr_b (begin_in NetworkLocUp (update_of second_imsi at_b ∷ [])) id_d in
         let half = receives begun.state vlr_b (continue_to id_d (result_of (pos 2) ∷ [])) id_a in
@@ -55,6 +61,26 @@ pub fn two_inserts()
         × (done.answer.sent ≡ one vlr_b (SentEnd theirs None [] (UpdateResult (pos 1) hlr ∷ [])))
         × (done.answer.id ≡ None)
         × (done.state.records second_imsi ≡ Some (record second_record { register = Some at_b })) }
+{}
+
+/// Seventeen codes go in three inserts, eight in one. Each insert has the id of its invocation, and the IMSI if no update names
+/// it.
+pub fn three_inserts()
+    ensures { let seventeen = 1 ∷ 2 ∷ 3 ∷ 4 ∷ 5 ∷ 6 ∷ 7 ∷ 8 ∷ 9 ∷ 10 ∷ 11 ∷ 12 ∷ 13 ∷ 14 ∷ 15 ∷ 16 ∷ 17 ∷ [] in
+        let eight = 1 ∷ 2 ∷ 3 ∷ 4 ∷ 5 ∷ 6 ∷ 7 ∷ 8 ∷ [] in
+        let next_eight = 9 ∷ 10 ∷ 11 ∷ 12 ∷ 13 ∷ 14 ∷ 15 ∷ 16 ∷ [] in
+        (inserts (Some first_imsi) first_msisdn seventeen ≡ Insert (pos 1) (Some first_imsi) (Some first_msisdn) eight
+        ∷ Insert (pos 2) (Some first_imsi) None next_eight ∷ Insert (pos 3) (Some first_imsi) None (17 ∷ []) ∷ [])
+        × (inserts_invoked 0 seventeen ≡ invoked 0 (pos 1) ∷ invoked 0 (pos 2) ∷ invoked 0 (pos 3) ∷ [])
+        × (inserts None first_msisdn eight ≡ Insert (pos 1) None (Some first_msisdn) eight ∷ []) }
+{}
+
+/// One insert of two fails: the update fails at once, while the other still waits for its answer.
+pub fn one_insert_of_two_fails()
+    ensures { let begun = receives start vlr_b (begin_in NetworkLocUp (update_of second_imsi at_b ∷ [])) id_d in
+        let failed = receives begun.state vlr_b (continue_to id_d (ReturnError (pos 1) (Number 34) ∷ [])) id_a in
+        (failed.answer.sent ≡ one vlr_b (SentEnd theirs None [] (SentError (pos 1) 34 ∷ [])))
+        × (failed.state.dialogues id_d ≡ None) }
 {}
 
 /// An update completes: the result goes to its register, then a cancel to the old one, which is answered by an End. Short
@@ -120,6 +146,44 @@ pub fn update_from_the_serving_register()
         × (done.state.records first_imsi ≡ Some (record first_record { register = Some register })) }
 {}
 
+/// An update comes from an address other than its VLR number, with the invoke id 7: it is answered to that address under that
+/// id, but its VLR number serves, and the cancel of the next update goes there. An update from the VLR that already serves
+/// stores the new LMSI, which an SM route returns and the next update drops.
+pub fn update_from_another_address()
+    ensures { let asks = λ (register : Register). begin_in NetworkLocUp (Invoke (pos 7) None (Number 2) (Some (Typed (Update first_imsi register))) ∷ []) in
+        let completes = λ (S : State) (new : List ℕ). receives S gateway (continue_to id_a (result_of (pos 1) ∷ [])) new in
+        let begun = receives start gateway (asks at_b) id_a in
+        let done = completes begun.state id_b in
+        let lmsi = Some (1 ∷ 2 ∷ 3 ∷ 4 ∷ []) in
+        let with_lmsi = record at_b { lmsi = lmsi } in
+        let again = completes (receives done.state gateway (asks with_lmsi) id_a).state id_c in
+        let back = completes (receives again.state gateway (asks at_b) id_a).state id_c in
+        (begun.answer.sent ≡ one gateway (SentContinue id_a theirs (Some NetworkLocUp) [] (Insert (pos 1) None (Some first_msisdn) first_record.codes ∷ [])))
+        × (done.answer.sent ≡ record { to = gateway; message = SentEnd theirs None [] (UpdateResult (pos 7) hlr ∷ []) }
+        ∷ record { to = vlr_a; message = SentBegin id_b LocationCancellation (Cancel (pos 1) first_imsi UpdateProcedure ∷ []) } ∷ [])
+        × (again.answer.sent ≡ one gateway (SentEnd theirs None [] (UpdateResult (pos 7) hlr ∷ [])))
+        × (again.state.records first_imsi ≡ Some (record first_record { register = Some with_lmsi }))
+        × ((receives again.state gateway (begin_in ShortMsgGateway (Invoke (pos 7) None (Number 45) (Some (Typed (Route first_msisdn))) ∷ [])) id_c).answer.sent
+        ≡ one gateway (SentEnd theirs (Some ShortMsgGateway) [] (RouteResult (pos 7) first_imsi at_b.msc lmsi ∷ [])))
+        × (back.state.records first_imsi ≡ Some (record first_record { register = Some at_b })) }
+{}
+
+/// Where a subscriber may roam: one matching prefix is enough, a number shorter than the prefix does not match, and the VLR
+/// number must match, not the source address of the update.
+pub fn roaming()
+    ensures prefixes { (is_allowed (Some ((4 ∷ 4 ∷ 7 ∷ 8 ∷ []) ∷ (4 ∷ 4 ∷ 7 ∷ 7 ∷ []) ∷ [])) vlr_b ≡ true)
+        × (is_allowed (Some ((4 ∷ 4 ∷ 7 ∷ 7 ∷ []) ∷ [])) (4 ∷ 4 ∷ []) ≡ false)
+        × (is_allowed (Some []) vlr_b ≡ false) }
+    ensures updates { let allowed = record at_b { vlr = 4 ∷ 4 ∷ 7 ∷ 8 ∷ 1 ∷ [] } in
+        let asks = λ (from : List ℕ) (register : Register). receives start from (begin_in NetworkLocUp (update_of third_imsi register ∷ [])) id_e in
+        ((asks vlr_b allowed).answer.sent ≡ one vlr_b (SentContinue id_e theirs (Some NetworkLocUp) [] (Insert (pos 1) None (Some third_msisdn) third_record.codes ∷ [])))
+        × ((asks vlr_b allowed).answer.id ≡ Some id_e)
+        × ((asks allowed.vlr at_b).answer.sent ≡ one allowed.vlr (SentEnd theirs (Some NetworkLocUp) [] (SentError (pos 1) 8 ∷ []))) }
+    ensures withdrawn { let gone = is_changed start third_imsi Withdraw id_e in
+        (receives gone.state vlr_b (begin_in NetworkLocUp (update_of third_imsi at_b ∷ [])) id_e).answer.sent
+        ≡ one vlr_b (SentEnd theirs (Some NetworkLocUp) [] (SentError (pos 1) 1 ∷ [])) }
+{}
+
 /// The error of an insert ends the update with systemFailure, and the register stays. So does its expiry.
 pub fn insert_error()
     ensures { let begun = receives start vlr_b (begin_in NetworkLocUp (update_of first_imsi at_b ∷ [])) id_a in
@@ -133,8 +197,8 @@ pub fn insert_error()
         × (expired.state.dialogues id_a ≡ None) }
 {}
 
-/// Two subscribers of one shard. When the timers of both have run out, an expiry ends the update of the first alone, the next
-/// one that of the other.
+/// Two subscribers of one shard. When the timers of both are due, one expiry ends the update of the first alone, and the next
+/// that of the other.
 pub fn one_subscriber_alone()
     ensures { let first = receives start vlr_b (begin_in NetworkLocUp (update_of first_imsi at_b ∷ [])) id_a in
         let other = receives (waits first.state 1 5) vlr_b (begin_in NetworkLocUp (update_of fifth_imsi at_b ∷ [])) id_b in
@@ -149,7 +213,7 @@ pub fn one_subscriber_alone()
         × (again.state.dialogues id_b ≡ None) }
 {}
 
-/// An update without a parameter is rejected: mistypedParameter; another operation: unrecognizedOperation; with a linked id:
+/// An update without a parameter is rejected: mistypedParameter; another operation: unrecognizedOperation; one with a linked id:
 /// unrecognizedLinkedID. A bad value, a VLR where the subscriber may not roam, and an unknown subscriber are answered with
 /// errors.
 pub fn refused_updates()
@@ -165,9 +229,9 @@ pub fn refused_updates()
         × (asks (update_of hlr at_b) ≡ error 1) }
 {}
 
-// Cancels
+// Cancels (TS 29.002, 8.1.3, MAP_CANCEL_LOCATION; TS 23.012, Location cancellation)
 
-/// A cancel that is not answered is sent again as two further attempts, each with a new id; then no dialogue is open.
+/// A cancel that is not answered is sent again twice, each time with a new id; then no dialogue is open.
 pub fn repeated_cancel()
     ensures { let begun = receives start vlr_b (begin_in NetworkLocUp (update_of first_imsi at_b ∷ [])) id_a in
         let done = receives begun.state vlr_b (continue_to id_a (result_of (pos 1) ∷ [])) id_b in
@@ -182,7 +246,7 @@ pub fn repeated_cancel()
         × (last.state.dialogues id_b ≡ None) }
 {}
 
-/// It is not sent again to the register of an update that has begun meanwhile, nor to the one that serves again.
+/// A cancel is not repeated to the register of an update that has begun meanwhile, nor to one that serves again.
 pub fn cancel_not_repeated()
     ensures { let begun = receives start vlr_b (begin_in NetworkLocUp (update_of first_imsi at_b ∷ [])) id_a in
         let done = receives begun.state vlr_b (continue_to id_a (result_of (pos 1) ∷ [])) id_b in
@@ -196,7 +260,7 @@ pub fn cancel_not_repeated()
         × (afterwards.state.dialogues id_b ≡ None) }
 {}
 
-/// The first Continue of a cancel gives it its peer's id and address; a result that is not the last one changes nothing more.
+/// The first Continue of a cancel sets the peer's id and address; a result that is not the last one changes nothing more.
 pub fn peer_of_a_cancel()
     ensures { let begun = receives start vlr_b (begin_in NetworkLocUp (update_of first_imsi at_b ∷ [])) id_a in
         let done = receives begun.state vlr_b (continue_to id_a (result_of (pos 1) ∷ [])) id_b in
@@ -213,9 +277,44 @@ pub fn peer_of_a_cancel()
         × (over.state.dialogues id_b ≡ None) }
 {}
 
-// Purges
+/// Who holds a subscriber, determined from a journal: the old register until it is cancelled, then the new one. A register that
+/// serves again still holds when its cancel has expired, and is not cancelled again; a purged register no longer holds once it is
+/// cancelled. The frames of one entry count in their order, and a cancel of another subscriber does not count.
+pub fn holders_of_journals()
+    ensures again { let to_b = begin_in NetworkLocUp (update_of first_imsi at_b ∷ []) in
+        let to_a = begin_in NetworkLocUp (update_of first_imsi at_a ∷ []) in
+        let begun = receives start vlr_b to_b id_a in
+        let done = receives begun.state vlr_b (continue_to id_a (result_of (pos 1) ∷ [])) id_b in
+        let back = receives (waits done.state 1 10) vlr_a to_a id_c in
+        let home = receives back.state vlr_a (continue_to id_c (result_of (pos 1) ∷ [])) id_d in
+        let over = expires_at (waits home.state 1 20) id_b (pos 1) id_c in
+        let moved = message_entry vlr_b to_b begun ∷ message_entry vlr_b (continue_to id_a (result_of (pos 1) ∷ [])) done ∷ [] in
+        let returned = message_entry vlr_a to_a back ∷ message_entry vlr_a (continue_to id_c (result_of (pos 1) ∷ [])) home ∷ expiry_entry 1 over ∷ [] in
+        (holders start [] first_imsi vlr_a ≡ true)
+        × (holders start moved first_imsi vlr_a ≡ false)
+        × (holders start moved first_imsi vlr_b ≡ true)
+        × (holders start (moved ++ returned) first_imsi vlr_a ≡ true)
+        × (holders start (moved ++ returned) first_imsi vlr_b ≡ false) }
+    ensures purged { let purges = begin_in MsPurging (purge_of first_imsi (Some vlr_a) ∷ []) in
+        let to_b = begin_in NetworkLocUp (update_of first_imsi at_b ∷ []) in
+        let purged = receives start vlr_a purges id_a in
+        let begun = receives purged.state vlr_b to_b id_a in
+        let done = receives begun.state vlr_b (continue_to id_a (result_of (pos 1) ∷ [])) id_b in
+        let journal = message_entry vlr_a purges purged ∷ message_entry vlr_b to_b begun ∷ message_entry vlr_b (continue_to id_a (result_of (pos 1) ∷ [])) done ∷ [] in
+        (holders start (message_entry vlr_a purges purged ∷ []) first_imsi vlr_a ≡ true)
+        × (holders start journal first_imsi vlr_a ≡ false)
+        × (holders start journal first_imsi vlr_b ≡ true) }
+    ensures in_order { let result : Out = record { to = vlr_b; message = SentEnd theirs None [] (UpdateResult (pos 1) hlr ∷ []) } in
+        let cancel : Out = record { to = vlr_b; message = SentBegin id_b LocationCancellation (Cancel (pos 1) first_imsi UpdateProcedure ∷ []) } in
+        let of_another : Out = record { to = vlr_b; message = SentBegin id_b LocationCancellation (Cancel (pos 1) fifth_imsi UpdateProcedure ∷ []) } in
+        (held_after first_imsi true (Some vlr_b) (result ∷ of_another ∷ []) held_by_none vlr_b ≡ true)
+        × (held_after first_imsi true (Some vlr_b) (result ∷ cancel ∷ []) held_by_none vlr_b ≡ false)
+        × (held_after first_imsi true (Some vlr_b) (cancel ∷ result ∷ []) held_by_none vlr_b ≡ true) }
+{}
 
-/// A purge by the serving register sets the flag, and short messages find the subscriber absent; by another register it
+// Purges (TS 29.002, 8.1.6, MAP_PURGE_MS; TS 23.012, Purge MS)
+
+/// A purge by the serving register sets the purged flag, and short messages find the subscriber absent; one by another register
 /// changes nothing. Without a VLR number: dataMissing. Of an unknown subscriber: unknownSubscriber.
 pub fn purge()
     ensures { let asks = λ (component : Component). receives start vlr_a (begin_in MsPurging (component ∷ [])) id_a in
@@ -230,76 +329,30 @@ pub fn purge()
         × ((asks (purge_of hlr (Some vlr_a))).answer.sent ≡ answer (SentError (pos 1) 1)) }
 {}
 
-// Components
-
-/// In an open update: a result that comes twice is rejected the second time, the last one and any other; an Invoke with the
-/// id that the peer waits for, one with a linked id, and one of the peer's own operation are rejected, and so is what is
-/// ill-formed, but for a Reject.
-pub fn late_and_linked_components()
-    ensures { let begun = receives start vlr_b (begin_in NetworkLocUp (update_of second_imsi at_b ∷ [])) id_d in
-        let half = receives begun.state vlr_b (continue_to id_d (result_of (pos 1) ∷ [])) id_a in
-        let gets = λ (component : Component). (receives half.state vlr_b (continue_to id_d (component ∷ [])) id_a).answer.sent in
-        let rejects = λ (rejected : Rejection). one vlr_b (SentContinue id_d theirs None (rejected ∷ []) []) in
-        (half.answer.sent ≡ [])
-        × (gets (result_of (pos 1)) ≡ rejects (rejection (Some (pos 1)) OfResult 0))
-        × (gets (ResultNotLast (pos 1)) ≡ rejects (rejection (Some (pos 1)) OfResult 0))
-        × (gets (ReturnError (pos 7) (Number 34)) ≡ rejects (rejection (Some (pos 7)) OfError 0))
-        × (gets (update_of second_imsi at_b) ≡ rejects (rejection (Some (pos 1)) OfInvoke 0))
-        × (gets (Invoke (pos 5) (Some (pos 9)) (Number 2) None) ≡ rejects (rejection (Some (pos 5)) OfInvoke 5))
-        × (gets (Invoke (pos 5) (Some (pos 2)) (Number 2) None) ≡ rejects (rejection (Some (pos 5)) OfInvoke 6))
-        × (gets (Invoke (pos 5) None (Number 2) None) ≡ rejects (rejection (Some (pos 5)) OfInvoke 3))
-        × (gets (Invoke (pos 5) None (Number 3) None) ≡ rejects (rejection (Some (pos 5)) OfInvoke 1))
-        × (gets (Bad None 0) ≡ rejects (rejection None General 0))
-        × (gets (Bad (Some (pos 3)) 1) ≡ rejects (rejection (Some (pos 3)) General 1))
-        × (gets Ignored ≡ [])
-        × (gets (Reject (Some (pos 1)) General 0) ≡ []) }
+/// Without a VLR number dataMissing comes first, even for an unknown subscriber. If no register serves, there is no freezeTMSI. A
+/// register that is already purged is answered freezeTMSI again. A purge during an update does not affect the update. A
+/// withdrawal clears the purged flag.
+pub fn purges_at_other_times()
+    ensures without_number { (receives start vlr_a (begin_in MsPurging (purge_of hlr None ∷ [])) id_a).answer.sent
+        ≡ one vlr_a (SentEnd theirs (Some MsPurging) [] (SentError (pos 1) 35 ∷ [])) }
+    ensures without_register { (receives start vlr_a (begin_in MsPurging (purge_of second_imsi (Some vlr_a) ∷ [])) id_d).answer.sent
+        ≡ one vlr_a (SentEnd theirs (Some MsPurging) [] (PurgeResult (pos 1) false ∷ [])) }
+    ensures twice { let by_a = begin_in MsPurging (purge_of first_imsi (Some vlr_a) ∷ []) in
+        (receives (receives start vlr_a by_a id_a).state vlr_a by_a id_a).answer.sent
+        ≡ one vlr_a (SentEnd theirs (Some MsPurging) [] (PurgeResult (pos 1) true ∷ [])) }
+    ensures withdrawn { let purged = receives start vlr_a (begin_in MsPurging (purge_of first_imsi (Some vlr_a) ∷ [])) id_a in
+        (is_changed purged.state first_imsi Withdraw id_a).state.records first_imsi ≡ Some (record first_record { register = None; withdrawn = true }) }
+    ensures during_update { let begun = receives start vlr_b (begin_in NetworkLocUp (update_of first_imsi at_b ∷ [])) id_a in
+        let purged = receives begun.state vlr_a (begin_in MsPurging (purge_of first_imsi (Some vlr_a) ∷ [])) id_b in
+        let done = receives purged.state vlr_b (continue_to id_a (result_of (pos 1) ∷ [])) id_b in
+        (purged.state.records first_imsi ≡ Some (record first_record { purged = true; current = Some id_a }))
+        × (done.state.records first_imsi ≡ Some (record first_record { register = Some at_b })) }
 {}
 
-/// An answer that comes twice in one frame is rejected the second time.
-pub fn result_of_unknown_invoke()
-    ensures { let begun = receives start vlr_b (begin_in NetworkLocUp (update_of second_imsi at_b ∷ [])) id_d in
-        (receives begun.state vlr_b (continue_to id_d (result_of (pos 1) ∷ result_of (pos 1) ∷ [])) id_a).answer.sent
-        ≡ one vlr_b (SentContinue id_d theirs None (rejection (Some (pos 1)) OfResult 0 ∷ []) []) }
-{}
+// Changes (profile; TS 29.002, 8.8.1, MAP-INSERT-SUBSCRIBER-DATA, and 8.1.3, MAP_CANCEL_LOCATION)
 
-// Dialogues
-
-/// Another version of a context is refused with version 3, any other name with itself. Without a dialogue portion, and
-/// without a component, a Begin is aborted without a cause.
-pub fn refused_contexts()
-    ensures { let begins = λ (name : Option (List ℕ)) (components : List Component). (receives start vlr_b (Begin theirs name components) id_a).answer.sent in
-        let aborted = λ (why : Why). one vlr_b (SentAbort theirs why) in
-        let update = update_of first_imsi at_b ∷ [] in
-        (begins (Some (4 ∷ 0 ∷ 0 ∷ 1 ∷ 0 ∷ 1 ∷ 2 ∷ [])) update ≡ aborted (Refusing (name_of NetworkLocUp)))
-        × (begins (Some (4 ∷ 0 ∷ 0 ∷ 1 ∷ 0 ∷ 0x1B ∷ 2 ∷ [])) update ≡ aborted (Refusing (name_of MsPurging)))
-        × (begins (Some (4 ∷ 0 ∷ 0 ∷ 1 ∷ 0 ∷ 0x14 ∷ 1 ∷ [])) update ≡ aborted (Refusing (name_of ShortMsgGateway)))
-        × (begins (Some (4 ∷ 0 ∷ 0 ∷ 1 ∷ 0 ∷ 5 ∷ 3 ∷ [])) update ≡ aborted (Refusing (4 ∷ 0 ∷ 0 ∷ 1 ∷ 0 ∷ 5 ∷ 3 ∷ [])))
-        × (begins (Some (4 ∷ 0 ∷ 0 ∷ 1 ∷ 0 ∷ 2 ∷ 2 ∷ [])) update ≡ aborted (Refusing (4 ∷ 0 ∷ 0 ∷ 1 ∷ 0 ∷ 2 ∷ 2 ∷ [])))
-        × (begins (Some (name_of LocationCancellation)) update ≡ aborted (Refusing (name_of LocationCancellation)))
-        × (begins None update ≡ aborted NoCause)
-        × (begins (Some (name_of NetworkLocUp)) [] ≡ aborted NoCause) }
-{}
-
-/// A Continue for no open dialogue, also one with another id than the dialogue's peer has, or with an id that is no local id,
-/// is aborted: unrecognizedTransactionID. An End is discarded. What reads to an Abort is aborted so. The open dialogue stays.
-pub fn unknown_dialogues()
-    ensures { let begun = receives start vlr_b (begin_in NetworkLocUp (update_of first_imsi at_b ∷ [])) id_a in
-        let aborted = λ (origin : List ℕ) (cause : ℕ). one vlr_b (SentAbort origin (Cause cause)) in
-        let result = result_of (pos 1) ∷ [] in
-        let short = 0 ∷ 0 ∷ 11 ∷ [] in
-        ((receives start vlr_b (continue_to id_a result) id_b).answer.sent ≡ aborted theirs 1)
-        × ((receives begun.state vlr_b (Continue short id_a None result) id_b).answer.sent ≡ aborted short 1)
-        × ((receives begun.state vlr_b (Continue short id_a None result) id_b).state.dialogues id_a ≡ begun.state.dialogues id_a)
-        × ((receives begun.state vlr_b (Continue theirs (0 ∷ 16 ∷ 0 ∷ []) None result) id_b).answer.sent ≡ aborted theirs 1)
-        × ((receives start vlr_b (End id_a None result) id_b).answer.sent ≡ [])
-        × (turn_of_verdict start.dialogues vlr_b (Refuse theirs 3) ≡ Dismissed (aborted theirs 3))
-        × (turn_of_verdict start.dialogues vlr_b Discard ≡ Dismissed []) }
-{}
-
-// Changes
-
-/// New codes go to the serving register; its End, its result and the expiry of the timer end the dialogue, and nothing is
-/// sent again. Without a code for short messages there is no SM route any more.
+/// New codes go to the serving register. Its End, its result or the expiry of the timer ends the dialogue, with an End once it is
+/// Active, and nothing is sent again. Without a code for short messages there is no SM route any more.
 pub fn codes_changed()
     ensures { let changed = is_changed start first_imsi (Codes (0x11 ∷ 0x22 ∷ [])) id_a in
         let over = receives changed.state vlr_a (End id_a None (result_of (pos 1) ∷ [])) id_b in
@@ -312,8 +365,45 @@ pub fn codes_changed()
         × ((receives changed.state vlr_a (continue_to id_a (result_of (pos 1) ∷ [])) id_b).state.dialogues id_a ≡ None)
         × ((expires_at (waits changed.state 1 20) id_a (pos 1) id_b).answer.sent ≡ [])
         × ((expires_at (waits changed.state 1 20) id_a (pos 1) id_b).state.dialogues id_a ≡ None)
+        × ((expires_at (waits (receives changed.state vlr_a (continue_to id_a (ResultNotLast (pos 1) ∷ [])) id_b).state 1 20) id_a (pos 1) id_b).answer.sent
+        ≡ one vlr_a (SentEnd theirs None [] []))
         × ((is_changed start second_imsi (Codes []) id_d).answer.sent ≡ [])
         × ((is_changed start hlr (Codes []) id_d).answer ≡ record { id = None; subject = None; sent = [] }) }
+{}
+
+/// New codes during an update: the update fails when it would complete, whether or not a register served.
+pub fn codes_during_update()
+    ensures served { let begun = receives start vlr_b (begin_in NetworkLocUp (update_of first_imsi at_b ∷ [])) id_a in
+        let changed = is_changed begun.state first_imsi (Codes (0x11 ∷ [])) id_b in
+        let late = receives changed.state vlr_b (continue_to id_a (result_of (pos 1) ∷ [])) id_c in
+        (changed.state.records first_imsi ≡ Some (record first_record { codes = 0x11 ∷ [] }))
+        × (late.answer.sent ≡ one vlr_b (SentEnd theirs None [] (SentError (pos 1) 34 ∷ []))) }
+    ensures unserved { let begun = receives start vlr_b (begin_in NetworkLocUp (update_of second_imsi at_b ∷ [])) id_d in
+        let changed = is_changed begun.state second_imsi (Codes (0x11 ∷ [])) id_a in
+        let late = receives changed.state vlr_b (continue_to id_d (result_of (pos 1) ∷ result_of (pos 2) ∷ [])) id_a in
+        (changed.state.records second_imsi ≡ Some (record second_record { codes = 0x11 ∷ [] }))
+        × (late.answer.sent ≡ one vlr_b (SentEnd theirs None [] (SentError (pos 1) 34 ∷ []))) }
+{}
+
+/// New codes are not sent to a purged register, but the record keeps them. Nothing of a withdrawn subscriber changes.
+pub fn codes_not_told()
+    ensures purged { let purged = receives start vlr_a (begin_in MsPurging (purge_of first_imsi (Some vlr_a) ∷ [])) id_a in
+        let changed = is_changed purged.state first_imsi (Codes (0x11 ∷ [])) id_b in
+        (changed.answer ≡ record { id = None; subject = Some first_imsi; sent = [] })
+        × (changed.state.records first_imsi ≡ Some (record first_record { codes = 0x11 ∷ []; purged = true })) }
+    ensures withdrawn { let gone = is_changed start first_imsi Withdraw id_a in
+        let changed = is_changed gone.state first_imsi (Codes (0x11 ∷ [])) id_b in
+        (changed.answer.sent ≡ [])
+        × (changed.state.records first_imsi ≡ gone.state.records first_imsi) }
+{}
+
+/// Each repeat of a withdrawal's cancel says subscriptionWithdraw.
+pub fn repeated_withdrawal()
+    ensures { let cancels = λ (id : List ℕ). one vlr_a (SentBegin id LocationCancellation (Cancel (pos 1) first_imsi SubscriptionWithdraw ∷ [])) in
+        let gone = is_changed start first_imsi Withdraw id_a in
+        let second = expires_at (waits gone.state 1 20) id_a (pos 1) id_b in
+        let third = expires_at (waits second.state 1 40) id_b (pos 1) id_c in
+        (second.answer.sent ≡ cancels id_b) × (third.answer.sent ≡ cancels id_c) }
 {}
 
 /// A withdrawal cancels the register; then updates, purges and SM routes find no subscriber.
@@ -342,8 +432,7 @@ pub fn withdrawn_during_update()
 
 // A full shard
 
-/// Where as many dialogues are open as may be, an update is aborted for want of resources and changes nothing. An SM route is
-/// answered as ever.
+/// In a full shard an update is aborted with resourceLimitation and changes nothing. An SM route is answered as usual.
 pub fn full_shard()
     ensures update { (S : State) → IsFull S 1 → S.records first_imsi ≡ Some first_record
         → Step S (Frame vlr_b (Read (begin_in NetworkLocUp (update_of first_imsi at_b ∷ [])))) S
@@ -353,7 +442,7 @@ pub fn full_shard()
         × (a.sent ≡ one gateway (SentEnd theirs (Some ShortMsgGateway) [] (RouteResult (pos 1) first_imsi at_a.msc None ∷ []))) }
 {}
 
-/// There a withdrawal of a subscriber whom a register serves has no room.
+/// In a full shard there is no room for the withdrawal of a subscriber whom a register serves.
 pub fn change_in_full_shard()
     ensures { (S : State) → IsFull S 1 → S.records first_imsi ≡ Some first_record → HasNoRoom S (Operator first_imsi Withdraw) }
 {}

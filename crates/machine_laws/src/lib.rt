@@ -2,24 +2,25 @@
 //! a public function that does nothing, and speaks of the definitions of the crate `machine` alone.
 #![tactic(auto)]
 
+pub mod dialogue_examples;
 pub mod examples;
 
 ghost use Rattle.std.specs.Prelude.{◌≡◌, ℕ, ℤ, Option, None, ◌<◌, ◌≤◌, List, [], ◌∷◌, ◌++◌, ◌&&◌, ◌||◌, ◌⊎◌, true, false, length};
-ghost use Rattle.machine.specs.Received.{Abort, Component, ComponentOf, Continue, End, Read, Register, Response};
+ghost use Rattle.machine.specs.Received.{Abort, Begin, Component, ComponentOf, Continue, End, Read, Register, Response};
 ghost use Rattle.machine.specs.Isolation.{AgreeOf, MetFullShard, NoneTurnedAway, SameAfter, SameOf, is_of, is_turned_away, only_of, own};
 ghost use Rattle.machine.specs.Step.{Answer, HasNoRoom, IsNewId, Step, TurnedAway, outcome_in, known_in};
 ghost use Rattle.machine.specs.Bounds.{AnswerInBounds, AreDigits, ComponentsInBounds, EventInBounds, RecordInBounds, StartsOfOperation, StateInBounds};
 ghost use Rattle.machine.specs.Opening.{AreLoaded, opening};
 ghost use Rattle.machine.specs.Effect.{AreRising, Offer, any_failed, effect, in_sent, invocations_after, open_at, reject_of, rejects_after, starts};
 ghost use Rattle.machine.specs.Chains.{Chain, Epoch, first_base, joined};
-ghost use Rattle.machine.specs.Tables.{CloseMoves, ContinueMoves, ExpiryMoves, OpeningMoves};
+ghost use Rattle.machine.specs.Tables.{BeginMoves, CloseMoves, ContinueMoves, ExpiryMoves, OpeningMoves};
 ghost use Rattle.machine.specs.Sent.{Context};
 ghost use Rattle.machine.specs.State.{Dialogue, Invocation, IsFull, State, Subscriber, Updates};
 ghost use Rattle.machine.specs.Legal.{Entry, Legal, answers_of, events_of};
 ghost use Rattle.machine.specs.Events.{Event, Expire, Frame};
 ghost use Rattle.machine.specs.Keys.{Every, IsIn, put_at, shard_of_id};
 ghost use Rattle.machine.specs.Invocations.{Happening};
-ghost use Rattle.machine.specs.Turns.{IsDue, IsLeast, Turn, TurnsTo};
+ghost use Rattle.machine.specs.Turns.{IsDue, IsLeast, Turn, TurnsTo, invocation_of};
 ghost use Rattle.machine.specs.Holders.{IsNamed, began_from, began_in, holders, is_subject, serving};
 ghost use Rattle.machine.specs.Parts.{Leaves, part, union};
 ghost use Rattle.machine.specs.Merges.{Merges};
@@ -28,6 +29,7 @@ ghost use Rattle.machine.specs.Run.{Run};
 ghost use Rattle.machine.specs.Sound.{Sound};
 ghost use Rattle.machine.specs.Numbers.{most_dialogues, shards};
 ghost use Rattle.machine.specs.Begins.{offer_in};
+ghost use Rattle.machine_laws.specs.FirstTimer.{HasFirstTimer};
 ghost use Rattle.machine_laws.specs.Play.{play};
 ghost use Rattle.machine.specs.Routing.{route};
 
@@ -48,12 +50,12 @@ pub fn openings_are_sound()
         → Legal n (part (opening records directory hlr) n) [] (part (opening records directory hlr) n) }
 {}
 
-/// A state with no dialogue is sound where each record is one that may be loaded.
+/// A state with no dialogue is sound if each record is one that may be loaded.
 pub fn fresh_states_are_sound()
     ensures { (S : State) → ((i : List ℕ) → S.dialogues i ≡ None) → AreLoaded S.records → Sound S }
 {}
 
-/// A shard of whose open ids a table has each, and fewer than 4,096, is not full.
+/// A shard is not full if a table of fewer than 4,096 ids has all of its open ids.
 pub fn tables_tell_full_shards()
     ensures { (S : State) (n : ℕ) (table : List (List ℕ))
         → ((i : List ℕ) → shard_of_id i ≡ n → (S.dialogues i ≡ None → ⊥) → IsIn i table)
@@ -83,7 +85,7 @@ pub fn dialogues_have_subjects()
         → Sound S → S.dialogues i ≡ Some d → known_in S (Some d.subscriber) ≡ Some d.subscriber }
 {}
 
-/// In a sound state each event has a step, but for an operator's change that would overflow its shard.
+/// In a sound state each event has a step, except an operator's change that would overflow its shard.
 pub fn events_have_steps()
     ensures { (S : State) (e : Event) → Sound S → ((T : State) × (a : Answer) × Step S e T a) ⊎ HasNoRoom S e }
 {}
@@ -94,7 +96,7 @@ pub fn ids_are_the_only_choice()
         → Step S e T a → Step S e U b → a.id ≡ b.id → (T ≡ U) × (a ≡ b) }
 {}
 
-/// What the worked examples compute is a step, where there is room and the new id is one.
+/// What the worked examples compute is a step, if there is room and the new id is a new one.
 pub fn played_turns_are_steps()
     ensures { (S : State) (e : Event) (turn : Turn) (new : List ℕ)
         → TurnsTo S e turn → IsNewId S (route S.directory e) new → (IsFull S (route S.directory e) → ⊥)
@@ -106,8 +108,8 @@ pub fn changes_without_room_have_no_step()
     ensures { (S : State) (e : Event) (T : State) (a : Answer) → HasNoRoom S e → Step S e T a → ⊥ }
 {}
 
-/// An answer with a subject says that an update was turned away exactly where an update of this subject met a full shard;
-/// then nothing changed.
+/// An answer with a subject says that an update was turned away exactly if an update of this subject met a full shard; then
+/// nothing changed.
 pub fn turned_away_is_exact()
     ensures told { (S : State) (e : Event) (T : State) (a : Answer) (x : List ℕ)
         → Step S e T a → is_subject x a.subject && is_turned_away a.sent ≡ true → MetFullShard S e T a x }
@@ -118,9 +120,13 @@ pub fn turned_away_is_exact()
 
 // The tables
 
-/// Every transaction and every invocation that a step changes moves by a row of its table, and what is sent for it is what
-/// the row says. The dialogues that an event does not name stay, by `unnamed_dialogues_stay`.
+/// Every transaction and every invocation that a step changes moves by a row of its table (Q.774), and what is sent for it is
+/// what the row says, with the Rejects of what was received. A Begin is answered to its source, and a dialogue that opens invokes
+/// each operation under the id of its invocation. The dialogues that an event does not name stay, by `unnamed_dialogues_stay`.
 pub fn steps_follow_the_tables()
+    // a Begin, whether it opens a dialogue or not
+    ensures begins { (S : State) (from origin : List ℕ) (name : Option (List ℕ)) (components : List Component) (T : State) (a : Answer)
+        → Step S (Frame from (Read (Begin origin name components))) T a → BeginMoves from origin name components a }
     // a Continue, whether it is for a dialogue or for none
     ensures continues { (S : State) (from origin i : List ℕ) (portion : Option Response) (components : List Component) (T : State) (a : Answer)
         → Step S (Frame from (Read (Continue origin i portion components))) T a → ContinueMoves S from origin i components T a }
@@ -134,7 +140,21 @@ pub fn steps_follow_the_tables()
         → Sound S → IsDue S n i d j v → IsLeast S n v.deadline i j → Step S (Expire n) T a → ExpiryMoves S n i d j T a }
     // a dialogue that opens
     ensures opens { (S : State) (e : Event) (T : State) (a : Answer) (i : List ℕ)
-        → Step S e T a → a.id ≡ Some i → OpeningMoves S (route S.directory e) i T a }
+        → Step S e T a → a.id ≡ Some i → OpeningMoves S e (route S.directory e) i T a }
+{}
+
+/// An expiry names at most one dialogue: an open one with a due timer, and no due timer has an earlier deadline.
+pub fn expiries_name_one()
+    ensures one { (S : State) (n : ℕ) (i k : List ℕ) → IsNamed S (Expire n) i → IsNamed S (Expire n) k → i ≡ k }
+    ensures which { (S : State) (n : ℕ) (i k : List ℕ) (d : Dialogue) (j : ℤ) (v : Invocation)
+        → IsNamed S (Expire n) i → IsDue S n k d j v → HasFirstTimer S n i v.deadline }
+{}
+
+/// A timer is due once the clock has reached its deadline.
+pub fn timers_are_due_at_their_deadline()
+    ensures { (S : State) (n : ℕ) (i : List ℕ) (d : Dialogue) (j : ℤ) (v : Invocation)
+        → shard_of_id i ≡ n → S.dialogues i ≡ Some d → invocation_of j d.invocations ≡ Some v → v.deadline ≡ S.clocks n
+        → IsDue S n i d j v }
 {}
 
 /// A component moves the invocation with its id by a row of the invocation table, and is rejected as the row says; it moves
@@ -146,8 +166,8 @@ pub fn components_follow_the_table<P>()
         → happening j c ≡ None → standing_of j (invocations_after now (c ∷ []) vs) ≡ standing_of j vs }
 {}
 
-/// The effect of a list of components is that of its components one by one, each on the invocations as the ones before it
-/// leave them.
+/// The effect of a list of components is that of its components one by one, each on the invocations that the earlier ones
+/// leave.
 pub fn components_come_one_by_one<P>()
     ensures rejects { (offer : Offer) (vs : List Invocation) (cs : List (ComponentOf P)) (c : ComponentOf P)
         → rejects_after offer vs [] (cs ++ c ∷ []) ≡ rejects_after offer vs [] cs ++ reject_of offer vs cs c }
@@ -165,8 +185,8 @@ pub fn components_come_one_by_one<P>()
 
 // Bounds
 
-/// Where the values of a state and of what comes are within their bounds, so are those of the state after a step and of its
-/// answer, and along every run. What is loaded begins so; a part is so where the whole is, and the whole where the parts are.
+/// If the values of a state and of an event are within their bounds, so are those of the state after a step and of its answer,
+/// and along every run. The loaded state is within bounds, a part is if the whole is, and the whole is if the parts are.
 pub fn steps_stay_in_bounds()
     ensures step { (S : State) (e : Event) (T : State) (a : Answer)
         → StateInBounds S → EventInBounds e → Step S e T a → StateInBounds T × AnswerInBounds a }
@@ -179,7 +199,7 @@ pub fn steps_stay_in_bounds()
     ensures unions { (states : ℕ → State) → ((n : ℕ) → n < shards → StateInBounds (states n)) → StateInBounds (union states) }
 {}
 
-/// What a Begin starts in a context has an argument, and it is of the operation that a peer may invoke there.
+/// What a Begin starts in a context has an argument, and it is one of the operation that a peer may invoke there.
 pub fn what_starts_is_of_its_context()
     ensures { (now : ℕ) (context : Context) (vs : List Invocation) (components : List Component) (invoke : ℤ)
         → ComponentsInBounds components
@@ -253,7 +273,7 @@ pub fn merges_are_runs()
 
 // Journals
 
-/// A journal begins empty, and a step of its shard puts its entry last.
+/// A journal begins empty, and a step of its shard appends its entry.
 pub fn journals_grow_by_steps()
     ensures empty { (n : ℕ) (S : State) → n < shards → Sound S → S ≡ part S n → Legal n S [] S }
     ensures push { (n : ℕ) (base S T : State) (journal : List Entry) (e : Event) (a : Answer)
@@ -261,8 +281,8 @@ pub fn journals_grow_by_steps()
         → Legal n base (journal ++ record { event = e; answer = a } ∷ []) T }
 {}
 
-/// A cut puts its epoch last in the chain. The joined journal of a chain and its shard is legal from the first base, and has
-/// the holders and the isolation of one journal. A step leaves the shard's base, and with it the chain.
+/// A cut appends its epoch to the chain. The joined journal of a chain and its shard is legal from the first base, and has the
+/// holders and the isolation of one journal. A step leaves the shard's base unchanged, and with it the chain.
 pub fn chains_are_journals()
     ensures cut { (n : ℕ) (epochs : List Epoch) (base state : State) (entries : List Entry)
         → Chain n epochs base → Legal n base entries state
@@ -280,14 +300,14 @@ pub fn chains_are_journals()
 
 // One subscriber alone
 
-/// An entry that is neither of x nor of the clock leaves the record of x, the dialogues of x and the clocks.
+/// An entry that is neither of x nor of the clock leaves the record of x, the dialogues of x and the clocks unchanged.
 pub fn others_leave_a_subscriber()
     ensures { (x : List ℕ) (S : State) (e : Event) (T : State) (a : Answer)
         → Sound S → Step S e T a → is_of x (record { event = e; answer = a }) ≡ false → SameAfter x S T }
 {}
 
 /// An entry of x or of the clock, unless it is an update that was turned away, is a step with the same answer in any sound
-/// state that has the same of x and no dialogue of another.
+/// state that has the same record and dialogues of x and no dialogue of another subscriber.
 pub fn a_subscriber_sees_its_own()
     ensures { (x : List ℕ) (S T : State) (e : Event) (U : State) (a : Answer)
         → Sound S → Sound T → AgreeOf x S T → Step S e U a
@@ -296,8 +316,8 @@ pub fn a_subscriber_sees_its_own()
         → (V : State) × Step T e V a × Sound V × AgreeOf x U V }
 {}
 
-/// Isolation: the entries of x are a legal journal from the state as x has it alone, to a state with the same record and the
-/// same dialogues of x.
+/// Isolation: the entries of x are a legal journal from the state with x alone to a state with the same record and the same
+/// dialogues of x.
 pub fn own_entries_are_legal()
     ensures { (n : ℕ) (base S : State) (journal : List Entry) (x : List ℕ)
         → Legal n base journal S → NoneTurnedAway journal x

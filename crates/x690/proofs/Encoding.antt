@@ -1,4 +1,4 @@
--- What is sent is made of octets, and no spelling with definite lengths has fewer.
+-- What is sent consists of octets, and no spelling with definite lengths has fewer.
 use Rattle.std.proofs.Common.{◌≤◌, ℕ, ◌<◌, inl, inr, List, [], ◌∷◌, ◌++◌, length, sym, ap, subst, arith, length-append}
 use Rattle.std.proofs.lemmas.Bool.{cases_lt}
 use Rattle.std.proofs.lemmas.Bool.Decides.{nat_tests}

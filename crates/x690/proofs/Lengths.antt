@@ -1,10 +1,10 @@
--- No length begins another, and Empty begins as the indefinite form does.
+-- No length is a prefix of another, and none begins as the indefinite form does.
 use Rattle.std.proofs.Common.{◌≡◌, ℕ, ◌^◌, ◌<◌, ◌≤◌, inl, inr, List, [], ◌∷◌, ◌++◌, length, refl, ap, arith, length-append}
 use Rattle.std.proofs.lemmas.Bool.Decides.{nat_tests}
 use Rattle.std.specs.List.{AllByRecursion}
 use Rattle.x690.specs.Length.{IsLength, length_octets}
 
--- two lists of one length in front of equal lists
+-- two lists of one length at the front of equal lists
 pub append-inj : (a b x y : List ℕ) → length a ≡ length b → a ++ x ≡ b ++ y → (a ≡ b) × (x ≡ y)
 append-inj [] [] x y h e = (refl, e)
 append-inj [] (b ∷ more_b) x y h e = absurd (omega arith)

@@ -4,3 +4,4 @@ pub mod Identifiers
 pub mod Lengths
 pub mod Readings
 pub mod Spellings
+pub mod Computed

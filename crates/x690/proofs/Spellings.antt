@@ -1,4 +1,4 @@
--- No spelling begins another, and what is sent is a spelling.
+-- No spelling is a prefix of another, and what is sent is a spelling.
 use Rattle.std.proofs.Common.{◌≡◌, ◌≤◌, ℕ, ◌+◌, ◌^◌, ◌<◌, ◌⊎◌, inl, inr, Bool, true, false, List, [], ◌∷◌, ◌++◌, length, refl, sym, ◌∙◌, ap, arith, append_assoc, length-append}
 use Rattle.x690.specs.Identifier.{IsTag, identifier}
 use Rattle.x690.specs.Length.{IsLength, length_octets}
@@ -29,7 +29,7 @@ Definite-not-Indefinite b c t u v w x y p q ht hu dv dw e =
     let i = identifier-inj t u (dv.0 ++ (p ++ x)) (128 ∷ (q ++ (0 ∷ 0 ∷ y))) ht.small hu.small (sym ev ∙ e ∙ ew) in
     IsLength-not-128 dv.0 (p ++ x) (q ++ (0 ∷ 0 ∷ y)) (length p) dv.1 i.1
 
--- two indefinite forms: their contents are ended
+-- two indefinite forms: their contents end with 00 00
 Indefinite-inj : (b c : Bool) (t u : Tag) (v w x y p q : List ℕ) → IsTag b t → IsTag c u → Indefinite v t p → Indefinite w u q
     → v ++ x ≡ w ++ y → (t ≡ u) × (p ++ (0 ∷ 0 ∷ x) ≡ q ++ (0 ∷ 0 ∷ y))
 Indefinite-inj b c t u v w x y p q ht hu dv dw e =

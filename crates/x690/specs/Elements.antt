@@ -1,5 +1,5 @@
--- The elements of a SEQUENCE, read from the first on (X.690, 8.9): a component that must come next, one that may be left
--- out (8.9.3, OPTIONAL), and the end.
+-- The elements of a SEQUENCE, read from the first on (X.690, 8.9): a component that must come next, one that may be absent
+-- (8.9.3, OPTIONAL), and the end.
 use Rattle.std.specs.Prelude.{List, [], ◌∷◌, Option, Some, None, option_map}
 use Rattle.x690.specs.Tree.{Tree}
 
@@ -13,7 +13,7 @@ abbrev pub or_all : {A : Type 0} → List Tree → Option (A × List Tree) → O
 or_all elements None = (None, elements)
 or_all elements (Some found) = (Some found.0, found.1)
 
--- optional: the first element, where it reads so, and the elements after it
+-- optional: the first element, if it reads so, and the elements after it
 abbrev pub optional : {A : Type 0} → (Tree → Option A) → List Tree → Option A × List Tree
 optional read elements = or_all elements (first read elements)
 
@@ -23,7 +23,7 @@ at_most_one [] = Some None
 at_most_one (tree ∷ []) = Some (Some tree)
 at_most_one (tree ∷ next ∷ rest) = None
 
--- no more: what was read, where no element is left
+-- no more: what was read, if no element is left
 abbrev pub no_more : {A : Type 0} → A → List Tree → Option A
 no_more value [] = Some value
 no_more value (tree ∷ rest) = None

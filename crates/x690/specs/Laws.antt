@@ -6,20 +6,20 @@ use Rattle.x690.specs.Reading.{octets_of, children_of}
 use Rattle.x690.specs.Spelling.{Spells, SpellsDefinitely, enc}
 use Rattle.x690.specs.declared.Tag.{Tag}
 
--- No spelling begins another, so octets spell at most one tree.
+-- No spelling is a proper prefix of a spelling, and octets spell at most one tree.
 abbrev pub OneTree : Type 0
 OneTree =
     (a b x y : List ℕ) (t u : Tree) → Spells a t → Spells b u → a ++ x ≡ b ++ y → (a ≡ b) × (t ≡ u)
 
--- The spelling that is sent is one, where its lengths fit four octets.
+-- The spelling that is sent is a spelling of its tree, if its lengths fit in four octets.
 abbrev pub EncSpells : Type 0
 EncSpells = (t : Tree) → HasTags t → length (enc t) < 2 ^ 32 → Spells (enc t) t
 
--- The spelling that is sent is made of octets.
+-- The spelling that is sent consists of octets.
 abbrev pub EncIsOctets : Type 0
 EncIsOctets = (t : Tree) → HasOctets t → AreOctets (enc t)
 
--- No length octets are fewer than those that are sent.
+-- The length octets that are sent are the fewest.
 abbrev pub FewestLengthOctets : Type 0
 FewestLengthOctets = (size : List ℕ) (n : ℕ) → AreOctets size → IsLength size n → length (length_octets n) ≤ length size
 
@@ -27,7 +27,7 @@ FewestLengthOctets = (size : List ℕ) (n : ℕ) → AreOctets size → IsLength
 abbrev pub FewestOctets : Type 0
 FewestOctets = (octets : List ℕ) (t : Tree) → AreOctets octets → SpellsDefinitely octets t → length (enc t) ≤ length octets
 
--- An element reads under a tag as its contents, exactly where it has that tag.
+-- A reading under a tag returns an element's contents exactly if the element has that tag.
 pub record OneReading : Type 0 where
   pub octets : (tag : Tag) (t : Tree) (contents : List ℕ) → (octets_of tag t ≡ Some contents) ↔ (t ≡ Primitive tag contents)
   pub children : (tag : Tag) (t : Tree) (elements : List Tree) → (children_of tag t ≡ Some elements) ↔ (t ≡ element tag elements)

@@ -14,7 +14,7 @@ IsLength (first ∷ octets) n =
     ((first < 128) × (octets ≡ []) × (n ≡ first))
     ⊎ ((1 ≤ length octets) × (length octets ≤ 4) × (first ≡ 128 + length octets) × (n ≡ unsigned octets))
 
--- the octet that stands k octets from the right
+-- the octet that is k octets from the right
 abbrev pub eight_bits : ℕ → ℕ → ℕ
 eight_bits k n = n / 2 ^ (8 * k) % 2 ^ 8
 

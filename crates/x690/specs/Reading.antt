@@ -1,4 +1,4 @@
--- What an element is under a tag: its contents where it has that tag, otherwise nothing (X.690, 8.1.1).
+-- Reading an element under a tag: its contents if it has that tag, otherwise nothing (X.690, 8.1.1).
 use Rattle.std.specs.Prelude.{ℕ, List, [], ◌∷◌, Option, Some, None, if◌then◌else◌, option_and_then}
 use Rattle.x690.specs.declared.Tag.{Tag}
 use Rattle.x690.specs.Tags.{same_tag}
@@ -8,7 +8,7 @@ abbrev pub tag_of : Tree → Tag
 tag_of (Primitive tag contents) = tag
 tag_of (Constructed tag children) = tag
 
--- the element, where it has this tag
+-- the element, if it has this tag
 abbrev pub tagged : Tag → Tree → Option Tree
 tagged tag tree = if same_tag (tag_of tree) tag then Some tree else None
 

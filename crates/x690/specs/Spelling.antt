@@ -10,12 +10,12 @@ abbrev pub Definite : List ℕ → Tag → List ℕ → Type 0
 Definite octets tag contents =
     (size : List ℕ) × IsLength size (length contents) × (octets ≡ identifier tag ++ (size ++ contents))
 
--- the indefinite form: 80, and the contents are ended by 00 00 (8.1.3.6)
+-- the indefinite form: 80, and the contents end with the end-of-contents octets 00 00 (8.1.3.6, 8.1.5)
 abbrev pub Indefinite : List ℕ → Tag → List ℕ → Type 0
 Indefinite octets tag contents = octets ≡ identifier tag ++ 128 ∷ (contents ++ 0 ∷ 0 ∷ [])
 
--- A primitive element has its contents in the definite form, a constructed one has the spellings of its elements in
--- either (8.1.3.2).
+-- A primitive element has its contents in the definite form, a constructed one the spellings of its elements in either form
+-- (8.1.3.2).
 abbrev mutual
   -- these octets, all of them, spell the tree
   pub Spells : List ℕ → Tree → Type 0
@@ -46,7 +46,7 @@ abbrev mutual
 abbrev pub definite : Tag → List ℕ → List ℕ
 definite tag contents = identifier tag ++ (length_octets (length contents) ++ contents)
 
--- the spelling that is sent: definite lengths in the fewest octets (profile; 10.1 asks it of the distinguished rules)
+-- the spelling that is sent: definite lengths in the fewest octets (profile; as 10.1 requires in the distinguished rules)
 abbrev mutual
   pub enc : Tree → List ℕ
   enc (Primitive tag contents) = definite tag contents

@@ -1,4 +1,4 @@
--- Whether two elements have one tag (X.690, 8.1.2).
+-- Whether two elements have the same tag (X.690, 8.1.2).
 use Rattle.std.specs.Prelude.{Bool, true, false, ◌&&◌, ◌==◌, not}
 use Rattle.x690.specs.declared.Class.{Class}
 use Rattle.x690.specs.declared.Class.TheVariants.{Universal, Application, ContextSpecific, Private}
@@ -15,6 +15,6 @@ abbrev pub same_bool : Bool → Bool → Bool
 same_bool true b = b
 same_bool false b = not b
 
--- A primitive and a constructed element of one class and number have two tags here.
+-- A primitive and a constructed element of the same class and number have different tags here.
 abbrev pub same_tag : Tag → Tag → Bool
 same_tag a b = same_class a.class b.class && same_bool a.constructed b.constructed && (a.number == b.number)

@@ -27,7 +27,7 @@ trees (tree ∷ rest) = More tree (trees rest)
 abbrev pub element : Tag → List Tree → Tree
 element tag children = Constructed tag (trees children)
 
--- how many levels: an element with no element in it has one
+-- the number of levels: an element with no element in it has one
 abbrev mutual
   pub levels : Tree → ℕ
   levels (Primitive tag contents) = 1

@@ -4,6 +4,8 @@
 //! the proofs of other crates may rest on it.
 #![tactic(auto)]
 
+pub mod examples;
+
 ghost use Rattle.x690.specs.Laws.{OneTree, EncSpells, EncIsOctets, FewestLengthOctets, FewestOctets, OneReading};
 
 /// The class of a tag (X.690, 8.1.2.2).
@@ -25,22 +27,22 @@ pub struct Tag {
     pub number: u32,
 }
 
-/// No spelling of a tree begins a spelling of another, so octets spell at most one tree.
+/// No spelling of a tree is a proper prefix of a spelling, and octets spell at most one tree (X.690, 8.1).
 pub fn one_tree()
     ensures { OneTree }
 {}
 
-/// The spelling that is sent is a spelling of its tree, where it has fewer than 2^32 octets.
+/// The spelling that is sent is a spelling of its tree, if it has fewer than 2^32 octets.
 pub fn enc_spells()
     ensures { EncSpells }
 {}
 
-/// The spelling that is sent is made of octets, where the contents of its tree are.
+/// The spelling that is sent consists of octets, if the contents of its tree do.
 pub fn enc_is_octets()
     ensures { EncIsOctets }
 {}
 
-/// No length octets are fewer than those that are sent for the same length.
+/// The length octets that are sent are the fewest for their length (X.690, 8.1.3).
 pub fn fewest_length_octets()
     ensures { FewestLengthOctets }
 {}
@@ -50,7 +52,7 @@ pub fn fewest_octets()
     ensures { FewestOctets }
 {}
 
-/// A reading under a tag gives an element's contents exactly where the element has that tag.
+/// A reading under a tag returns an element's contents exactly if the element has that tag.
 pub fn one_reading()
     ensures { OneReading }
 {}

@@ -1,5 +1,9 @@
+use Rattle.machine_laws.proofs.Answering.{begin_moves}
 use Rattle.machine_laws.proofs.Tabled.{continue_moves, close_moves, expiry_moves, opening_moves}
 use Rattle.machine_laws.proofs.steps_follow_the_tables.Goals as goal
+
+pub returns-clause-begins : goal.returns-clause-begins
+returns-clause-begins c = λ S from origin name components T a step. begin_moves S from origin name components T a step
 
 pub returns-clause-continues : goal.returns-clause-continues
 returns-clause-continues c = λ S from origin i portion components T a step. continue_moves S from origin i portion components T a step
