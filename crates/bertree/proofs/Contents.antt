@@ -1,4 +1,4 @@
--- What stands in front of contents, and what is left of them then.
+-- What contents begin with, and what is left of them then.
 use Rattle.std.proofs.Common.{◌≡◌, ℕ, inl, inr, Option, Some, None, Bool, true, false, List, [], ◌∷◌, ◌++◌, length, refl, sym, ◌∙◌, ap, append_assoc}
 use Rattle.x690.specs.Identifier.{IsTag, identifier}
 use Rattle.x690.specs.Tree.{Tree, Primitive, Constructed, element, trees, list_of}
@@ -18,7 +18,7 @@ Definite-not-unended c t u v x y p ht hu d e =
     let i = identifier-inj t u (d.0 ++ (p ++ x)) (128 ∷ y) ht.small hu.small (sym ev ∙ e) in
     IsLength-not-128 d.0 (p ++ x) y (length p) d.1 i.1
 
--- the element in front is the one that its head says
+-- the first element is the one that its head says
 pub definite-front : (v : Tree) (front back rest contents after : List ℕ) (tag : Tag) → Spells front v → rest ≡ front ++ back
     → IsTag true tag → IsElement rest tag contents after
     → (kids : List Tree) × (v ≡ element tag kids) × SpellsAll contents (trees kids) × (back ≡ after)
@@ -45,7 +45,7 @@ unended-front (Constructed tag' children) front back rest rest' tag (h, inside, 
     let l = trees-list_of children in
     (list_of children, inside, ap (λ u. Constructed u children) i.0 ∙ ap (Constructed tag) (sym l), rw l all, cc)
 
--- contents with an element in front
+-- contents that begin with an element
 pub Closes-first : (form : Option (List ℕ)) (octets front rest after : List ℕ) (u : Tree) (ts : List Tree) → Closes form octets ts after
     → Spells front u → octets ≡ front ++ rest → (vs : List Tree) × (ts ≡ u ∷ vs) × Closes form rest vs after
 Closes-first (Some known) octets front rest after u [] c s e = absurd (Spells-no_end u front rest [] s (sym e ∙ c.0) tt)
@@ -81,7 +81,7 @@ Closes-end None octets after after' (t ∷ ts) (contents, c, split) (contents', 
     sym (split' ∙ rw split'' (simp append_assoc)) ∙ split ∙ ap (λ z. z ++ (0 ∷ 0 ∷ after)) c in
     absurd (Spells-no_end t front (back ++ (0 ∷ 0 ∷ after')) (0 ∷ 0 ∷ after) st f refl)
 
--- contents that neither end here nor have an element in front
+-- contents that neither end here nor begin with an element
 pub Closes-stuck : (form : Option (List ℕ)) (octets after : List ℕ) (ts : List Tree) → ((rest : List ℕ) → Closes form octets [] rest → ⊥)
     → BeginsNoElement octets → Closes form octets ts after → ⊥
 Closes-stuck form octets after [] no_end no_head c = no_end after c
@@ -89,7 +89,7 @@ Closes-stuck (Some known) octets after (t ∷ ts) no_end no_head ((front, back, 
 Closes-stuck None octets after (t ∷ ts) no_end no_head (contents, (front, back, st, sts, split'), split) =
     no_head t front (back ++ (0 ∷ 0 ∷ after)) st (split ∙ rw split' (simp append_assoc))
 
--- contents in front of which an element has begun
+-- contents at whose front an element has begun
 pub Closes-opened : (form : Option (List ℕ)) (octets back after : List ℕ) (ts : List Tree) (c : Bool) (tag : Tag) → Closes form octets ts after
     → IsTag c tag → octets ≡ identifier tag ++ back
     → (v : Tree) × (vs : List Tree) × (front : List ℕ) × (rest : List ℕ) × (ts ≡ v ∷ vs) × Spells front v × (octets ≡ front ++ rest) × Closes form rest vs after

@@ -23,7 +23,7 @@ frame tag children after = record { tag = tag; children = children; after = afte
 abbrev pub frame_of : Open → Frame
 frame_of o = record { tag = o.tag; children = elements o.children.items; after = followed_by o.after }
 
--- the elements round the innermost one, from the inside out
+-- the elements around the innermost one, from the inside out
 abbrev pub frames_onto : List Frame → List Open → List Frame
 frames_onto fs [] = fs
 frames_onto fs (o ∷ os) = frames_onto (frame_of o ∷ fs) os
@@ -187,7 +187,7 @@ closed-smaller inner parent parent' outer outer' octets after popped c e =
     let w = ap (λ a. weight (followed_by a)) e in
     omega arith
 
--- the whole octets are one primitive element, or have more behind it
+-- all the octets are one primitive element, or more follows it
 pub primitive-whole : (tag : Tag) (contents : Bor (List ℕ)) (octets after : List ℕ) → IsTag false tag × IsElement octets tag contents.now after → after ≡ []
     → Spells octets (tree (node.Primitive tag contents)) × (levels (tree (node.Primitive tag contents)) ≡ 1)
 primitive-whole tag contents octets after h e =

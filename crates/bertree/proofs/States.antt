@@ -1,4 +1,4 @@
--- A reader between two elements: what is open, and what the octets that are left make of it.
+-- A reader between two elements: what is open, and how the octets that are left complete it.
 use Rattle.std.proofs.Common.{◌≡◌, ℕ, ◌+◌, max, Option, Some, None, true, List, [], ◌∷◌, ◌++◌, length, refl, sym, ◌∙◌, ap, append_assoc, arith, subst, inl, inr, append-nil}
 use Rattle.x690.specs.Identifier.{IsTag, identifier}
 use Rattle.x690.specs.Tree.{Tree, element, trees, levels, levels_of_all}
@@ -8,7 +8,7 @@ use Rattle.bertree.specs.Contents.{Closes}
 use Rattle.bertree.specs.Head.{IsElement, Opens, BeginsNoElement}
 use Rattle.bertree.proofs.Contents.{definite-front, unended-front, Closes-first, Closes-opened, Closes-more, Closes-end, Closes-stuck}
 
--- an element that is open: its tag, its children so far, and what follows it, where that is known
+-- an element that is open: its tag, its children so far, and what follows it, if that is known
 pub record Frame : Type 0 where
   pub tag : Tag
   pub children : List Tree
@@ -239,7 +239,7 @@ levels-grown f (g ∷ gs) u =
 pub levels-opened : (f : Frame) (gs : List Frame) (tag : Tag) (after : Option (List ℕ)) → levels (closed (opened tag after) (f ∷ gs)) ≡ max (levels (closed f gs)) (length gs + 2)
 levels-opened f gs tag after = omega (arith, levels-grown f gs (element tag []))
 
--- how many steps are left for the elements that are open
+-- the number of steps left for the open elements
 abbrev pub weight : Option (List ℕ) → ℕ
 weight None = 1
 weight (Some after) = 1 + length after

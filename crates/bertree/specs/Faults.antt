@@ -1,4 +1,4 @@
--- What a refusal says of the octets.
+-- What a fault says of the octets.
 use Rattle.std.specs.Prelude.{◌≡◌, ℕ, ◌<◌, ◌⊎◌, List, Result, Err}
 use Rattle.x690.specs.Tree.{Tree, levels}
 use Rattle.x690.specs.Spelling.{Spells}
@@ -14,6 +14,6 @@ SpellsNone octets = (t : Tree) → Spells octets t → ⊥
 abbrev pub SpellsTooDeep : List ℕ → Type 0
 SpellsTooDeep octets = (t : Tree) × Spells octets t × (MAX_LEVELS < levels t)
 
--- refused so, or for want of memory
+-- refused with this fault, or out of memory
 abbrev pub IsRefused : {A : Type 0} → Result A TreeFault → TreeFault → Type 0
 IsRefused result fault = (result ≡ Err fault) ⊎ (result ≡ Err Memory)

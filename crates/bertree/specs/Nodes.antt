@@ -1,4 +1,4 @@
--- A node as the tree that it is, wherever it lies in memory.
+-- A node as the tree that it is, wherever it is in memory.
 use Rattle.std.specs.Prelude.{List, map}
 use Rattle.x690.specs.Tree.{Tree, element}
 use Rattle.x690.specs.Tree as x690

@@ -1,4 +1,4 @@
-//! The elements of a SEQUENCE, read from the first on (X.690, 8.9): each function gives what was read and the elements
+//! The elements of a SEQUENCE, read from the first on (X.690, 8.9): each function returns what was read and the elements
 //! after it.
 ghost use Rattle.std.specs.Prelude.{◌≡◌, List, ℕ, Some, None, option_map, option_and_then};
 ghost use Rattle.std.specs.Option.{option_copied};
@@ -41,7 +41,7 @@ pub fn children<'a>(nodes: &'a [Node<'a>], tag: Tag) -> Option<(&'a [Node<'a>], 
     Some((node.children(tag)?, rest))
 }
 
-/// Optional: the contents of the first element, where it is primitive and has this tag.
+/// Optional: the contents of the first element, if it is primitive and has this tag.
 #[tactic(auto, using(crate::proofs::Trees::lists))]
 pub fn optional_octets<'a>(nodes: &'a [Node<'a>], tag: Tag) -> (Option<&'a [u8]>, &'a [Node<'a>])
     ensures { (option_copied result.0, elements result.1.now) ≡ optional (octets_of tag) (elements nodes.now) }
@@ -52,7 +52,7 @@ pub fn optional_octets<'a>(nodes: &'a [Node<'a>], tag: Tag) -> (Option<&'a [u8]>
     }
 }
 
-/// Optional: the first element, where it has this tag.
+/// Optional: the first element, if it has this tag.
 #[tactic(auto, using(crate::proofs::Trees::lists))]
 pub fn optional_node<'a>(nodes: &'a [Node<'a>], tag: Tag) -> (Option<&'a Node<'a>>, &'a [Node<'a>])
     ensures { (option_map (λ node. tree node.now) result.0, elements result.1.now)
@@ -64,7 +64,7 @@ pub fn optional_node<'a>(nodes: &'a [Node<'a>], tag: Tag) -> (Option<&'a Node<'a
     }
 }
 
-/// Optional: the children of the first element, where it is constructed and has this tag.
+/// Optional: the children of the first element, if it is constructed and has this tag.
 #[tactic(auto, using(crate::proofs::Trees::lists))]
 pub fn optional_children<'a>(
     nodes: &'a [Node<'a>],
@@ -81,7 +81,7 @@ pub fn optional_children<'a>(
     (None, nodes)
 }
 
-/// The one element, or that there is none; nothing where there are more.
+/// The one element, or that there is none; nothing if there are more.
 #[tactic(auto, using(crate::proofs::Trees::lists))]
 pub fn at_most_one<'a>(nodes: &'a [Node<'a>]) -> Option<Option<&'a Node<'a>>>
     ensures { option_map (option_map (λ node. tree node.now)) result ≡ at_most_one (elements nodes.now) }

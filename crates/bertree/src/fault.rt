@@ -6,16 +6,16 @@ use thiserror::Error;
 /// Why octets are not read as a tree.
 #[derive(Clone, Copy, Debug, PartialEq, Eq, Drop, Error)]
 pub enum TreeFault {
-    /// There are more octets than are read (profile).
+    /// There are too many octets (profile).
     #[error("more than 4096 octets")]
     TooLong,
     /// The octets spell no tree.
     #[error("no tree of the basic encoding rules")]
     NotBer,
-    /// The octets spell a tree of more levels than are read (profile).
+    /// The octets spell a tree of too many levels (profile).
     #[error("more than 32 levels")]
     TooDeep,
-    /// The arena could not grow.
+    /// An allocation failed.
     #[error("out of memory")]
     Memory,
 }

@@ -1,4 +1,4 @@
-//! What stands in front of an element's contents: its identifier and length octets.
+//! What precedes an element's contents: its identifier octets (X.690, 8.1.2) and length octets (8.1.3).
 ghost use Rattle.std.specs.Prelude.{◌≡◌, ℕ, ◌+◌, ◌*◌, ◌/◌, ◌^◌, ◌<◌, ◌≤◌, ◌++◌, List, [], ◌∷◌, length, Bool, IfSome, IfNone};
 ghost use Rattle.x690.specs.Identifier.{IsTag, class_bits, constructed_bit, number_octets, identifier};
 ghost use Rattle.bertree.specs.Head.{IsLengthThen, HasNoLength, IsHead, BeginsNoElement};
@@ -6,7 +6,7 @@ ghost use Rattle.x690.specs.declared.Tag.{Tag};
 
 use x690::{Class, Tag};
 
-/// Smaller numbers stand in the leading octet itself (X.690, 8.1.2.4).
+/// Smaller numbers are in the leading octet itself (X.690, 8.1.2.4).
 const LEAST_LONG_NUMBER: u32 = 31;
 
 /// The length of an element's contents, or that `00 00` ends them.
@@ -16,15 +16,15 @@ enum Length {
     Open,
 }
 
-/// What stands in front: a primitive element, its contents and what follows it; or the beginning of a constructed one, its
-/// contents, and what follows it. Without a length (the indefinite form) its contents go on to the end of the octets.
+/// What octets begin with: a primitive element, its contents and what follows it; or the beginning of a constructed one, its
+/// contents, and what follows it. In the indefinite form (X.690, 8.1.3.6) the contents go on to the end of the octets.
 #[derive(Clone, Copy)]
 pub(crate) enum Head<'a> {
     Primitive(Tag, &'a [u8], &'a [u8]),
     Constructed(Tag, &'a [u8], Option<&'a [u8]>),
 }
 
-/// The class that bits 8 and 7 say (X.690, 8.1.2.2).
+/// The class in bits 8 and 7 (X.690, 8.1.2.2).
 fn class_of(octet: u8) -> Class
     ensures { class_bits result ≡ octet / 64 }
 {
@@ -45,7 +45,7 @@ pub(crate) fn next(octets: &[u8]) -> Option<(u8, &[u8])>
     Some((*first, rest))
 }
 
-/// The tag number behind a leading octet: seven bits an octet, bit 8 set on all but the last, the first of them not 80
+/// The tag number after a leading octet: seven bits an octet, bit 8 set in all but the last, the first of them not 80
 /// (X.690, 8.1.2.4.2), and at most four octets (profile).
 #[tactic(auto, using(std::proofs::lemmas::Bool::Decides::nat_tests), unfolding(x690::specs::Identifier::number_octets))]
 fn read_number(octets: &[u8]) -> Option<(u32, &[u8])>
@@ -78,7 +78,7 @@ fn read_number(octets: &[u8]) -> Option<(u32, &[u8])>
     None
 }
 
-/// What a leading octet says: class, whether constructed, and the five low bits (X.690, 8.1.2).
+/// The parts of a leading octet: class, whether constructed, and the five low bits (X.690, 8.1.2).
 fn leading_of(octet: u8) -> (Class, bool, u8)
     ensures low { result.2 < 32 }
     ensures sum { octet ≡ 64 * class_bits result.0 + 32 * constructed_bit result.1 + result.2 }
@@ -86,7 +86,7 @@ fn leading_of(octet: u8) -> (Class, bool, u8)
     (class_of(octet), octet & 0x20 != 0, octet & 0x1f)
 }
 
-/// The tag in front, and what follows its identifier. The octet 00 begins no element: it only ends contents (X.690, 8.1.5).
+/// The tag, and what follows its identifier. The octet 00 begins no element: it only ends contents (X.690, 8.1.5).
 fn read_identifier(octets: &[u8]) -> Option<(Tag, &[u8])>
     ensures found { IfSome result
         (λ r. IsTag r.0.constructed r.0 × (octets.now ≡ identifier r.0 ++ r.1.now)) }
@@ -123,7 +123,7 @@ fn read_identifier(octets: &[u8]) -> Option<(Tag, &[u8])>
     ))
 }
 
-/// The length in front (X.690, 8.1.3), of at most four octets behind the first (profile).
+/// The length (X.690, 8.1.3), of at most four octets after the first (profile), and what follows it.
 fn read_length(octets: &[u8]) -> Option<(Length, &[u8])>
     ensures found { IfSome result (λ r. IsLengthThen r.0 octets.now r.1.now) }
     ensures none { IfNone result (HasNoLength octets.now) }
@@ -157,7 +157,7 @@ fn read_length(octets: &[u8]) -> Option<(Length, &[u8])>
     Some((Length::Known(length * 256 + usize::from(d)), rest))
 }
 
-/// The element, or the head of one, that the octets begin with.
+/// The element, or the head of a constructed one, that the octets begin with.
 pub(crate) fn read_head(octets: &[u8]) -> Option<Head<'_>>
     ensures found { IfSome result (λ head. IsHead head octets.now) }
     ensures none { IfNone result (BeginsNoElement octets.now) }

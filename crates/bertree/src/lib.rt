@@ -1,7 +1,7 @@
 //! The tree that octets spell (ITU-T X.690, 8.1), read into an arena.
 //!
-//! [`read_tree`] makes the nodes, whose octets are parts of those that were given. Readers of messages call the accessors
-//! of [`Node`] and the functions of [`elements`], and never look at a node's variants.
+//! [`read_tree`] makes the nodes, whose octets are slices of the input. Readers of messages call the accessors of [`Node`] and
+//! the functions of [`elements`], and never look at a node's variants.
 #![tactic(auto)]
 
 pub mod elements;
@@ -9,8 +9,6 @@ mod fault;
 mod head;
 mod node;
 mod read;
-#[cfg(test)]
-mod tests;
 
 pub use fault::TreeFault;
 pub use node::Node;

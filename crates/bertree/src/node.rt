@@ -6,8 +6,8 @@ ghost use Rattle.bertree.specs.Nodes.{tree, elements};
 
 use x690::Tag;
 
-/// An element of a tree that octets spell: its tag with its contents, which are a part of the octets that were read, or
-/// with its children, which lie in the arena. Nothing in it needs to be dropped.
+/// An element of a tree that octets spell: its tag with its contents, which are a slice of the octets that were read, or
+/// with its children, which are in the arena. Nothing in it needs to be dropped.
 #[derive(Clone, Copy)]
 pub enum Node<'a> {
     Primitive(Tag, &'a [u8]),
@@ -25,7 +25,7 @@ impl<'a> Node<'a> {
         }
     }
 
-    /// The contents, where the element is primitive and has this tag.
+    /// The contents, if the element is primitive and has this tag.
     pub fn octets(&self, tag: Tag) -> Option<&'a [u8]>
         ensures { option_copied result ≡ octets_of tag (tree self.now) }
     {
@@ -35,7 +35,7 @@ impl<'a> Node<'a> {
         }
     }
 
-    /// The one octet of the contents, where the element is primitive and has this tag and no other octet.
+    /// The one octet of the contents, if the element is primitive and has this tag and no other octet.
     pub fn octet(&self, tag: Tag) -> Option<u8>
         ensures { result ≡ octet_of tag (tree self.now) }
     {
@@ -45,7 +45,7 @@ impl<'a> Node<'a> {
         }
     }
 
-    /// The children, where the element is constructed and has this tag.
+    /// The children, if the element is constructed and has this tag.
     pub fn children(&self, tag: Tag) -> Option<&'a [Node<'a>]>
         ensures { option_map (λ nodes. elements nodes.now) result ≡ children_of tag (tree self.now) }
     {
@@ -55,7 +55,7 @@ impl<'a> Node<'a> {
         }
     }
 
-    /// The one child, where the element is constructed and has this tag and no other child.
+    /// The one child, if the element is constructed and has this tag and no other child.
     #[tactic(auto, using(crate::proofs::Trees::lists))]
     pub fn only_child(&self, tag: Tag) -> Option<&'a Node<'a>>
         ensures { option_map (λ node. tree node.now) result ≡ only_child tag (tree self.now) }

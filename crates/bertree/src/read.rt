@@ -14,13 +14,13 @@ use bumpalo::Bump;
 use bumpalo::collections::into_bump_slice;
 use x690::Tag;
 
-/// More octets than these are not read (profile).
+/// The most octets that are read (profile).
 pub const MAX_OCTETS: usize = 4096;
 
-/// A tree of more levels than these is refused (profile).
+/// The most levels of a tree that is read (profile).
 pub const MAX_LEVELS: usize = 32;
 
-/// A constructed element that has begun: its children so far and, where its length is known, what follows it.
+/// A constructed element that has begun: its children so far and, if its length is definite, what follows it.
 #[derive(Drop)]
 struct Open<'a> {
     tag: Tag,
@@ -62,7 +62,7 @@ fn end<'a>(after: Option<&'a [u8]>, octets: &'a [u8]) -> Option<&'a [u8]>
     }
 }
 
-/// The node, where no octet follows it.
+/// The node, if no octet follows it.
 fn alone<'a>(node: Node<'a>, after: &[u8]) -> Result<Node<'a>, TreeFault>
     ensures ok { IfOk result (λ same. (same ≡ node.entry) × (after.now ≡ [])) }
     ensures not_ber { IfErr result (λ fault. (fault ≡ TreeFault.NotBer) × (after.now ≡ [] → ⊥)) }
@@ -74,8 +74,8 @@ fn alone<'a>(node: Node<'a>, after: &[u8]) -> Result<Node<'a>, TreeFault>
     }
 }
 
-/// The tree that the octets spell, and its levels. The elements that have begun stand in `outer`, from the outermost on,
-/// and in `inner`; `rest` is what is left of the contents of `inner`.
+/// The tree that the octets spell, and its levels. The elements that have begun are in `outer`, outermost first, and in
+/// `inner`; `rest` is what is left of the contents of `inner`.
 fn read_levels<'a>(bump: &'a Bump, octets: &'a [u8]) -> Result<(Node<'a>, usize), TreeFault>
     ensures ok { IfOk result (λ found. Spells octets.now (tree found.0) × (levels (tree found.0) ≡ found.1)) }
     ensures not_ber { result ≡ Err TreeFault.NotBer → SpellsNone octets.now }
@@ -121,10 +121,10 @@ fn read_levels<'a>(bump: &'a Bump, octets: &'a [u8]) -> Result<(Node<'a>, usize)
     }
 }
 
-/// The tree that the octets spell, in the arena.
+/// The tree that the octets spell (X.690, 8.1), in the arena.
 ///
-/// `TooLong` takes no memory, and where there is no tree this is found at any depth, so `NotBer` comes before `TooDeep`.
-/// Of the arena after a refusal nothing is said.
+/// Faults are found in this order: `TooLong`, before anything is allocated; `NotBer`, at any depth; `TooDeep`. After a
+/// fault the arena's contents are unspecified.
 pub fn read_tree<'a>(bump: &'a Bump, octets: &'a [u8]) -> Result<Node<'a>, TreeFault>
     ensures ok { IfOk result (λ node. Spells octets.now (tree node)
         × (length octets.now ≤ MAX_OCTETS) × (levels (tree node) ≤ MAX_LEVELS)) }
@@ -132,7 +132,7 @@ pub fn read_tree<'a>(bump: &'a Bump, octets: &'a [u8]) -> Result<Node<'a>, TreeF
     ensures not_ber { result ≡ Err TreeFault.NotBer → SpellsNone octets.now }
     ensures too_deep { result ≡ Err TreeFault.TooDeep → SpellsTooDeep octets.now }
 
-    // And the other way round: what each string of at most so many octets is answered.
+    // And conversely: the result for each string of at most `MAX_OCTETS` octets.
     ensures tree { length octets.now ≤ MAX_OCTETS → (t : Tree) → Spells octets.now t → levels t ≤ MAX_LEVELS
         → MatchResult result (λ node. tree node ≡ t) (λ fault. fault ≡ TreeFault.Memory) }
     ensures no_tree { length octets.now ≤ MAX_OCTETS → SpellsNone octets.now → IsRefused result TreeFault.NotBer }

@@ -52,7 +52,7 @@ contents-constructed t tag children is = ap contents_of (ap own is ∙ own-Const
 pub all-written : (xs : List OwnTree) (i : ℕ) (out start : List ℕ) → length xs ≤ i → out ++ enc_each (drop i xs) ≡ start ++ enc_each xs → out ≡ start ++ enc_each xs
 all-written xs i out start h e = sym (append-nil out) ∙ ap (λ ys. out ++ enc_each ys) (sym (drop_all i xs h)) ∙ e
 
--- ---- how many octets
+-- ---- the number of octets
 
 pub length-enc : (t : Tree) → length (enc t) ≡ length (identifier (tag_of t)) + length (length_octets (length (contents_of t))) + length (contents_of t)
 length-enc t =

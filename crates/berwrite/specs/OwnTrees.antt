@@ -14,6 +14,6 @@ own_step (Constructed tag children) = element tag children.items
 unfoldable pub own : OwnTree → Tree
 own = fold-OwnTree Tree own_step
 
--- the trees of several
+-- the trees of several elements
 abbrev pub owns : List OwnTree → List Tree
 owns trees = map own trees

@@ -5,7 +5,7 @@ ghost use Rattle.x690.specs.Identifier.{class_bits, constructed_bit, leading, nu
 use std::alloc::AllocError;
 use x690::{Class, Tag};
 
-/// The class in bits 8 and 7.
+/// The class in bits 8 and 7 (8.1.2.2).
 fn class_of(class: Class) -> u8
     ensures { result ≡ 64 * class_bits class }
 {
@@ -25,7 +25,7 @@ fn leading_octet(tag: Tag, low: u8) -> u8
     class_of(tag.class) + (if tag.constructed { 0x20 } else { 0x00 }) + low
 }
 
-/// Adds a tag number, seven bits an octet.
+/// Appends a tag number, seven bits an octet (8.1.2.4.2).
 #[tactic(auto, using(std::proofs::lemmas::Bool::Decides::nat_tests), unfolding(x690::specs::Identifier::number_octets))]
 fn put_number(out: &mut Vec<u8>, number: u32) -> Result<(), AllocError>
     ensures { OnOk result (out.new.items ≡ out.old.items ++ number_octets number) }
@@ -46,7 +46,7 @@ fn put_number(out: &mut Vec<u8>, number: u32) -> Result<(), AllocError>
     Ok(())
 }
 
-/// Adds the identifier octets of a tag.
+/// Appends the identifier octets of a tag.
 #[tactic(auto, using(std::proofs::lemmas::Bool::Decides::nat_tests), unfolding(x690::specs::Identifier::identifier))]
 pub(crate) fn put_identifier(out: &mut Vec<u8>, tag: Tag) -> Result<(), AllocError>
     ensures { OnOk result (out.new.items ≡ out.old.items ++ identifier tag) }
@@ -59,7 +59,7 @@ pub(crate) fn put_identifier(out: &mut Vec<u8>, tag: Tag) -> Result<(), AllocErr
     put_number(out, tag.number)
 }
 
-/// How many identifier octets a tag has.
+/// The number of identifier octets of a tag.
 #[tactic(auto, using(std::proofs::lemmas::Bool::Decides::nat_tests), unfolding(x690::specs::Identifier::identifier, x690::specs::Identifier::number_octets))]
 pub(crate) fn identifier_len(tag: Tag) -> u32
     ensures value { result ≡ length (identifier tag) }

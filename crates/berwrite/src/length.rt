@@ -4,7 +4,7 @@ ghost use Rattle.x690.specs.Length.{length_octets};
 
 use std::alloc::AllocError;
 
-/// Adds a length.
+/// Appends a length.
 #[tactic(auto, using(std::proofs::lemmas::Bool::Decides::nat_tests), unfolding(x690::specs::Length::length_octets))]
 pub(crate) fn put_length(out: &mut Vec<u8>, length: usize) -> Result<(), AllocError>
     ensures { OnOk result (out.new.items ≡ out.old.items ++ length_octets length) }
@@ -35,7 +35,7 @@ pub(crate) fn put_length(out: &mut Vec<u8>, length: usize) -> Result<(), AllocEr
     Ok(())
 }
 
-/// Puts these octets in the place of one.
+/// Replaces the octet at a place by these.
 fn widen(out: &mut Vec<u8>, place: usize, octets: &[u8]) -> Result<(), AllocError>
     requires { place < list_length out.old.items }
     ensures { OnOk result (out.new.items
@@ -47,7 +47,7 @@ fn widen(out: &mut Vec<u8>, place: usize, octets: &[u8]) -> Result<(), AllocErro
     Ok(())
 }
 
-/// Puts the length of all that follows a place into it.
+/// Replaces the octet at a place by the length of all that follows it.
 #[tactic(auto, using(std::proofs::lemmas::Bool::Decides::nat_tests), unfolding(x690::specs::Length::length_octets))]
 pub(crate) fn set_length(out: &mut Vec<u8>, place: usize) -> Result<(), AllocError>
     requires { place < list_length out.old.items }
@@ -68,7 +68,7 @@ pub(crate) fn set_length(out: &mut Vec<u8>, place: usize) -> Result<(), AllocErr
     }
 }
 
-/// How many length octets a length has.
+/// The number of length octets of a length.
 #[tactic(auto, using(std::proofs::lemmas::Bool::Decides::nat_tests), unfolding(x690::specs::Length::length_octets))]
 pub(crate) fn length_len(length: u32) -> u32
     ensures value { result ≡ list_length (length_octets length) }

@@ -1,9 +1,9 @@
-//! Want of memory.
+//! Out of memory.
 
 use std::alloc::{AllocError, AllocFailed};
 use thiserror::Error;
 
-/// There was no memory. A call that answers so has left what it was given as it was.
+/// An allocation failed. On error nothing that the call borrows has changed.
 #[derive(Clone, Copy, Debug, PartialEq, Eq, Drop, Error)]
 #[error("out of memory")]
 pub struct Memory;

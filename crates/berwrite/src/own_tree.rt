@@ -13,7 +13,7 @@ use x690::Tag;
 
 /// An element that is to be sent: its tag with its contents, or with its children.
 ///
-/// Limitation: writing, copying and dropping recurse over the levels, which are as many as its maker builds.
+/// Limitation: writing, copying and dropping recurse over the levels, whose number is not limited.
 #[derive(Debug, Drop)]
 pub enum OwnTree {
     Primitive(Tag, Vec<u8>),
@@ -70,7 +70,7 @@ impl OwnTree {
         }
     }
 
-    /// How many octets it takes, where these are fewer than 2^32.
+    /// The number of octets of its encoding, if below 2^32.
     pub fn octets_len(&self) -> Option<u32>
         ensures found { IfSome result (λ n. n ≡ length (enc (own self.now))) }
         ensures none { IfNone result (2 ^ 32 ≤ length (enc (own self.now))) }

@@ -11,7 +11,7 @@ use crate::memory::Memory;
 use crate::own_tree::OwnTree;
 use std::alloc::{AllocError, Global};
 
-/// Adds the octets of a tree. The place of a length is kept by one octet until the contents stand behind it.
+/// Appends the octets of a tree. One octet holds the place of a length until the contents after it are written.
 fn put(tree: &OwnTree, out: &mut Vec<u8>) -> Result<(), AllocError>
     ensures { OnOk result (out.new.items ≡ out.old.items ++ enc (own tree.now)) }
 {
@@ -33,7 +33,7 @@ fn put(tree: &OwnTree, out: &mut Vec<u8>) -> Result<(), AllocError>
     }
 }
 
-/// Room for the octets of a tree, where these are fewer than 2^32.
+/// A list with room for the octets of a tree, if these are fewer than 2^32.
 fn room_for(alloc: Global, tree: &OwnTree) -> Result<Vec<u8>, AllocError>
     ensures { IfOk result (λ octets. octets.items ≡ []) }
 {
@@ -45,8 +45,8 @@ fn room_for(alloc: Global, tree: &OwnTree) -> Result<Vec<u8>, AllocError>
 
 /// The octets that are sent for a tree, in one allocation of their size.
 ///
-/// No condition is asked. Of 2^32 octets or more the lengths do not fit four octets: such octets are no spelling that is
-/// read, and are not made in one allocation.
+/// There is no precondition. With 2^32 octets or more a length may not fit in four octets; then they are no spelling that is
+/// read. Such octets are not made in one allocation.
 pub fn write_tree(alloc: Global, tree: &OwnTree) -> Result<Vec<u8>, Memory>
     ensures octets { IfOk result (λ octets. octets.items ≡ enc (own tree.now)) }
     ensures spelling { IfOk result (λ octets. length octets.items < 2 ^ 32 → HasTags (own tree.now)

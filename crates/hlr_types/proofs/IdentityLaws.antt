@@ -1,4 +1,4 @@
--- An identity is read exactly where the octets are its form.
+-- An identity is read exactly if the octets are its form.
 use Rattle.std.proofs.Common.{◌≡◌, ℕ, ◌≤◌, Bool, true, false, ◌&&◌, leb, cond, List, [], ◌∷◌, length, refl, ap, sym, ◌∙◌, subst, arith, lit≤}
 use Rattle.std.specs.Prelude.{Result, Ok, Err, Option, Some, None, option_and_then}
 use Rattle.std.specs.Result.{result_ok}
@@ -11,7 +11,7 @@ use Rattle.hlr_types.specs.Identities.{imsi_from, imsi_of, address_of, address_o
 use Rattle.hlr_types.proofs.TbcdLaws.{digits_found, digits_again, length_tbcd_least, same_text}
 use Rattle.hlr_types.proofs.TbcdLemmas.{length_tbcd}
 
--- A test of a length between two bounds that answers.
+-- A test of a length between two bounds that succeeds.
 between : {A : Type 0} (m n k : ℕ) (x y : A) (low high : Bool) → leb m n ≡ low → leb n k ≡ high → cond (low && high) (Some x) None ≡ Some y → (m ≤ n) × (n ≤ k) × (x ≡ y)
 between m n k x y true true l h e = (leb-true _ _ l, leb-true _ _ h, cc)
 between m n k x y true false l h e = absurd cc
@@ -47,7 +47,7 @@ remote_id_is id least most = record { same = refl; least = least; most = most }
 
 pub ruleset remote_id_laws = (remote_id_found, remote_id_again, remote_id_is)
 
--- The digits behind a value that was read.
+-- The digits from which a value was read.
 ok_then : {E : Type 0} (r : Result (List ℕ) E) (f : List ℕ → Option (List ℕ)) (y : List ℕ) → option_and_then f (result_ok r) ≡ Some y → (x : List ℕ) × (r ≡ Ok x) × (f x ≡ Some y)
 ok_then (Ok x) f y e = (x, refl, e)
 ok_then (Err d) f y e = absurd cc

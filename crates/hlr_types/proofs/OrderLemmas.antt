@@ -1,4 +1,4 @@
--- The order of octet strings is total, and tells them apart.
+-- The order of octet strings is total, and distinguishes them.
 use Rattle.std.proofs.Common.{◌≡◌, ℕ, List, [], ◌∷◌, true, false, ◌&&◌, ◌⊎◌, inl, inr, refl, sym, ap, ◌∙◌, eqb}
 use lib.Pointwise.{pointwise}
 use Rattle.std.specs.declared.cmp.Ordering.{Ordering}

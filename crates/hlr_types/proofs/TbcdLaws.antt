@@ -1,4 +1,4 @@
--- Octets and digits are one text's two forms.
+-- Octets and digits are two forms of one text.
 use Rattle.std.proofs.Common.{◌≡◌, ℕ, ◌+◌, ◌*◌, ◌%◌, ◌/◌, ◌<◌, ◌≤◌, Bool, true, false, ◌&&◌, ltb, leb, eqb, cond, List, [], ◌∷◌, length, refl, ap, sym, ◌∙◌, subst, arith}
 use Rattle.std.specs.Prelude.{Ok, Err}
 use Rattle.std.specs.List.{AllByRecursion}
@@ -66,7 +66,7 @@ length_tbcd_least [] = omega arith
 length_tbcd_least (d ∷ []) = omega arith
 length_tbcd_least (d ∷ e ∷ ds) = omega (arith, length_tbcd_least ds)
 
--- Where the reading answers, the counts are right and the digits are spelled so.
+-- If the reading succeeds, the counts are right and the octets spell the digits.
 found-in : (octets d : List ℕ) (low high good : Bool) → leb 1 (length octets) ≡ low → leb (length octets) 8 ≡ high → are_digits (unfilled octets) ≡ good →
     cond (low && high) (cond good (Ok (unfilled octets)) (Err BadDigit)) (Err BadCount) ≡ Ok d → IsTbcd octets d
 found-in octets d true true true l h g e =

@@ -9,7 +9,7 @@ use Rattle.hlr_types.specs.Tbcd.{digits_of, tbcd, IsTbcd}
 
 -- ---- readings: total functions, with each fault
 
--- The digits, if an IMSI may have so many: 5 to 15.
+-- The digits, if there are 5 to 15, as an IMSI has.
 abbrev pub imsi_from : List ℕ → Result (List ℕ) TbcdFault
 imsi_from digits = if nat_le 5 (length digits) && nat_le (length digits) 15 then Ok digits else Err BadCount
 
@@ -17,8 +17,8 @@ imsi_from digits = if nat_le 5 (length digits) && nat_le (length digits) 15 then
 abbrev pub imsi_of : List ℕ → Option (List ℕ)
 imsi_of octets = option_and_then (λ digits. result_ok (imsi_from digits)) (result_ok (digits_of octets))
 
--- The digits of an address (ISDN-AddressString). Its first octet has bit 8 set (no extension), and tells the nature of
--- the address and its numbering plan; these are not kept (profile).
+-- The digits of an address (ISDN-AddressString). Its first octet has bit 8 set (no extension) and holds the nature of the
+-- address and its numbering plan; these are not kept (profile).
 abbrev pub address_of : List ℕ → Option (List ℕ)
 address_of [] = None
 address_of (nature ∷ octets) = if nat_le 128 nature then result_ok (digits_of octets) else None
@@ -27,14 +27,14 @@ address_of (nature ∷ octets) = if nat_le 128 nature then result_ok (digits_of 
 abbrev pub lmsi_of : List ℕ → Option (List ℕ)
 lmsi_of octets = if nat_le 4 (length octets) && nat_le (length octets) 4 then Some octets else None
 
--- The transaction id that the other end gave: 1 to 4 octets.
+-- The peer's transaction id: 1 to 4 octets.
 abbrev pub remote_id_of : List ℕ → Option (List ℕ)
 remote_id_of octets = if nat_le 1 (length octets) && nat_le (length octets) 4 then Some octets else None
 
 -- ---- what is sent
 
 -- The octets of an address that is sent: 91, which is an international number of the numbering plan E.164, and its
--- digits.
+-- digits in TBCD.
 abbrev pub address_octets : List ℕ → List ℕ
 address_octets digits = INTERNATIONAL_E164 ∷ tbcd digits
 
@@ -58,7 +58,7 @@ pub record IsLmsi (octets lmsi : List ℕ) : Type 0 where
   pub same : octets ≡ lmsi
   pub count : length lmsi ≡ 4
 
--- The octets are this transaction id of the other end.
+-- The octets are this transaction id of the peer.
 pub record IsRemoteId (octets id : List ℕ) : Type 0 where
   pub same : octets ≡ id
   pub least : 1 ≤ length id
@@ -66,7 +66,7 @@ pub record IsRemoteId (octets id : List ℕ) : Type 0 where
 
 -- ---- laws
 
--- Each text of 5 to 15 digits is the IMSI of exactly one octet string, of 3 to 8 octets, which is that of no other.
+-- Each text of 5 to 15 digits is the IMSI of exactly one octet string, of 3 to 8 octets, which is the IMSI of no other text.
 pub record AreImsiForms : Type 0 where
   pub has_form : (digits : List ℕ) → AreSomeDigits digits → AreImsiDigits digits → IsImsi (tbcd digits) digits
   pub few_octets : (octets digits : List ℕ) → IsImsi octets digits → (3 ≤ length octets) × (length octets ≤ 8)

@@ -7,7 +7,7 @@ use Rattle.std.specs.List.{AllByRecursion}
 abbrev pub id_of : ℕ → ℕ → List ℕ
 id_of shard number = shard ∷ number / 65536 ∷ number / 256 % 256 ∷ number % 256 ∷ []
 
--- The number that the last three octets of an id are.
+-- The number in the last three octets of an id.
 abbrev pub number_of : List ℕ → ℕ
 number_of id = slice_index id 1 * 65536 + slice_index id 2 * 256 + slice_index id 3
 
@@ -27,7 +27,7 @@ pub record IsIdOf (shard : ℕ) (id : List ℕ) : Type 0 where
   pub shard_first : slice_index id 0 ≡ shard
   pub not_zero : (slice_index id 1 ≡ 0 × slice_index id 2 ≡ 0 × slice_index id 3 ≡ 0) → ⊥
 
--- Four octets are told by the first and by the number of the others.
+-- The first octet and the number in the other three determine an id.
 pub record AreIdNumbers : Type 0 where
   pub number : (shard number : ℕ) → number < 2 ^ 24 → number_of (id_of shard number) ≡ number
   pub whole : (id : List ℕ) → length id ≡ 4 → AllByRecursion (λ octet. octet < 256) id → id_of (slice_index id 0) (number_of id) ≡ id

@@ -1,5 +1,5 @@
 -- Telephony binary coded decimal (TS 29.002 17.7.8, TBCD-STRING): two digits to an octet, the first of them in bits 4 to
--- 1, the second in bits 8 to 5; 1111 fills up an odd count.
+-- 1, the second in bits 8 to 5; 1111 fills an odd count.
 use Rattle.std.specs.Prelude.{◌≡◌, ℕ, ◌+◌, ◌*◌, ◌%◌, ◌/◌, Bool, ◌==◌, ◌&&◌, nat_lt, nat_le, if◌then◌else◌, List, [], ◌∷◌, length, Result, Ok, Err}
 use Rattle.std.specs.List.{list_all, flat_map}
 use Rattle.hlr_types.specs.declared.tbcd.TbcdFault.{TbcdFault}
@@ -39,7 +39,7 @@ unfilled (octet ∷ next ∷ more) = octet % 16 ∷ octet / 16 ∷ unfilled (nex
 abbrev pub are_digits : List ℕ → Bool
 are_digits numbers = list_all (λ n. nat_lt n 10) numbers
 
--- The digits of 1 to 8 octets: the count is looked at before the digits.
+-- The digits of 1 to 8 octets: the count is checked before the digits.
 abbrev pub digits_of : List ℕ → Result (List ℕ) TbcdFault
 digits_of octets =
     if nat_le 1 (length octets) && nat_le (length octets) 8
@@ -48,7 +48,7 @@ digits_of octets =
 
 -- ---- laws
 
--- Digits and octets are one text's two forms: each digit text has exactly one TBCD form, and each TBCD form is that of
+-- Digits and octets are two forms of one text: each digit text has exactly one TBCD form, and each TBCD form is that of
 -- one digit text.
 pub record AreTwoForms : Type 0 where
   pub has_form : (digits : List ℕ) → AreSomeDigits digits → IsTbcd (tbcd digits) digits

@@ -1,4 +1,4 @@
-//! Addresses of the telephone network: those of registers and of subscribers.
+//! Addresses of the telephone network (ITU-T E.164): those of registers and of subscribers.
 
 ghost use Rattle.std.specs.Prelude.{◌≡◌, ◌≤◌, length, List, ℕ, IfSome, Some};
 ghost use Rattle.std.specs.Fmt.{padded};
@@ -17,7 +17,7 @@ use std::marker::Model;
 pub const INTERNATIONAL_E164: u8 = 0x91;
 
 /// An address of the telephone network (TS 29.002 17.7.8, ISDN-AddressString): 1 to 16 digits. Two addresses are the
-/// same where their digits are; they are ordered as texts.
+/// same if their digits are; they are ordered as texts.
 ///
 /// Limitation: the nature of the address and its numbering plan are not kept. What is sent is an international number
 /// of E.164.

@@ -11,8 +11,8 @@ use crate::short_list::ShortList;
 use std::fmt;
 use std::marker::Model;
 
-/// 1 to 16 digits from 0 to 9, which are seen by contracts as their list. Digits are a text: leading zeros count, and
-/// the order is that of texts, so that `12` comes before `2` and before `120`.
+/// 1 to 16 digits from 0 to 9, which contracts see as a list. Digits are a text: leading zeros count, and the order is that
+/// of texts, so `12` comes before `2` and before `120`.
 #[derive(Clone, Copy, Debug, PartialEq, Eq, PartialOrd, Ord)]
 pub struct Digits {
     pub(crate) digits: ShortList<16>,

@@ -1,4 +1,4 @@
-//! Transaction ids (Q.773): those of this end, and those of the other.
+//! Transaction ids (Q.773): the register's own and the peer's.
 
 ghost use Rattle.std.specs.Prelude.{◌≡◌, ◌≤◌, ◌<◌, ◌^◌, length, slice_index, List, ℕ, IfSome, Some};
 ghost use Rattle.hlr_types.specs.Identities.{remote_id_of, IsRemoteId};
@@ -55,7 +55,7 @@ impl Tid {
         self.0[0]
     }
 
-    /// The number that the last three octets are.
+    /// The number in the last three octets.
     pub fn number(&self) -> u32
         ensures value { result ≡ number_of self.now }
         ensures small { result < 2 ^ 24 }
@@ -73,14 +73,13 @@ impl Tid {
     }
 }
 
-/// Law: four octets are told by the shard and the number, each number below 2^24 being that of one id of a shard.
+/// Law: the shard and the number determine an id, and each number below 2^24 is that of one id of a shard.
 #[tactic(auto, using(crate::proofs::IdLemmas::id_numbers))]
 pub fn law_id_numbers()
     ensures { AreIdNumbers }
 {}
 
-/// The transaction id that the other end gave: 1 to 4 octets. Ids are the same where their octets are, in the same
-/// number.
+/// The peer's transaction id: 1 to 4 octets. Ids are compared as octets: `00 00 01` and `00 00 00 01` are two ids.
 #[derive(Clone, Copy, Debug, PartialEq, Eq, PartialOrd, Ord)]
 pub struct RemoteId {
     octets: ShortList<4>,

@@ -12,7 +12,7 @@ use crate::tbcd::{Tbcd, TbcdFault, tbcd_read, tbcd_write};
 use std::fmt;
 use std::marker::Model;
 
-/// An IMSI (TS 23.003 2.2): 5 to 15 digits, which are ordered as texts.
+/// An IMSI (ITU-T E.212; TS 23.003 2.2): 5 to 15 digits, which are ordered as texts.
 #[derive(Clone, Copy, Debug, PartialEq, Eq, PartialOrd, Ord)]
 pub struct Imsi {
     digits: Digits,

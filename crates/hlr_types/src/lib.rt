@@ -1,4 +1,4 @@
-//! Digits, identities, addresses and transaction ids, each kept in place: none of this takes memory.
+//! Digits, identities, addresses and transaction ids, each stored in place: nothing here allocates.
 //!
 //! Contracts see each of these as a list of numbers: digits as numbers from 0 to 9, and ids as octets. A `Register` is
 //! seen as the record of its fields.
@@ -12,8 +12,6 @@ mod peer;
 mod register;
 mod short_list;
 mod tbcd;
-#[cfg(test)]
-mod tests;
 
 pub use address::{INTERNATIONAL_E164, IsdnAddress, law_address_forms};
 pub use digits::{Digits, law_text_forms};

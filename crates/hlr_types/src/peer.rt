@@ -1,4 +1,4 @@
-//! Where frames come from and go to.
+//! The source and the destination of frames.
 
 ghost use Rattle.std.specs.Prelude.{◌≡◌, List, ℕ, Some};
 ghost use Rattle.std.specs.Fmt.{padded};
@@ -8,7 +8,7 @@ use crate::digits::Digits;
 use std::fmt;
 use std::marker::Model;
 
-/// Who a frame comes from or goes to: the digits of the address.
+/// The source or destination of a frame: the digits of its address.
 #[derive(Clone, Copy, Debug, PartialEq, Eq, PartialOrd, Ord)]
 pub struct Peer {
     digits: Digits,

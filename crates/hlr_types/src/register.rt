@@ -6,7 +6,7 @@ ghost use Rattle.hlr_types.specs.Identities.{lmsi_of, IsLmsi};
 use crate::address::IsdnAddress;
 use std::marker::Model;
 
-/// An LMSI (TS 29.002 17.7.8): the four octets under which a register knows a subscriber.
+/// An LMSI (TS 23.003 2.5; TS 29.002 17.7.8): the four octets under which a register knows a subscriber.
 #[derive(Clone, Copy, Debug, PartialEq, Eq)]
 pub struct Lmsi(pub [u8; 4]);
 

@@ -10,8 +10,8 @@ ghost use Rattle.std.proofs.Common.{rules};
 use std::cmp::Ordering;
 use std::marker::Model;
 
-/// At most N octets in an array, where N is below 256. Lists are ordered as their octets are, and a list before every
-/// longer one that begins with it.
+/// At most N octets in an array, where N is below 256. Lists are ordered by their octets, and a prefix comes before the
+/// longer list.
 #[derive(Clone, Copy, Debug)]
 pub struct ShortList<const N: usize> {
     items: [u8; N],
@@ -69,7 +69,7 @@ impl<const N: usize> ShortList<N> {
         &self.items[..self.count as usize]
     }
 
-    /// How many there are.
+    /// The number of octets.
     pub fn len(&self) -> usize
         ensures { result ≡ length self.now }
     {
@@ -83,7 +83,7 @@ impl<const N: usize> ShortList<N> {
         self.as_slice().is_empty()
     }
 
-    /// Puts one more at the end.
+    /// Appends an octet.
     pub fn push(&mut self, octet: u8)
         requires { length self.old < N }
         ensures { self.new ≡ self.old ++ octet ∷ [] }

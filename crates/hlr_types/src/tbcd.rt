@@ -1,5 +1,5 @@
 //! Telephony binary coded decimal (TS 29.002 17.7.8, TBCD-STRING): two digits to an octet, the first in the low half;
-//! 1111 in the last high half fills up an odd count.
+//! 1111 in the last high half fills an odd count.
 
 ghost use Rattle.std.specs.Prelude.{◌≡◌, ◌<◌, ◌≤◌, ◌*◌, ℕ, List, [], ◌∷◌, ◌++◌, length, IfOk, Ok, Err};
 ghost use Rattle.std.specs.List.{AllByRecursion};
@@ -10,7 +10,7 @@ use crate::digits::Digits;
 use crate::short_list::ShortList;
 use thiserror::Error;
 
-/// Why octets are no digits, or digits no IMSI. Where both faults are there, it is the count.
+/// Why octets are no digits, or digits no IMSI. If both faults are there, it is the count.
 #[derive(Clone, Copy, PartialEq, Eq, Debug, Drop, Error)]
 pub enum TbcdFault {
     /// Too few or too many octets or digits.
@@ -30,7 +30,7 @@ pub type Tbcd = ShortList<8>;
 /// Limitation: the further digit codes (`*`, `#`, a, b, c) are no digits here.
 #[tactic(auto, using(crate::proofs::TbcdLaws::tbcd_laws))]
 pub fn tbcd_read(octets: &[u8]) -> Result<Digits, TbcdFault>
-    // What is read has the form, and what has the form is read.
+    // What is read has the form, and whatever has the form is read.
     ensures found { IfOk result (λ digits. IsTbcd octets.now digits) }
     ensures only { (digits : List ℕ) → IsTbcd octets.now digits → result ≡ Ok digits }
 
@@ -40,7 +40,7 @@ pub fn tbcd_read(octets: &[u8]) -> Result<Digits, TbcdFault>
     digits_of(octets)
 }
 
-/// The TBCD form of digits, which is the only one.
+/// The one TBCD form of digits.
 #[tactic(auto, using(crate::proofs::TbcdLaws::tbcd_laws))]
 pub fn tbcd_write(digits: &Digits) -> Tbcd
     ensures value { result ≡ tbcd digits.now }
@@ -50,7 +50,7 @@ pub fn tbcd_write(digits: &Digits) -> Tbcd
     octets_of(digits.as_slice())
 }
 
-/// Law: digits and octets are one text's two forms, and reading and writing go from each to the other.
+/// Law: digits and octets are two forms of one text, and reading and writing convert each to the other.
 #[tactic(auto, using(crate::proofs::TbcdLaws::two_forms))]
 pub fn law_two_forms()
     ensures forms { AreTwoForms }

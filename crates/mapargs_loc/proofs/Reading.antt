@@ -1,4 +1,4 @@
--- What an answer says of the form of the parameter, whatever the operation.
+-- What a result says of the form of the parameter, whatever the operation.
 use Rattle.std.proofs.Common.{◌≡◌, ℕ, sym, ap, subst, refl}
 use Rattle.std.specs.Prelude.{◌↔◌, Result, Ok, Err, IfOk}
 use Rattle.x690.specs.Tree.{Tree}

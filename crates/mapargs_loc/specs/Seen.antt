@@ -20,7 +20,7 @@ update_argument u = machine.Update u.imsi (register u.register)
 abbrev pub purge_argument : PurgeArg → Argument
 purge_argument p = machine.Purge p.imsi p.vlr
 
--- what a reader answers, as what the parameter is
+-- what a reader returns, as the parameter
 abbrev pub answer : {A : Type 0} → (A → Argument) → Result A ArgFault → Parameter
 answer argument (Ok a) = machine.Typed (argument a)
 answer argument (Err Mistyped) = machine.Mistyped

@@ -1,4 +1,4 @@
-//! cancelLocation (TS 29.002, 17.7.1): its argument, as it is sent.
+//! cancelLocation (TS 29.002, 8.1.3, MAP_CANCEL_LOCATION; types 17.7.1): its argument, as it is sent.
 
 ghost use Rattle.std.specs.Prelude.{◌≡◌, IfOk};
 ghost use Rattle.berwrite.specs.OwnTrees.{own};
@@ -27,7 +27,7 @@ fn octet_of(why: CancellationType) -> u8
     }
 }
 
-/// The argument of a cancelLocation: `A3`, and in it the imsi `04` and the cancellationType `0A`, which is always sent.
+/// The CancelLocationArg: `A3`, and in it the imsi `04` and the cancellationType `0A`, which is always sent.
 pub fn cancel_arg(alloc: Global, imsi: &Imsi, why: CancellationType) -> Result<OwnTree, Memory>
     ensures { IfOk result (λ tree. own tree ≡ cancel_tree imsi.now (cancellation why)) }
 {

@@ -1,4 +1,4 @@
-//! insertSubscriberData (TS 29.002, 17.7.1): its argument, as it is sent.
+//! insertSubscriberData (TS 29.002, 8.8.1, MAP-INSERT-SUBSCRIBER-DATA; types 17.7.1): its argument, as it is sent.
 
 ghost use Rattle.std.specs.Prelude.{◌≡◌, ◌++◌, IfOk, map, option_map, option_to_list};
 ghost use Rattle.hlr_types.specs.Tbcd.{tbcd};
@@ -15,7 +15,7 @@ use frames::tags::{
 use hlr_types::{Imsi, IsdnAddress};
 use std::alloc::Global;
 
-/// The imsi `80`, where there is one.
+/// The imsi `80`, if there is one.
 fn identity(alloc: Global, imsi: Option<&Imsi>) -> Result<Vec<OwnTree>, Memory>
     ensures { IfOk result (λ elements. owns elements.items
         ≡ option_to_list (option_map (λ i. Primitive INSERT_IMSI (tbcd i.now)) imsi.entry)) }
@@ -27,7 +27,7 @@ fn identity(alloc: Global, imsi: Option<&Imsi>) -> Result<Vec<OwnTree>, Memory>
     Ok(elements)
 }
 
-/// Adds the msisdn `81` and the subscriberStatus `83 01 00`, where there is an MSISDN.
+/// Appends the msisdn `81` and the subscriberStatus `83 01 00`, if there is an MSISDN.
 fn push_subscriber(
     alloc: Global,
     elements: &mut Vec<OwnTree>,
@@ -55,7 +55,7 @@ fn teleservices(alloc: Global, codes: &[u8]) -> Result<OwnTree, Memory>
     Ok(OwnTree::constructed(TELESERVICE_LIST, elements))
 }
 
-/// Adds the teleserviceList, where there are codes.
+/// Appends the teleserviceList, if there are codes.
 fn push_teleservices(alloc: Global, elements: &mut Vec<OwnTree>, codes: &[u8]) -> Result<(), Memory>
     ensures { IfOk result (λ _. owns elements.new.items ≡ owns elements.old.items ++ teleservice_trees codes.now) }
 {
@@ -66,8 +66,8 @@ fn push_teleservices(alloc: Global, elements: &mut Vec<OwnTree>, codes: &[u8]) -
     Ok(())
 }
 
-/// The argument of an insertSubscriberData: `30`, and in it the imsi `80`, the msisdn `81` with the subscriberStatus
-/// serviceGranted `83 01 00`, and the teleserviceList `A6`, each where it is given; no list where there are no codes.
+/// The InsertSubscriberDataArg: `30`, and in it the imsi `80`, the msisdn `81` with the subscriberStatus serviceGranted
+/// `83 01 00`, and the teleserviceList `A6`, each if it is given; no list if there are no codes.
 pub fn insert_arg(
     alloc: Global,
     imsi: Option<&Imsi>,

@@ -1,8 +1,8 @@
 //! The parameters of MAP's location operations (3GPP TS 29.002): the arguments that are received, and the arguments, results
 //! and error parameter that are sent.
 //!
-//! The readers take no memory, and read one element in its place after the other. Each writer gives the tree of its
-//! parameter alone, which the component around it takes.
+//! The readers do not allocate, and read the elements one after the other, each in its place. Each writer returns the tree of
+//! its parameter alone, without the component around it.
 #![tactic(auto)]
 
 mod cancel;
@@ -10,8 +10,6 @@ mod fault;
 mod insert;
 mod purge;
 mod roaming;
-#[cfg(test)]
-mod tests;
 mod update;
 
 pub use cancel::{CancellationType, cancel_arg};

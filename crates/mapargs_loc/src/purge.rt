@@ -1,4 +1,4 @@
-//! purgeMS (TS 29.002, 17.7.1): its argument, as it is received, and its result, as it is sent.
+//! purgeMS (TS 29.002, 8.1.6, MAP_PURGE_MS; types 17.7.1): its argument, as it is received, and its result, as it is sent.
 
 ghost use Rattle.std.specs.Prelude.{◌≡◌, ◌↔◌, Err, IfOk, option_map};
 ghost use Rattle.bertree.specs.Nodes.{tree};
@@ -20,7 +20,7 @@ use frames::tags::{FREEZE_TMSI, OCTET_STRING, PURGE_ARGUMENT, PURGE_VLR_NUMBER, 
 use hlr_types::{Imsi, IsdnAddress};
 use std::alloc::Global;
 
-/// The argument of a purgeMS: this register, if it says which, has purged the subscriber.
+/// The PurgeMS-Arg: this VLR, if its number is there, has purged the subscriber.
 #[derive(Clone, Copy, Debug, PartialEq, Eq)]
 pub struct PurgeArg {
     pub imsi: Imsi,
@@ -34,7 +34,7 @@ pub(crate) struct PurgeOctets<'a> {
     vlr: Option<&'a [u8]>,
 }
 
-/// The contents, where the type is right. A constructed element in the place of the vlr-Number is a further element.
+/// The contents, if the type is right. A constructed element in the place of the vlr-Number is a further element.
 #[tactic(auto, unfolding(frames::specs::Arguments::purge_typed))]
 fn typed<'a>(parameter: &Node<'a>) -> Option<PurgeOctets<'a>>
     ensures { option_map purge_contents result ≡ purge_typed (tree parameter.now) }
@@ -45,7 +45,7 @@ fn typed<'a>(parameter: &Node<'a>) -> Option<PurgeOctets<'a>>
     Some(PurgeOctets { imsi, vlr })
 }
 
-/// The address, where there is one; nothing where its octets are none.
+/// The address, if there is one; nothing if its octets are no address.
 fn optional_address(octets: Option<&[u8]>) -> Option<Option<IsdnAddress>>
     ensures { result ≡ if_there address_of (option_map (λ o. o.now) octets.entry) }
 {
@@ -55,7 +55,7 @@ fn optional_address(octets: Option<&[u8]>) -> Option<Option<IsdnAddress>>
     }
 }
 
-/// The argument with these contents, where each is a value.
+/// The argument with these contents, if each is a value.
 #[tactic(auto, unfolding(frames::specs::Arguments::purge_value))]
 fn value(octets: &PurgeOctets) -> Option<PurgeArg>
     ensures { option_map purge_argument result ≡ purge_value (purge_contents octets.now) }
@@ -65,7 +65,7 @@ fn value(octets: &PurgeOctets) -> Option<PurgeArg>
     Some(PurgeArg { imsi, vlr })
 }
 
-/// The argument, or the fault of the first kind: the type is looked at before the values.
+/// The argument, or its first fault: the type is checked before the values.
 fn purge_in(parameter: &Node) -> Result<PurgeArg, ArgFault>
     ensures { answer purge_argument result ≡ purge_of (tree parameter.now) }
 {
@@ -76,11 +76,11 @@ fn purge_in(parameter: &Node) -> Result<PurgeArg, ArgFault>
     }
 }
 
-/// The argument of a received purgeMS: `A3`, and in it imsi `04` and an optional vlr-Number `80`. It takes no memory.
+/// The received PurgeMS-Arg: `A3`, and in it imsi `04` and an optional vlr-Number `80`. It does not allocate.
 ///
 /// Limitation: an sgsn-Number and further elements are accepted unread.
 pub fn read_purge(parameter: &Node) -> Result<PurgeArg, ArgFault>
-    // What is read is the argument that the tree spells, and what spells one is read.
+    // What is read is the argument that the tree spells, and whatever spells one is read.
     ensures found { IfOk result (λ purge. Arg PURGE_MS (tree parameter.now) (purge_argument purge)) }
     ensures only { (argument : Argument) → Arg PURGE_MS (tree parameter.now) argument
         → answer purge_argument result ≡ Typed argument }
@@ -90,13 +90,13 @@ pub fn read_purge(parameter: &Node) -> Result<PurgeArg, ArgFault>
     ensures bad_value { (result ≡ Err ArgFault.BadValue) ↔ (IsTyped PURGE_MS (tree parameter.now)
         × ((argument : Argument) → Arg PURGE_MS (tree parameter.now) argument → ⊥)) }
 
-    // It is a function of the tree.
+    // The result is a function of the tree.
     ensures exact { answer purge_argument result ≡ purge_of (tree parameter.now) }
 {
     purge_in(parameter)
 }
 
-/// The result of a purgeMS that says freezeTMSI: `30 02 80 00`.
+/// The PurgeMS-Res with freezeTMSI: `30 02 80 00`.
 pub fn purge_result(alloc: Global) -> Result<OwnTree, Memory>
     ensures { IfOk result (λ tree. own tree ≡ purge_result_tree) }
 {

@@ -10,7 +10,7 @@ use frames::numbers::PLMN_ROAMING_NOT_ALLOWED;
 use frames::tags::{ENUMERATED, SEQUENCE};
 use std::alloc::Global;
 
-/// The parameter of the error roamingNotAllowed: `30 03 0A 01 00`, plmnRoamingNotAllowed.
+/// The RoamingNotAllowedParam: `30 03 0A 01 00`, plmnRoamingNotAllowed.
 pub fn roaming_not_allowed(alloc: Global) -> Result<OwnTree, Memory>
     ensures { IfOk result (λ tree. Some (own tree) ≡ error_parameter ROAMING_NOT_ALLOWED) }
 {

@@ -1,4 +1,5 @@
-//! updateLocation (TS 29.002, 17.7.1): its argument, as it is received, and its result, as it is sent.
+//! updateLocation (TS 29.002, 8.1.2, MAP_UPDATE_LOCATION; types 17.7.1): its argument, as it is received, and its result, as
+//! it is sent.
 
 ghost use Rattle.std.specs.Prelude.{◌≡◌, ◌↔◌, Err, IfOk, option_map};
 ghost use Rattle.bertree.specs.Nodes.{tree};
@@ -20,7 +21,7 @@ use frames::tags::{OCTET_STRING, SEQUENCE, UPDATE_LMSI, UPDATE_MSC_NUMBER};
 use hlr_types::{Imsi, IsdnAddress, Lmsi, Register};
 use std::alloc::Global;
 
-/// The argument of an updateLocation: the subscriber is at this register.
+/// The UpdateLocationArg: the subscriber is at this register.
 #[derive(Clone, Copy, Debug, PartialEq, Eq)]
 pub struct UpdateArg {
     pub imsi: Imsi,
@@ -36,7 +37,7 @@ pub(crate) struct UpdateOctets<'a> {
     lmsi: Option<&'a [u8]>,
 }
 
-/// The contents, where the type is right. A constructed element in the place of the lmsi is a further element.
+/// The contents, if the type is right. A constructed element in the place of the lmsi is a further element.
 #[tactic(auto, unfolding(frames::specs::Arguments::update_typed))]
 fn typed<'a>(parameter: &Node<'a>) -> Option<UpdateOctets<'a>>
     ensures { option_map update_contents result ≡ update_typed (tree parameter.now) }
@@ -54,7 +55,7 @@ fn typed<'a>(parameter: &Node<'a>) -> Option<UpdateOctets<'a>>
     })
 }
 
-/// The LMSI, where there is one; nothing where its octets are none.
+/// The LMSI, if there is one; nothing if its octets are no LMSI.
 fn optional_lmsi(octets: Option<&[u8]>) -> Option<Option<Lmsi>>
     ensures { result ≡ if_there lmsi_of (option_map (λ o. o.now) octets.entry) }
 {
@@ -64,7 +65,7 @@ fn optional_lmsi(octets: Option<&[u8]>) -> Option<Option<Lmsi>>
     }
 }
 
-/// The argument with these contents, where each is a value.
+/// The argument with these contents, if each is a value.
 #[tactic(auto, unfolding(frames::specs::Arguments::update_value))]
 fn value(octets: &UpdateOctets) -> Option<UpdateArg>
     ensures { option_map update_argument result ≡ update_value (update_contents octets.now) }
@@ -77,7 +78,7 @@ fn value(octets: &UpdateOctets) -> Option<UpdateArg>
     Some(UpdateArg { imsi, register })
 }
 
-/// The argument, or the fault of the first kind: the type is looked at before the values.
+/// The argument, or its first fault: the type is checked before the values.
 fn update_in(parameter: &Node) -> Result<UpdateArg, ArgFault>
     ensures { answer update_argument result ≡ update_of (tree parameter.now) }
 {
@@ -88,12 +89,12 @@ fn update_in(parameter: &Node) -> Result<UpdateArg, ArgFault>
     }
 }
 
-/// The argument of a received updateLocation: `30`, and in it imsi `04`, msc-Number `81`, vlr-Number `04` and an optional
-/// lmsi `8A`. It takes no memory.
+/// The received UpdateLocationArg: `30`, and in it imsi `04`, msc-Number `81`, vlr-Number `04` and an optional lmsi `8A`. It
+/// does not allocate.
 ///
 /// Limitation: further elements are accepted unread.
 pub fn read_update(parameter: &Node) -> Result<UpdateArg, ArgFault>
-    // What is read is the argument that the tree spells, and what spells one is read.
+    // What is read is the argument that the tree spells, and whatever spells one is read.
     ensures found { IfOk result (λ update. Arg UPDATE_LOCATION (tree parameter.now) (update_argument update)) }
     ensures only { (argument : Argument) → Arg UPDATE_LOCATION (tree parameter.now) argument
         → answer update_argument result ≡ Typed argument }
@@ -103,13 +104,13 @@ pub fn read_update(parameter: &Node) -> Result<UpdateArg, ArgFault>
     ensures bad_value { (result ≡ Err ArgFault.BadValue) ↔ (IsTyped UPDATE_LOCATION (tree parameter.now)
         × ((argument : Argument) → Arg UPDATE_LOCATION (tree parameter.now) argument → ⊥)) }
 
-    // It is a function of the tree.
+    // The result is a function of the tree.
     ensures exact { answer update_argument result ≡ update_of (tree parameter.now) }
 {
     update_in(parameter)
 }
 
-/// The result of an updateLocation: `30`, and in it the number of the HLR, `04`.
+/// The UpdateLocationRes: `30`, and in it the number of the HLR, `04`.
 pub fn update_result(alloc: Global, hlr: &IsdnAddress) -> Result<OwnTree, Memory>
     ensures { IfOk result (λ tree. own tree ≡ update_result_tree hlr.now) }
 {

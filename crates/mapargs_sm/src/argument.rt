@@ -1,4 +1,4 @@
-//! The argument of a sendRoutingInfoForSM, as it is received (TS 29.002, 17.7.6).
+//! The argument of a sendRoutingInfoForSM, as it is received (TS 29.002, 12.1, MAP-SEND-ROUTING-INFO-FOR-SM; type 17.7.6).
 
 ghost use Rattle.std.specs.Prelude.{◌≡◌, ◌↔◌, Err, IfOk, option_map};
 ghost use Rattle.bertree.specs.Nodes.{tree};
@@ -15,7 +15,7 @@ use frames::tags::{ROUTE_MSISDN, SEQUENCE, SERVICE_CENTRE, SM_RP_PRI};
 use hlr_types::IsdnAddress;
 use mapargs_loc::ArgFault;
 
-/// The argument of a sendRoutingInfoForSM: where is the subscriber with this MSISDN?
+/// The RoutingInfoForSM-Arg: where is the subscriber with this MSISDN?
 ///
 /// Limitation: sm-RP-PRI and serviceCentreAddress are not kept.
 #[derive(Clone, Copy, Debug, PartialEq, Eq)]
@@ -23,7 +23,7 @@ pub struct RouteArg {
     pub msisdn: IsdnAddress,
 }
 
-/// The octets of the msisdn, where the type is right. The sm-RP-PRI is a BOOLEAN, of one octet (X.690, 8.2.1).
+/// The octets of the msisdn, if the type is right. The sm-RP-PRI is a BOOLEAN, of one octet (X.690, 8.2.1).
 #[tactic(auto, using(bertree::proofs::Trees::lists), unfolding(frames::specs::Arguments::route_typed))]
 fn typed<'a>(parameter: &Node<'a>) -> Option<&'a [u8]>
     ensures { option_map (λ o. o.now) result ≡ route_typed (tree parameter.now) }
@@ -36,7 +36,7 @@ fn typed<'a>(parameter: &Node<'a>) -> Option<&'a [u8]>
     Some(msisdn)
 }
 
-/// The argument, or the fault of the first kind: the type is looked at before the value.
+/// The argument, or its first fault: the type is checked before the value.
 #[tactic(auto, unfolding(frames::specs::Arguments::route_value))]
 fn route_in(parameter: &Node) -> Result<RouteArg, ArgFault>
     ensures { answer route_argument result ≡ route_of (tree parameter.now) }
@@ -46,12 +46,12 @@ fn route_in(parameter: &Node) -> Result<RouteArg, ArgFault>
     Ok(RouteArg { msisdn })
 }
 
-/// The argument of a received sendRoutingInfoForSM: `30`, and in it msisdn `80`, sm-RP-PRI `81` and serviceCentreAddress
-/// `82`. It takes no memory.
+/// The received RoutingInfoForSM-Arg: `30`, and in it msisdn `80`, sm-RP-PRI `81` and serviceCentreAddress `82`. It does not
+/// allocate.
 ///
 /// Limitation: the serviceCentreAddress and further elements are accepted unread.
 pub fn read_route(parameter: &Node) -> Result<RouteArg, ArgFault>
-    // What is read is the argument that the tree spells, and what spells one is read.
+    // What is read is the argument that the tree spells, and whatever spells one is read.
     ensures found { IfOk result (λ route. Arg SEND_ROUTING_INFO_FOR_SM (tree parameter.now) (route_argument route)) }
     ensures only { (argument : Argument) → Arg SEND_ROUTING_INFO_FOR_SM (tree parameter.now) argument
         → answer route_argument result ≡ Typed argument }
@@ -61,7 +61,7 @@ pub fn read_route(parameter: &Node) -> Result<RouteArg, ArgFault>
     ensures bad_value { (result ≡ Err ArgFault.BadValue) ↔ (IsTyped SEND_ROUTING_INFO_FOR_SM (tree parameter.now)
         × ((argument : Argument) → Arg SEND_ROUTING_INFO_FOR_SM (tree parameter.now) argument → ⊥)) }
 
-    // It is a function of the tree.
+    // The result is a function of the tree.
     ensures exact { answer route_argument result ≡ route_of (tree parameter.now) }
 {
     route_in(parameter)

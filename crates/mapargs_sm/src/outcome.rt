@@ -1,4 +1,4 @@
-//! The result of a sendRoutingInfoForSM, as it is sent (TS 29.002, 17.7.6).
+//! The result of a sendRoutingInfoForSM, as it is sent (TS 29.002, 12.1, MAP-SEND-ROUTING-INFO-FOR-SM; type 17.7.6).
 
 ghost use Rattle.std.specs.Prelude.{◌≡◌, IfOk, option_map};
 ghost use Rattle.berwrite.specs.OwnTrees.{own};
@@ -10,7 +10,7 @@ use frames::tags::{LOCATION_INFO, NETWORK_NODE_NUMBER, OCTET_STRING, SEQUENCE};
 use hlr_types::{Imsi, IsdnAddress, Lmsi};
 use std::alloc::Global;
 
-/// The locationInfoWithLMSI `A0`: the networkNode-Number `81` and, where there is one, the lmsi `04`.
+/// The locationInfoWithLMSI `A0`: the networkNode-Number `81` and, if there is one, the lmsi `04`.
 fn location_info(alloc: Global, msc: &IsdnAddress, lmsi: Option<&Lmsi>) -> Result<OwnTree, Memory>
     ensures { IfOk result (λ tree. own tree ≡ location_info_tree msc.now (option_map (λ l. l.now) lmsi.entry)) }
 {
@@ -22,8 +22,8 @@ fn location_info(alloc: Global, msc: &IsdnAddress, lmsi: Option<&Lmsi>) -> Resul
     Ok(OwnTree::constructed(LOCATION_INFO, elements))
 }
 
-/// The result of a sendRoutingInfoForSM: `30`, and in it the imsi `04` and the locationInfoWithLMSI `A0`, which holds the
-/// number of the MSC, `81`, and the lmsi, `04`, where there is one.
+/// The RoutingInfoForSM-Res: `30`, and in it the imsi `04` and the locationInfoWithLMSI `A0`, which holds the number of the
+/// MSC, `81`, and the lmsi, `04`, if there is one.
 pub fn route_result(
     alloc: Global,
     imsi: &Imsi,

@@ -23,7 +23,7 @@ named Unknown = contexts.Unknown
 abbrev pub with_octet : ℕ → Option machine.Context
 with_octet octet = find (λ c. contexts.octet_of c == octet) contexts.contexts
 
--- what the two octets say in which MAP's names differ
+-- what the two octets say that differ between MAP's names
 abbrev pub by_octets : Option machine.Context → ℕ → contexts.Named
 by_octets None version = contexts.Unknown
 by_octets (Some c) version =

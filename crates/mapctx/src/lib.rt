@@ -1,4 +1,5 @@
-//! The application contexts of MAP (3GPP TS 29.002): what the name of one says, and what a peer may invoke in it.
+//! The application contexts of MAP (3GPP TS 29.002, MAP-ApplicationContexts): what the name of one says, and what a peer may
+//! invoke in it.
 #![tactic(auto)]
 
 ghost use Rattle.std.specs.Prelude.{◌≡◌, option_map};
@@ -26,22 +27,22 @@ pub enum Named {
     Unknown,
 }
 
-/// updateLocation (TS 29.002).
+/// updateLocation (TS 29.002, MAP-MobileServiceOperations).
 pub const UPDATE_LOCATION: u8 = 2;
-/// sendRoutingInfoForSM (TS 29.002).
+/// sendRoutingInfoForSM (TS 29.002, MAP-ShortMessageServiceOperations).
 pub const SEND_ROUTING_INFO_FOR_SM: u8 = 45;
-/// purgeMS (TS 29.002).
+/// purgeMS (TS 29.002, MAP-MobileServiceOperations).
 pub const PURGE_MS: u8 = 67;
 
-/// What the names of MAP's contexts begin with.
+/// What the names of MAP's contexts begin with: the OBJECT IDENTIFIER 0.4.0.0.1.0 (X.690, 8.19).
 const FAMILY: [u8; 5] = [0x04, 0, 0, 1, 0];
 
-/// The version in which the register speaks.
+/// The version that the register uses.
 const VERSION: u8 = 3;
 
-/// What this name says: the octets `04 00 00 01 00`, one for the context and one for the version. It takes no memory.
+/// What this name says: the octets `04 00 00 01 00`, one for the context and one for the version. It does not allocate.
 ///
-/// Limitation: of other versions only those of contexts in which a peer may begin are told.
+/// Limitation: other versions are recognized only of contexts in which a peer may begin.
 #[tactic(auto, using(crate::proofs::Names::names))]
 pub fn context_of(name: &[u8]) -> Named
     ensures { named result ≡ context_of name.now }
@@ -56,15 +57,14 @@ pub fn context_of(name: &[u8]) -> Named
     }
 }
 
-/// The name of a context, seven octets, as it is sent in an AARQ or an AARE. It takes no memory.
+/// The name of a context, seven octets, as it is sent in an AARQ or an AARE. It does not allocate.
 pub fn name_of(of: Context) -> [u8; 7]
     ensures { result ≡ name_of (context of) }
 {
     [0x04, 0, 0, 1, 0, octet_of(of), VERSION]
 }
 
-/// The operation that a peer may invoke in this context; where there is none, a peer may not begin in it. It takes no
-/// memory.
+/// The operation that a peer may invoke in this context; if there is none, a peer may not begin in it. It does not allocate.
 pub fn operation_of(of: Context) -> Option<u8>
     ensures { result ≡ operation_of (context of) }
 {
@@ -76,7 +76,7 @@ pub fn operation_of(of: Context) -> Option<u8>
     }
 }
 
-/// The octet that tells the contexts apart.
+/// The octet that distinguishes the contexts.
 fn octet_of(of: Context) -> u8
     ensures { result ≡ octet_of (context of) }
 {
@@ -89,7 +89,7 @@ fn octet_of(of: Context) -> u8
     }
 }
 
-/// What the two octets say in which MAP's names differ.
+/// What the two octets say that differ between MAP's names.
 fn of_octets(octet: u8, version: u8) -> Named
     ensures { named result ≡ by_octets (with_octet octet) version }
 {

@@ -1,4 +1,4 @@
--- What is decided on a received Begin before its components are looked at (profile).
+-- What is decided on a received Begin before its components are handled (profile).
 use Rattle.std.specs.Prelude.{ℕ, List, [], ◌∷◌, Option, Some, None}
 use Rattle.machine.specs.Received.{Component, Begin, Verdict, Read}
 use Rattle.machine.specs.Sent.{Context, Why, NoCause, Refusing, SentAbort}
@@ -11,7 +11,7 @@ abbrev pub IsBegin : Verdict → Type 0
 IsBegin (Read (Begin origin name components)) = Unit {0}
 IsBegin _ = ⊥
 
--- It begins in a context, or it is answered with an Abort.
+-- The Begin starts in a context, or is answered with an Abort.
 pub data Decision : Type 0 where
   Go : Context → Decision
   Refuse : Why → Decision
@@ -21,7 +21,7 @@ abbrev pub decision_in : Context → List Component → Decision
 decision_in context [] = Refuse NoCause
 decision_in context (c ∷ cs) = Go context
 
--- in another context than those in which a peer may begin it is refused before
+-- in a context in which a peer may not begin it is refused before that
 abbrev pub decision_under : (name : List ℕ) → Option Context → List Component → Decision
 decision_under name None components = Refuse (Refusing (refused_name name))
 decision_under name (Some context) components = decision_in context components

@@ -1,4 +1,4 @@
--- What is decided and what is said, as the values of the definitions.
+-- What is decided and what an Abort carries, as the values of the definitions.
 use Rattle.machine.specs.Sent as sent
 use Rattle.mapctx.specs.Seen.{context}
 use Rattle.mapdlg.specs.Accepting as accepting

@@ -1,4 +1,4 @@
-//! What is sent for a Begin on the dialogue's behalf.
+//! The Abort that refuses a dialogue, and the dialogue portion that accepts it.
 
 ghost use Rattle.std.specs.Prelude.{◌≡◌, IfOk, option_map};
 ghost use Rattle.machine.specs.Sent.{SentAbort};
@@ -17,7 +17,7 @@ use q773_dlg::{Diagnostic, aare, portion};
 use q773_msg::{OutMessage, abort_cause};
 use std::alloc::Global;
 
-/// The Abort to this transaction id that says this.
+/// The Abort to this transaction id for this reason.
 pub fn refuse(alloc: Global, destination: &RemoteId, reason: &Why) -> Result<OutMessage, Memory>
     ensures { IfOk result (λ message. message_tree message ≡ tree_of (SentAbort destination.now (why reason.now))) }
 {
@@ -25,7 +25,7 @@ pub fn refuse(alloc: Global, destination: &RemoteId, reason: &Why) -> Result<Out
     OutMessage::abort(alloc, *destination, reason)
 }
 
-/// What stands in the Abort, if anything.
+/// What the Abort carries, if anything.
 fn reason_tree(alloc: Global, reason: &Why) -> Result<Option<OwnTree>, Memory>
     ensures { IfOk result (λ tree. option_map own tree ≡ reason_tree (why reason.now)) }
 {
@@ -44,7 +44,7 @@ fn refusing(alloc: Global, name: &[u8]) -> Result<OwnTree, Memory>
     portion(alloc, aare(alloc, name, REJECT_PERMANENT, why)?)
 }
 
-/// The dialogue portion that accepts the context. It goes with the first message that answers a Begin, and with no other.
+/// The dialogue portion that accepts the context. The first message that answers a Begin carries it, and no other does.
 pub fn first_answer(alloc: Global, of: Context) -> Result<OwnTree, Memory>
     ensures { IfOk result (λ tree. own tree ≡ accepting (context of)) }
 {

@@ -16,23 +16,23 @@ use mapctx::{Context, Named, context_of, name_of, operation_of};
 use msgarena::{ContextName, Indication, Message, Parameter, Verdict};
 use q773_comp::Component;
 
-/// What is decided on a Begin before its components are looked at.
+/// What is decided on a Begin before its components are handled.
 #[derive(Clone, Copy, Debug, PartialEq, Eq)]
 pub enum Accepted {
     /// It begins in this context, in which a peer may begin.
     Go(Context),
-    /// It is answered with an Abort that says this.
+    /// It is answered with an Abort for this reason.
     Refuse(Why),
 }
 
-/// What is decided on a received Begin: without a dialogue portion it is refused, then in another context than those in
-/// which a peer may begin, then without a component. It takes no memory.
+/// What is decided on a received Begin. It is refused without a dialogue portion, then in a context in which a peer may not
+/// begin, then without a component (profile). It does not allocate.
 pub fn accept(indication: &Indication) -> Accepted
     requires { IsBegin indication.now.verdict }
     ensures exact { (origin : List ℕ) (name : Option (List ℕ)) (components : List received.Component)
         → indication.now.verdict ≡ received.Read (received.Begin origin name components)
         → decided result ≡ decision name components }
-    // The machine begins so.
+    // The machine does the same.
     ensures machine { (here : Local) (from origin : List ℕ) (name : Option (List ℕ)) (components : List received.Component) (new : List ℕ)
         → indication.now.verdict ≡ received.Read (received.Begin origin name components)
         → begins here from origin name components new ≡ begins_as (decided result) here from origin components new }
@@ -53,7 +53,7 @@ pub fn accept(indication: &Indication) -> Accepted
     }
 }
 
-/// What is decided on a Begin with a dialogue request under this name.
+/// What is decided on a Begin whose dialogue request has this context name.
 #[tactic(auto, using(crate::proofs::Deciding::deciding))]
 fn accept_under(name: &ContextName, components: &[Component<Parameter>]) -> Accepted
     ensures { decided result ≡ decision_under name.now (accepted name.now) (map (component parameter) components.now) }

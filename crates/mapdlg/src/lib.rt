@@ -1,11 +1,9 @@
-//! The dialogue of an application context (3GPP TS 29.002, Q.773): whether a received Begin is accepted, and what is sent for
-//! it.
+//! The dialogue of an application context (3GPP TS 29.002, Q.773): whether a received Begin is accepted, and how its context is
+//! accepted or refused.
 #![tactic(auto)]
 
 mod answers;
 mod begins;
-#[cfg(test)]
-mod tests;
 mod why;
 
 pub use answers::{first_answer, refuse};

@@ -2,7 +2,7 @@
 
 use msgarena::ContextName;
 
-/// What an Abort says.
+/// What an Abort carries.
 #[derive(Clone, Copy, Debug, PartialEq, Eq)]
 pub enum Why {
     /// Nothing.

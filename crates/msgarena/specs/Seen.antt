@@ -23,7 +23,7 @@ argument (Update update) = update_argument update
 argument (Purge purge) = purge_argument purge
 argument (Route route) = route_argument route
 
--- what a parameter is that is no argument
+-- a parameter that is no argument
 abbrev pub unread : ArgFault → received.Parameter
 unread fault.Mistyped = received.Mistyped
 unread fault.BadValue = received.Typed received.BadValue

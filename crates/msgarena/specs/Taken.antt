@@ -4,7 +4,7 @@ use Rattle.msgarena.specs.Hearing.{Hearing}
 use Rattle.msgarena.specs.declared.fault.RoundFault.{RoundFault}
 use Rattle.msgarena.specs.declared.fault.RoundFault.TheVariants.{Memory, ResetRefused}
 
--- This holds of the frame that was taken, also where the arena did not give its memory back.
+-- This holds of the frame that was taken, even if the arena could not be reset.
 abbrev pub IfTaken : Result Hearing RoundFault → (Hearing → Type 0) → Type 0
 IfTaken (Ok taken) P = P taken
 IfTaken (Err (ResetRefused taken)) P = P taken

@@ -37,7 +37,7 @@ fn heard(node: &Node) -> Component<Parameter>
     }
 }
 
-/// The components that nodes are heard as, in order. `TooMany` takes no memory.
+/// The components that nodes are heard as, in order. `TooMany` is found before anything is allocated.
 pub(crate) fn all_heard(
     alloc: Global,
     nodes: &[Node],

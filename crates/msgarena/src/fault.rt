@@ -1,16 +1,16 @@
-//! Why a round is refused.
+//! Why a round fails.
 
 use crate::indication::Indication;
 use std::alloc::AllocError;
 use thiserror::Error;
 
-/// Why a round is refused. Nothing is said of the arena afterwards: the caller makes a new one.
+/// Why a round fails. The arena's contents are then unspecified: the caller makes a new arena.
 #[derive(Debug, Drop, Error)]
 pub enum RoundFault {
-    /// A growth was refused.
+    /// An allocation failed.
     #[error("out of memory")]
     Memory,
-    /// The arena did not give its memory back. The frame was decoded, and this is its indication.
+    /// The arena could not be reset. The frame was decoded, and this is its indication.
     #[error("the arena did not give its memory back")]
     ResetRefused(Indication),
 }

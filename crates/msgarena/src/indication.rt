@@ -9,8 +9,8 @@ use hlr_types::Peer;
 use std::alloc::{AllocError, Global};
 use std::marker::Model;
 
-/// A frame: where it came from, its octets, and the verdict on them, which is owned. That it is the one verdict that the
-/// definitions give is a fact of this type.
+/// A frame: its source, its octets, and the verdict on them, which is owned. The type guarantees that it is the one verdict of
+/// the definitions.
 #[derive(Debug, Drop)]
 pub struct Indication {
     from: Peer,
@@ -44,7 +44,7 @@ impl Indication {
         }
     }
 
-    /// Where the frame came from.
+    /// The source of the frame.
     pub fn from(&self) -> Peer
         ensures { result ≡ self.now.from }
     {

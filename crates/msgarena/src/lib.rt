@@ -1,8 +1,8 @@
 //! What becomes of a frame of any octets: it is discarded, answered with an Abort, or a message (ITU-T Q.773, 3GPP TS 29.002).
 //!
-//! [`Round::take`] decodes a frame in an arena, copies out what it reads to, and gives the arena back. An [`Indication`] is
-//! the frame with the [`Verdict`] on it, and owns both. It keeps that the verdict is the one that the definitions give, down
-//! to the arguments of the Invokes.
+//! [`Round::take`] decodes a frame in an arena, copies out what it reads to, and resets the arena. An [`Indication`] is the
+//! frame with the [`Verdict`] on it, and owns both. It guarantees that the verdict is the one of the definitions, down to the
+//! arguments of the Invokes.
 #![tactic(auto)]
 
 mod components;
@@ -11,8 +11,6 @@ mod indication;
 mod message;
 mod parameter;
 mod round;
-#[cfg(test)]
-mod tests;
 mod verdict;
 
 pub use fault::RoundFault;

@@ -23,13 +23,13 @@ pub struct Response {
 /// A message (ITU-T Q.773, 3.1) with at most 16 components, in order. Transaction ids are as they were received.
 #[derive(Debug, PartialEq, Eq, Drop)]
 pub enum Message {
-    /// The context is the one that the AARQ of the dialogue portion asks for; none where there is no dialogue portion.
+    /// The context is the one that the AARQ of the dialogue portion requests; none if there is no dialogue portion.
     Begin {
         origin: RemoteId,
         context: Option<ContextName>,
         components: Vec<Component<Parameter>>,
     },
-    /// The response is the AARE of the dialogue portion; none where there is no dialogue portion.
+    /// The response is the AARE of the dialogue portion; none if there is no dialogue portion.
     Continue {
         origin: RemoteId,
         destination: RemoteId,
@@ -42,7 +42,7 @@ pub enum Message {
         response: Option<Response>,
         components: Vec<Component<Parameter>>,
     },
-    /// Limitation: what it says besides the destination is not read.
+    /// Limitation: what it holds besides the destination id is not read.
     Abort {
         destination: RemoteId,
     },
@@ -53,7 +53,7 @@ pub enum Message {
 pub enum Verdict {
     /// It is discarded.
     Discard,
-    /// It is answered with an Abort to this transaction id, with this P-Abort cause.
+    /// It is answered with an Abort to this transaction id with this P-Abort cause.
     Refuse(RemoteId, u8),
     /// It is this message.
     Read(Message),

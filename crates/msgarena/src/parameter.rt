@@ -1,4 +1,4 @@
-//! The parameter of an Invoke, read by its operation (TS 29.002).
+//! The parameter of an Invoke, read by its operation (TS 29.002, 17.7.1 and 17.7.6).
 
 ghost use Rattle.std.specs.Prelude.{◌≡◌};
 ghost use Rattle.bertree.specs.Nodes.{tree};
@@ -15,7 +15,7 @@ use q773_comp::Code;
 /// The argument of an operation that a peer may invoke (TS 29.002, 17.6).
 #[derive(Clone, Copy, Debug, PartialEq, Eq)]
 pub enum Argument {
-    /// Of the operation's type, and an identity or a number in it is none.
+    /// Of the operation's type, but an identity or a number in it is invalid.
     BadValue,
     Update(UpdateArg),
     Purge(PurgeArg),
@@ -25,7 +25,7 @@ pub enum Argument {
 /// The parameter of an Invoke, read by its operation.
 #[derive(Clone, Copy, Debug, PartialEq, Eq)]
 pub enum Parameter {
-    /// Not of the operation's type. Of an operation that no peer may invoke every parameter is mistyped.
+    /// Not of the operation's type. Every parameter of an operation that no peer may invoke is mistyped.
     Mistyped,
     Typed(Argument),
 }
@@ -40,7 +40,7 @@ fn unread(fault: ArgFault) -> Parameter
     }
 }
 
-/// The parameter of an updateLocation.
+/// The parameter of an updateLocation (UpdateLocationArg).
 fn update(node: &Node) -> Parameter
     ensures { parameter result ≡ update_of (tree node.now) }
 {
@@ -50,7 +50,7 @@ fn update(node: &Node) -> Parameter
     }
 }
 
-/// The parameter of a purgeMS.
+/// The parameter of a purgeMS (PurgeMS-Arg).
 fn purge(node: &Node) -> Parameter
     ensures { parameter result ≡ purge_of (tree node.now) }
 {
@@ -60,7 +60,7 @@ fn purge(node: &Node) -> Parameter
     }
 }
 
-/// The parameter of a sendRoutingInfoForSM.
+/// The parameter of a sendRoutingInfoForSM (RoutingInfoForSM-Arg).
 fn route(node: &Node) -> Parameter
     ensures { parameter result ≡ route_of (tree node.now) }
 {

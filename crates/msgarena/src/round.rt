@@ -1,4 +1,4 @@
-//! A frame decoded in an arena that is given back at once.
+//! A frame decoded in an arena that is reset at once.
 
 ghost use Rattle.std.specs.Prelude.{◌≡◌, IfOk};
 ghost use Rattle.machine.specs.Received.{Verdict};
@@ -19,18 +19,17 @@ use std::alloc::{AllocError, Global};
 pub struct Round;
 
 impl Round {
-    /// The indication of these octets, which came from this address. They are decoded in the arena, what they read to is
-    /// copied out, and the arena is reset. A frame that is no message is an indication too: the verdict says what becomes
-    /// of it.
+    /// The indication of these octets from this address. They are decoded in the arena, what they read to is copied out, and the
+    /// arena is reset. A frame that is no message is an indication too: the verdict says what becomes of it.
     ///
-    /// After a refusal nothing is said of the arena.
+    /// On error the arena's contents are unspecified.
     pub fn take(
         alloc: Global,
         bump: &mut Bump,
         from: Peer,
         octets: &[u8],
     ) -> Result<Indication, RoundFault>
-        // It is that frame, and the verdict on it.
+        // The result is that frame, and the verdict on it.
         ensures frame { IfTaken result (λ taken. (taken.from ≡ from) × (taken.octets ≡ octets.now)) }
         ensures judged { IfTaken result (λ taken. IsVerdict octets.now taken.verdict) }
         // There is one verdict on the octets, so it is the same for every arena.
@@ -54,7 +53,7 @@ fn decoded(alloc: Global, bump: &Bump, from: Peer, octets: &[u8]) -> Result<Indi
     Ok(Indication::new(from, octets.to_vec(alloc)?, verdict))
 }
 
-/// The verdict on octets: discarded where they spell no tree within the limits.
+/// The verdict on octets: discarded if they spell no tree within the limits.
 fn verdict_on(alloc: Global, bump: &Bump, octets: &[u8]) -> Result<message::Verdict, AllocError>
     ensures { IfOk result (λ found. IsVerdict octets.now (seen found)) }
 {

@@ -1,4 +1,4 @@
-//! The verdict on a tree.
+//! The verdict on a tree (Q.773; profile).
 
 ghost use Rattle.std.specs.Prelude.{◌≡◌, IfOk, option_map};
 ghost use Rattle.bertree.specs.Nodes.{tree};
@@ -17,8 +17,8 @@ use q773_dlg::{Apdu, read_dialogue};
 use q773_msg::{Portions, Unread, read_message};
 use std::alloc::{AllocError, Global};
 
-/// The context that the AARQ of a dialogue portion asks for, where there is a portion; nothing where it is unreadable or
-/// holds another APDU.
+/// The context that the AARQ of a dialogue portion requests, if there is a portion; nothing if it is unreadable or holds
+/// another APDU.
 fn requested(dialogue: Option<&Node>) -> Option<Option<ContextName>>
     ensures { result ≡ portion_of request_in (option_map (λ node. tree node.now) dialogue.entry) }
 {
@@ -31,7 +31,7 @@ fn requested(dialogue: Option<&Node>) -> Option<Option<ContextName>>
     }
 }
 
-/// The AARE of a dialogue portion, where there is a portion; nothing where it is unreadable or holds another APDU.
+/// The AARE of a dialogue portion, if there is a portion; nothing if it is unreadable or holds another APDU.
 fn responded(dialogue: Option<&Node>) -> Option<Option<Response>>
     ensures { option_map (option_map response) result
         ≡ portion_of response_in (option_map (λ node. tree node.now) dialogue.entry) }
@@ -49,7 +49,7 @@ fn responded(dialogue: Option<&Node>) -> Option<Option<Response>>
     }
 }
 
-/// The verdict on a Begin: refused where its dialogue portion is unreadable, then where it has too many components.
+/// The verdict on a Begin: refused if its dialogue portion is unreadable, then if it has too many components.
 fn begin(alloc: Global, origin: RemoteId, parts: Portions) -> Result<Verdict, AllocError>
     ensures { IfOk result (λ found. let m = frames.Begin origin (portions parts.entry) in
         seen found ≡ checked m (read_in m)) }
@@ -93,7 +93,7 @@ fn continued(
     }
 }
 
-/// The verdict on an End: discarded where a Begin is refused.
+/// The verdict on an End: discarded where a Begin would be refused.
 fn ended(alloc: Global, destination: RemoteId, parts: Portions) -> Result<Verdict, AllocError>
     ensures { IfOk result (λ found. let m = frames.End destination (portions parts.entry) in
         seen found ≡ checked m (read_in m)) }
@@ -112,7 +112,7 @@ fn ended(alloc: Global, destination: RemoteId, parts: Portions) -> Result<Verdic
     }
 }
 
-/// The verdict on what is no message.
+/// The verdict on a tree that is no message.
 fn refused(unread: Unread) -> Verdict
     ensures { seen result ≡ verdict_on (unread_of unread) }
 {

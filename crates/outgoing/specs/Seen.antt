@@ -21,7 +21,7 @@ component (PurgeResult id freeze) = machine.PurgeResult id freeze
 component (RouteResult id imsi msc lmsi) = machine.RouteResult id imsi msc lmsi
 component (Error id code) = machine.SentError id code
 
--- A subscriber's data are as many inserts as they need.
+-- A subscriber's data take as many inserts as they need.
 abbrev pub components : Components → List machine.SentComponent
 components Nothing = []
 components (One c) = component c ∷ []

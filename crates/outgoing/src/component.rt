@@ -1,28 +1,28 @@
-//! The components of a procedure's own (TS 29.002).
+//! The components that a procedure sends (TS 29.002).
 
 use hlr_types::{Imsi, IsdnAddress, Lmsi, ShortList};
 use mapargs_loc::CancellationType;
 
-/// A component that a procedure sends, but for a subscriber's data.
+/// A component that a procedure sends, except a subscriber's data.
 #[derive(Clone, Copy, Debug, PartialEq, Eq)]
 pub enum SentComponent {
-    /// An Invoke of cancelLocation.
+    /// An Invoke of cancelLocation (8.1.3, MAP_CANCEL_LOCATION).
     Cancel {
         id: i8,
         imsi: Imsi,
         why: CancellationType,
     },
-    /// The result of updateLocation: the number of this register.
+    /// The result of updateLocation (8.1.2, MAP_UPDATE_LOCATION): the number of this register.
     UpdateResult {
         id: i8,
         hlr: IsdnAddress,
     },
-    /// The result of purgeMS, with freezeTMSI or without a parameter.
+    /// The result of purgeMS (8.1.6, MAP_PURGE_MS), with freezeTMSI or without a parameter.
     PurgeResult {
         id: i8,
         freeze: bool,
     },
-    /// The result of sendRoutingInfoForSM: where short messages go.
+    /// The result of sendRoutingInfoForSM (12.1, MAP-SEND-ROUTING-INFO-FOR-SM): where short messages go.
     RouteResult {
         id: i8,
         imsi: Imsi,
@@ -36,8 +36,8 @@ pub enum SentComponent {
     },
 }
 
-/// A subscriber's data, as one or more insertSubscriberData carry them: the codes in their order, eight to an insert, and
-/// the MSISDN in the first. The IMSI goes along where no update names the subscriber.
+/// A subscriber's data, in one or more insertSubscriberData (8.8.1): the codes in order, eight to an insert, and the MSISDN in
+/// the first. The IMSI is included if no update names the subscriber.
 #[derive(Clone, Copy, Debug, PartialEq, Eq)]
 pub struct SubscriberData {
     pub imsi: Option<Imsi>,
@@ -45,7 +45,7 @@ pub struct SubscriberData {
     pub codes: ShortList<32>,
 }
 
-/// What a message carries of a procedure's own.
+/// What a message carries from a procedure.
 #[derive(Clone, Copy, Debug, PartialEq, Eq)]
 pub enum Components {
     Nothing,

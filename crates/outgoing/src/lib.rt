@@ -1,14 +1,12 @@
 //! What the register sends, as values, and the octets of each (ITU-T Q.773; 3GPP TS 29.002).
 //!
-//! A message holds its Rejects, and at most one component of a procedure's own or a subscriber's data, so that a procedure
-//! can say what it sends without memory. The octets are the one spelling of the message's tree that is sent.
+//! A message holds its Rejects, and at most one component of a procedure's own or a subscriber's data, so a procedure can say
+//! what it sends without allocating. The octets are the one spelling of the message's tree that is sent.
 #![tactic(auto)]
 
 mod component;
 mod message;
 mod octets;
-#[cfg(test)]
-mod tests;
 mod trees;
 
 pub use component::{Components, SentComponent, SubscriberData};

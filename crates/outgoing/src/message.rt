@@ -6,7 +6,7 @@ use mapctx::Context;
 use mapdlg::Why;
 use q773_comp::Rejection;
 
-/// A message that is sent. The Rejects stand first, then the procedure's own components. A context in a Begin is that of its
+/// A message that is sent. The Rejects come first, then the procedure's own components. A context in a Begin is that of its
 /// AARQ, in a Continue or an End that of the accepting AARE.
 #[derive(Debug, Drop)]
 pub enum SentMessage {
@@ -34,7 +34,7 @@ pub enum SentMessage {
     },
 }
 
-/// A message with the address that it goes to.
+/// A message with its destination address.
 #[derive(Debug, Drop)]
 pub struct Out {
     pub to: Peer,

@@ -78,7 +78,7 @@ fn out_message(alloc: Global, sent: &SentMessage) -> Result<OutMessage, Memory>
     }
 }
 
-/// The octets of a message: definite lengths, in the fewest octets.
+/// The octets of a message: definite lengths, in the fewest octets (X.690, 8.1.3).
 #[tactic(auto, unfolding(frames::specs::SentTrees::octets_of_sent))]
 pub fn octets_of(alloc: Global, sent: &SentMessage) -> Result<Vec<u8>, Memory>
     ensures { IfOk result (λ octets. octets.items ≡ octets_of_sent (message sent.now)) }

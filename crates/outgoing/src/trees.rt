@@ -1,4 +1,4 @@
-//! The trees of components and of dialogue portions.
+//! The trees of components and of dialogue portions (Q.773; parameters: TS 29.002).
 
 ghost use Rattle.std.specs.Prelude.{◌≡◌, ◌+◌, ◌*◌, ◌<◌, ◌≤◌, ◌++◌, IfOk, map, option_map, length, take, drop, pos};
 ghost use Rattle.machine.specs.Sent as machine;
@@ -133,7 +133,7 @@ fn codes_at(codes: &[u8], place: usize) -> &[u8]
     &rest[..rest.len().min(8)]
 }
 
-/// Adds the inserts of a subscriber's data.
+/// Appends the inserts of a subscriber's data.
 fn push_data(alloc: Global, trees: &mut Vec<OwnTree>, sent: &SubscriberData) -> Result<(), Memory>
     ensures { IfOk result (λ _. owns trees.new.items
         ≡ owns trees.old.items ++ map component_tree (inserts sent.now.imsi sent.now.msisdn sent.now.codes)) }
@@ -148,7 +148,7 @@ fn push_data(alloc: Global, trees: &mut Vec<OwnTree>, sent: &SubscriberData) -> 
     Ok(())
 }
 
-/// Adds the components of a procedure's own.
+/// Appends the procedure's own components.
 pub(crate) fn push_components(
     alloc: Global,
     trees: &mut Vec<OwnTree>,
@@ -178,7 +178,7 @@ pub(crate) fn reject_trees(alloc: Global, rejects: &[Rejection]) -> Result<Vec<O
     Ok(trees)
 }
 
-/// The dialogue portion that asks for a context.
+/// The dialogue portion that requests a context.
 pub(crate) fn asking(alloc: Global, of: Context) -> Result<OwnTree, Memory>
     ensures { IfOk result (λ tree. own tree ≡ asking (context of)) }
 {

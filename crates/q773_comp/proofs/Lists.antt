@@ -1,4 +1,4 @@
--- Several components are read exactly where each has its form.
+-- Several components are read exactly if each has its form.
 use Rattle.std.proofs.Common.{◌≡◌, List, [], ◌∷◌, refl, ap, ◌∙◌}
 use Rattle.x690.specs.Tree.{Tree}
 use Rattle.machine.specs.Received.{ComponentOf}

@@ -1,4 +1,4 @@
--- What is read behind the id of each kind of component.
+-- What is read after the id of each kind of component.
 use Rattle.std.specs.Prelude.{ℤ, List, Option}
 use Rattle.x690.specs.Tree.{Tree}
 use Rattle.machine.specs.Received as received

@@ -24,7 +24,7 @@ side OfInvoke = received.OfInvoke
 side OfResult = received.OfResult
 side OfError = received.OfError
 
--- a component, with a parameter of the definitions in the place of the code's
+-- a component, with a parameter of the definitions in place of the code's
 abbrev pub component : {P Q : Type 0} → (P → Q) → Component P → received.ComponentOf Q
 component parameter (Invoke id linked operation p) = received.Invoke id linked (code operation) (option_map parameter p)
 component parameter (ResultLast id) = received.ResultLast id

@@ -17,10 +17,10 @@ use thiserror::Error;
 /// Why components are not read.
 #[derive(Clone, Copy, Debug, PartialEq, Eq, Drop, Error)]
 pub enum CompFault {
-    /// There are more components than are read (profile).
+    /// There are too many components (profile).
     #[error("more than 16 components")]
     TooMany,
-    /// The list could not grow.
+    /// An allocation failed.
     #[error("out of memory")]
     Memory,
 }
@@ -49,16 +49,16 @@ impl<T: Drop> From<AllocFailed<T>> for CompFault {
 
 /// The components that nodes are, in order, each read by itself.
 ///
-/// `TooMany` takes no memory.
+/// `TooMany` is found before anything is allocated.
 pub fn read_components<'a>(
     alloc: Global,
     nodes: &'a [Node<'a>],
 ) -> Result<Vec<Component<&'a Node<'a>>>, CompFault>
-    // What is read has its form, and what has a form is read so.
+    // What is read has its form, and whatever has a form is read as it.
     ensures found { IfOk result (λ components. AreRead (elements nodes.now) (map seen components.items)) }
     ensures only { (cs : List (ComponentOf Tree)) → AreRead (elements nodes.now) cs
         → IfOk result (λ components. map seen components.items ≡ cs) }
-    // It is a function of the trees.
+    // The result is a function of the trees.
     ensures exact { IfOk result (λ components. map seen components.items ≡ components_of (elements nodes.now)) }
     ensures too_many { (result ≡ Err CompFault.TooMany) ↔ (MAX_COMPONENTS < length nodes.now) }
 {

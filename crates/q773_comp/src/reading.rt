@@ -1,4 +1,4 @@
-//! The component that a node is.
+//! The component that a node is (Q.773, component portion).
 ghost use Rattle.std.specs.Prelude.{◌≡◌, ℕ, ℤ, List, Option, option_map};
 ghost use Rattle.x690.specs.Elements.{first, optional};
 ghost use Rattle.x690.specs.Tree.{Tree};
@@ -42,7 +42,7 @@ fn code_of(node: &Node) -> Option<Code>
     }
 }
 
-/// The id in front, and what follows it.
+/// The id at the front, and what follows it.
 #[tactic(auto, using(bertree::proofs::Trees::lists))]
 fn first_id<'a>(nodes: &'a [Node<'a>]) -> Option<(i8, &'a [Node<'a>])>
     ensures { option_map (λ found. (found.0, elements found.1.now)) result
@@ -52,7 +52,7 @@ fn first_id<'a>(nodes: &'a [Node<'a>]) -> Option<(i8, &'a [Node<'a>])>
     Some((id_under(node, INTEGER)?, rest))
 }
 
-/// A linked id, where there is one, and what follows it.
+/// A linked id, if there is one, and what follows it.
 #[tactic(auto, using(bertree::proofs::Trees::lists))]
 fn optional_linked<'a>(nodes: &'a [Node<'a>]) -> (Option<i8>, &'a [Node<'a>])
     ensures { (result.0, elements result.1.now) ≡ optional (id_under LINKED_ID) (elements nodes.now) }
@@ -85,7 +85,7 @@ fn coded<'a>(nodes: &'a [Node<'a>]) -> Option<(Code, Option<&'a Node<'a>>)>
     Some((code, elements::at_most_one(rest)?))
 }
 
-/// What stands behind the id of an Invoke.
+/// What follows the id of an Invoke.
 #[tactic(auto, unfolding(frames::specs::Components::invoke))]
 fn invoke<'a>(id: i8, nodes: &'a [Node<'a>]) -> Option<Component<&'a Node<'a>>>
     ensures { option_map seen result ≡ invoke id (elements nodes.now) }
@@ -100,7 +100,7 @@ fn invoke<'a>(id: i8, nodes: &'a [Node<'a>]) -> Option<Component<&'a Node<'a>>>
     })
 }
 
-/// What stands behind the id of a result: nothing, or a code and at most one parameter in a SEQUENCE.
+/// What follows the id of a result: nothing, or a code and at most one parameter in a SEQUENCE.
 #[tactic(auto, using(bertree::proofs::Trees::lists), unfolding(frames::specs::Components::outcome))]
 fn outcome<'a>(
     made: Component<&'a Node<'a>>,
@@ -118,7 +118,7 @@ fn outcome<'a>(
     }
 }
 
-/// What stands behind the id of an error.
+/// What follows the id of an error.
 #[tactic(auto, unfolding(frames::specs::Components::error))]
 fn error<'a>(id: i8, nodes: &'a [Node<'a>]) -> Option<Component<&'a Node<'a>>>
     ensures { option_map seen result ≡ error id (elements nodes.now) }
@@ -143,7 +143,7 @@ fn problem_of(node: &Node) -> Option<(Side, u8)>
     Some((Side::OfError, node.octet(ERROR_PROBLEM)?))
 }
 
-/// The id that a Reject is of, or none where a NULL stands in its place.
+/// The id of a Reject, or none if a NULL is in its place.
 fn rejected_id(node: &Node) -> Option<Option<i8>>
     ensures { result ≡ rejected_id (tree node.now) }
 {
@@ -169,7 +169,7 @@ fn reject<'a>(nodes: &'a [Node<'a>]) -> Option<Component<&'a Node<'a>>>
     Some(Component::Reject { id, side, problem })
 }
 
-/// What stands behind the id of a component of this kind.
+/// What follows the id of a component of this kind.
 fn behind_id<'a>(kind: Kind, id: i8, nodes: &'a [Node<'a>]) -> Option<Component<&'a Node<'a>>>
     ensures { option_map seen result ≡ body_of kind id (elements nodes.now) }
 {
@@ -181,7 +181,7 @@ fn behind_id<'a>(kind: Kind, id: i8, nodes: &'a [Node<'a>]) -> Option<Component<
     }
 }
 
-/// A component of this kind. It is bad where no id stands in front, or where anything else is wrong behind the id.
+/// A component of this kind. It is bad if it does not begin with an id, or if anything after the id is wrong.
 fn identified<'a>(kind: Kind, nodes: &'a [Node<'a>]) -> Component<&'a Node<'a>>
     ensures { seen result ≡ identified (body_of kind) (elements nodes.now) }
 {
@@ -191,13 +191,13 @@ fn identified<'a>(kind: Kind, nodes: &'a [Node<'a>]) -> Component<&'a Node<'a>>
     behind_id(kind, id, nodes).unwrap_or(Component::Bad(Some(id), MISTYPED_COMPONENT))
 }
 
-/// The component that a node is, whatever it is. It takes no memory.
+/// The component that a node is, whatever it is. It does not allocate.
 #[tactic(auto, using(frames_laws::proofs::ComponentLaws::component_laws), unfolding(frames::specs::Components::component_of))]
 pub fn read_component<'a>(node: &'a Node<'a>) -> Component<&'a Node<'a>>
-    // What is read has its form, and what has a form is read so, the ill-formed ones too.
+    // What is read has its form, and whatever has a form is read as it, ill-formed components too.
     ensures found { IsComponent (tree node.now) (seen result) }
     ensures only { (c : ComponentOf Tree) → IsComponent (tree node.now) c → seen result ≡ c }
-    // It is a function of the tree.
+    // The result is a function of the tree.
     ensures exact { seen result ≡ component_of (tree node.now) }
 {
     if let Some(nodes) = node.children(INVOKE) {

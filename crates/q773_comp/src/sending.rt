@@ -1,4 +1,4 @@
-//! The trees of the components that are sent.
+//! The trees of the components that are sent (Q.773, component portion).
 ghost use Rattle.std.specs.Prelude.{◌≡◌, IfOk, option_map};
 ghost use Rattle.frames.specs.ComponentForms.{problem_tag};
 ghost use Rattle.frames.specs.SentTrees.{id_tree, code_tree, invoke_tree, result_tree, error_tree, rejected_tree, reject_tree};
@@ -15,7 +15,7 @@ use frames::tags::{
 };
 use std::alloc::Global;
 
-/// A Reject that is sent. Without an id it rejects what had none.
+/// A Reject that is sent. Without an id it rejects a component that had none.
 #[derive(Clone, Copy, Debug, PartialEq, Eq)]
 pub struct Rejection {
     pub id: Option<i8>,
@@ -36,7 +36,7 @@ pub enum OutComponent {
         operation: u8,
         parameter: OwnTree,
     },
-    /// A last result that gives nothing.
+    /// A ReturnResultLast with nothing but its id.
     EmptyResult {
         id: i8,
     },
@@ -177,7 +177,7 @@ impl OutComponent {
         })
     }
 
-    /// The tree of a component that is sent, made of it.
+    /// The tree of a component that is sent; the component is used up.
     pub fn into_tree(self, alloc: Global) -> Result<OwnTree, Memory>
         ensures { IfOk result (λ made. own made ≡ out_tree self) }
     {
@@ -205,7 +205,7 @@ impl OutComponent {
     }
 }
 
-/// The tree of a component that is sent, which stays as it is: its parameter is copied.
+/// The tree of a component that is sent. The component stays as it is: its parameter is copied.
 pub fn component_tree(alloc: Global, component: &OutComponent) -> Result<OwnTree, Memory>
     ensures { IfOk result (λ made. own made ≡ out_tree component.now) }
 {

@@ -20,7 +20,7 @@ seen (Aarq context) = received.Aarq context.now
 seen (Aare r) = received.Aare (response r)
 seen (Abrt source) = received.Abrt source
 
--- what a reader answers
+-- what a reader returns
 abbrev pub answer : Result Apdu Unreadable → Option received.Apdu
 answer (Ok apdu) = Some (seen apdu)
 answer (Err unreadable) = None

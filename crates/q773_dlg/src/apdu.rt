@@ -1,4 +1,4 @@
-//! What a dialogue portion holds.
+//! What a dialogue portion holds (Q.773, dialogue portion).
 
 use thiserror::Error;
 
@@ -21,7 +21,7 @@ pub struct Response<'a> {
 
 /// A dialogue APDU.
 ///
-/// Limitation: the information of the user, which may stand at the end of each, is accepted, and not kept (profile).
+/// Limitation: user information, which may end each of them, is accepted and not kept (profile).
 #[derive(Clone, Copy, Debug, PartialEq, Eq)]
 pub enum Apdu<'a> {
     /// A request, with the application context's name.

@@ -1,4 +1,4 @@
-//! The dialogue APDU that a node holds.
+//! The dialogue APDU that a node holds (Q.773, dialogue portion).
 ghost use Rattle.std.specs.Prelude.{◌≡◌, Some, IfOk, option_map};
 ghost use Rattle.x690.specs.Elements.{first, optional};
 ghost use Rattle.x690.specs.Reading.{octets_of};
@@ -18,7 +18,7 @@ use frames::tags::{
     SINGLE_ASN1_TYPE, USER_INFORMATION, VERSION,
 };
 
-/// Whether the contents of a BIT STRING are a version: at most seven bits unused, and the first bit set.
+/// Whether the contents of a BIT STRING (X.690, 8.6) are a version: at most seven bits unused, and the first bit set.
 fn is_version(octets: &[u8]) -> bool
     ensures { result ≡ is_version octets.now }
 {
@@ -78,7 +78,7 @@ fn diagnostic_of(node: &Node) -> Option<Diagnostic>
     Some(Diagnostic::OfProvider(of_provider.octet(INTEGER)?))
 }
 
-/// Whether an APDU may end so: in nothing, or in information of the user.
+/// Whether an APDU may end with these: nothing, or user information.
 #[tactic(auto, using(bertree::proofs::Trees::lists))]
 fn may_end(nodes: &[Node]) -> bool
     ensures { result ≡ may_end_apdu (elements nodes.now) }
@@ -140,7 +140,7 @@ fn apdu_of<'a>(node: &Node<'a>) -> Option<Apdu<'a>>
     abort_of(node.children(ABRT)?)
 }
 
-/// The contents of an EXTERNAL of the dialogue's syntax, which is one APDU.
+/// The APDU in the contents of an EXTERNAL (X.690, 8.18) of the dialogue's abstract syntax.
 #[tactic(auto, using(bertree::proofs::Trees::lists))]
 fn in_external<'a>(nodes: &'a [Node<'a>]) -> Option<Apdu<'a>>
     ensures { option_map seen result ≡ in_external (elements nodes.now) }
@@ -157,7 +157,7 @@ fn in_external<'a>(nodes: &'a [Node<'a>]) -> Option<Apdu<'a>>
     }
 }
 
-/// The APDU of a dialogue portion, where it holds one.
+/// The APDU of a dialogue portion, if it holds one.
 #[tactic(auto, unfolding(frames::specs::Dialogues::dialogue_of))]
 fn dialogue_of<'a>(node: &Node<'a>) -> Option<Apdu<'a>>
     ensures { option_map seen result ≡ dialogue_of (tree node.now) }
@@ -165,13 +165,13 @@ fn dialogue_of<'a>(node: &Node<'a>) -> Option<Apdu<'a>>
     in_external(node.only_child(DIALOGUE_PORTION)?.children(EXTERNAL)?)
 }
 
-/// The APDU of a dialogue portion. It takes no memory.
+/// The APDU of a dialogue portion. It does not allocate.
 #[tactic(auto, using(crate::proofs::ReadLaws::read_laws))]
 pub fn read_dialogue<'a>(node: &Node<'a>) -> Result<Apdu<'a>, Unreadable>
-    // What is read has its form, and what has a form is read so; the others are unreadable.
+    // What is read has its form, and whatever has a form is read as it; anything else is unreadable.
     ensures found { IfOk result (λ apdu. IsDialogue (tree node.now) (seen apdu)) }
     ensures only { (apdu : received.Apdu) → IsDialogue (tree node.now) apdu → answer result ≡ Some apdu }
-    // It is a function of the tree.
+    // The result is a function of the tree.
     ensures exact { answer result ≡ dialogue_of (tree node.now) }
 {
     dialogue_of(node).ok_or(Unreadable)

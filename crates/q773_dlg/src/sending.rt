@@ -1,6 +1,6 @@
-//! The trees of the APDUs that are sent, and of the dialogue portion around one.
+//! The trees of the APDUs that are sent, and of the dialogue portion around one (Q.773, dialogue portion).
 //!
-//! An AARQ and an AARE that are sent say version 1, and end in no information of the user (profile).
+//! An AARQ or AARE that is sent has version 1 and no user information (profile).
 ghost use Rattle.std.specs.Prelude.{◌≡◌, ◌≤◌, length, IfOk};
 ghost use Rattle.machine.specs.Received.{Aarq, Aare, Abrt};
 ghost use Rattle.frames.specs.DialogueForms.{octet_in, diagnostic_tree, portion_tree, IsApdu};
@@ -50,7 +50,7 @@ fn diagnostic_tree(alloc: Global, why: Diagnostic) -> Result<OwnTree, Memory>
     OwnTree::around(alloc, RESULT_SOURCE, source)
 }
 
-/// An AARQ, which asks for the application context of this name.
+/// An AARQ, which requests the application context of this name.
 pub fn aarq(alloc: Global, name: &[u8]) -> Result<OwnTree, Memory>
     ensures { IfOk result (λ made. own made ≡ aarq_tree name.now) }
 {
@@ -71,7 +71,7 @@ pub fn aare(alloc: Global, name: &[u8], outcome: u8, why: Diagnostic) -> Result<
     Ok(OwnTree::constructed(AARE, parts))
 }
 
-/// An ABRT of this source: the user, 0, or the provider, 1.
+/// An ABRT with this source: the user, 0, or the provider, 1.
 pub fn abrt(alloc: Global, source: u8) -> Result<OwnTree, Memory>
     ensures { IfOk result (λ made. own made ≡ abrt_tree source) }
 {

@@ -1,4 +1,4 @@
--- An answer that has its tree's form, by what it answers.
+-- A result that has its tree's form, by its value.
 use Rattle.std.specs.Prelude.{Result, Ok, Err, IfOk, IfErr}
 use Rattle.x690.specs.Tree.{Tree}
 use Rattle.frames.specs.MessageForms.{IsMessage}

@@ -1,11 +1,10 @@
-//! What a received message is.
+//! Received messages (Q.773, transaction portion).
 
 use bertree::Node;
 use hlr_types::RemoteId;
 use thiserror::Error;
 
-/// The dialogue portion, whatever it holds, and the elements of the component portion, of which there are none where there
-/// is no such portion.
+/// The dialogue portion, whatever it holds, and the elements of the component portion, none if there is no such portion.
 #[derive(Clone, Copy)]
 pub struct Portions<'a> {
     pub dialogue: Option<&'a Node<'a>>,
@@ -14,7 +13,7 @@ pub struct Portions<'a> {
 
 /// A received message, its portions unread. Transaction ids are as they were received.
 ///
-/// Limitation: what an Abort says besides its destination is not kept.
+/// Limitation: what an Abort holds besides its destination id is not kept.
 #[derive(Clone, Copy)]
 pub enum Message<'a> {
     /// `62`: the originating id `48`, then the portions, each optional: dialogue `6B`, components `6C`.
@@ -45,7 +44,7 @@ pub enum Unread {
     /// It is discarded.
     #[error("no message, and discarded")]
     Discard,
-    /// It is answered with an Abort to this transaction id, with this P-Abort cause.
+    /// It is answered with an Abort to this transaction id with this P-Abort cause.
     #[error("no message, and answered with an Abort of cause {1}")]
     Abort(RemoteId, u8),
 }

@@ -1,4 +1,4 @@
-//! What a message that is sent is, and its octets.
+//! Messages that are sent, and their octets (Q.773, transaction portion).
 
 ghost use Rattle.std.specs.Prelude.{◌≡◌, IfOk, option_map};
 ghost use Rattle.x690.specs.Spelling.{enc};
@@ -14,8 +14,8 @@ use std::alloc::Global;
 
 /// A message that is sent. Contracts see it as its tree, `message_tree`.
 ///
-/// Its dialogue portion is given whole, `6B` and what it holds, and its components one by one, in order; both are moved
-/// into it. Where there is no memory they are dropped.
+/// Its dialogue portion is given whole, `6B` and what it holds, and its components one by one, in order. Both are moved
+/// into it; if an allocation fails they are dropped.
 #[derive(Debug, Drop)]
 pub struct OutMessage {
     tree: OwnTree,
@@ -75,8 +75,7 @@ impl OutMessage {
         Ok(OutMessage { tree })
     }
 
-    /// An Abort: `67`, and in it the destination id `49` and the reason, a P-Abort cause or a dialogue portion, where there
-    /// is one.
+    /// An Abort: `67`, and in it the destination id `49` and the reason, if any: a P-Abort cause or a dialogue portion.
     pub fn abort(
         alloc: Global,
         destination: RemoteId,
@@ -99,7 +98,7 @@ pub fn abort_cause(alloc: Global, cause: u8) -> Result<OwnTree, Memory>
     OwnTree::primitive(alloc, ABORT_CAUSE, &[cause])
 }
 
-/// The octets that are sent for a message: definite lengths, in the fewest octets. No condition is asked.
+/// The octets that are sent for a message: definite lengths, in the fewest octets. There is no precondition.
 pub fn write_message(alloc: Global, message: &OutMessage) -> Result<Vec<u8>, Memory>
     ensures { IfOk result (λ octets. octets.items ≡ enc (message_tree message.now)) }
 {

@@ -7,7 +7,7 @@ ghost use Rattle.frames.specs.SentTrees.{component_portion, portion_trees};
 use berwrite::{Memory, OwnTree};
 use frames::tags::COMPONENT_PORTION;
 
-/// Adds an element, where there is one.
+/// Appends an element, if there is one.
 pub(crate) fn push_some(elements: &mut Vec<OwnTree>, element: Option<OwnTree>) -> Result<(), Memory>
     ensures { IfOk result (λ _. owns elements.new.items
         ≡ owns elements.old.items ++ option_to_list (option_map own element)) }
@@ -18,7 +18,7 @@ pub(crate) fn push_some(elements: &mut Vec<OwnTree>, element: Option<OwnTree>) -
     Ok(())
 }
 
-/// Adds the component portion `6C`, where there are components.
+/// Appends the component portion `6C`, if there are components.
 fn push_components(elements: &mut Vec<OwnTree>, components: Vec<OwnTree>) -> Result<(), Memory>
     ensures { IfOk result (λ _. owns elements.new.items
         ≡ owns elements.old.items ++ component_portion (owns components.items)) }
@@ -30,7 +30,7 @@ fn push_components(elements: &mut Vec<OwnTree>, components: Vec<OwnTree>) -> Res
     Ok(())
 }
 
-/// Adds the dialogue portion and the component portion, each where there is one.
+/// Appends the dialogue portion and the component portion, each if there is one.
 pub(crate) fn push_portions(
     elements: &mut Vec<OwnTree>,
     dialogue: Option<OwnTree>,

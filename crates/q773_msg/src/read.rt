@@ -1,4 +1,4 @@
-//! The message that an element is.
+//! The message that an element is (Q.773, transaction portion).
 
 ghost use Rattle.std.specs.Prelude.{◌≡◌, Result, IfOk, IfErr, option_map};
 ghost use Rattle.bertree.specs.Nodes.{tree, elements};
@@ -21,7 +21,7 @@ use frames::tags::{
 };
 use hlr_types::RemoteId;
 
-/// The transaction id of 1 to 4 octets that the first element is, where it has this tag, and the elements after it.
+/// The transaction id of 1 to 4 octets that the first element is, if it has this tag, and the elements after it.
 #[tactic(auto, using(bertree::proofs::Trees::lists))]
 fn transaction_id<'a>(nodes: &'a [Node<'a>], tag: Tag) -> Option<(RemoteId, &'a [Node<'a>])>
     ensures { option_map (λ found. (found.0, elements found.1.now)) result
@@ -97,7 +97,7 @@ fn read_end<'a>(nodes: &'a [Node<'a>]) -> Result<Message<'a>, Unread>
     })
 }
 
-/// Whether an Abort may end so: with nothing, a P-Abort cause `4A`, or a dialogue portion `6B`, whatever they hold.
+/// Whether an Abort may end with these: nothing, a P-Abort cause `4A`, or a dialogue portion `6B`, whatever they hold.
 #[tactic(auto, using(bertree::proofs::Trees::lists))]
 fn may_end_abort(nodes: &[Node]) -> bool
     ensures { result ≡ may_end_abort (elements nodes.now) }
@@ -125,7 +125,7 @@ fn read_abort<'a>(nodes: &'a [Node<'a>]) -> Result<Message<'a>, Unread>
 }
 
 /// The message by its tag: Begin `62`, End `64`, Continue `65`, Abort `67`. A Unidirectional `61` is discarded, and
-/// another message is answered where an originating id stands first (profile).
+/// another message is answered if an originating id comes first (profile).
 #[tactic(auto, unfolding(frames::specs::Messages::message_of))]
 fn by_tag<'a>(node: &Node<'a>) -> Result<Message<'a>, Unread>
     ensures { answer result ≡ message_of (tree node.now) }
@@ -151,18 +151,18 @@ fn by_tag<'a>(node: &Node<'a>) -> Result<Message<'a>, Unread>
     }
 }
 
-/// The message that an element is, its portions unread; otherwise what becomes of the frame. It takes no memory.
+/// The message that an element is, its portions unread; otherwise what becomes of the frame. It does not allocate.
 ///
-/// Limitation: whether the dialogue portion can be read, and how many components there are, is not looked at.
+/// Limitation: whether the dialogue portion can be read, and how many components there are, is not checked.
 pub fn read_message<'a>(node: &Node<'a>) -> Result<Message<'a>, Unread>
-    // What is read has its message's form, and of what is not read the first point says so that keeps it from being one.
+    // What is read has its message's form; for anything else the result is what the first point that applies says.
     ensures found { IfOk result (λ m. IsMessage (tree node.now) (message m)) }
     ensures refused { IfErr result (λ u. IsSaidFirst message_points (tree node.now) (unread u)) }
 
-    // What has a message's form is read so, and of what a point says something first that is answered.
+    // Whatever has a message's form is read as it, and what the first point that applies says is the result.
     ensures only { (r : Result TcMessage frames.Unread) → IsMessageOrNot (tree node.now) r → answer result ≡ r }
 
-    // It is a function of the tree.
+    // The result is a function of the tree.
     ensures exact { answer result ≡ message_of (tree node.now) }
 {
     by_tag(node)

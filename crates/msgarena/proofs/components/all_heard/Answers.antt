@@ -11,7 +11,7 @@ each_of_each : {A B C : Type 0} (f : B → C) (g : A → B) (xs : List A) → ma
 each_of_each f g [] = refl
 each_of_each f g (x ∷ xs) = ap (λ ys. f (g x) ∷ ys) (each_of_each f g xs)
 
--- each component that the chain gives is the one that its node is heard as
+-- each component that the chain returns is the one that its node is heard as
 pub returns-clause-heard : goal.returns-clause-heard
 returns-clause-heard c =
     let ran = c.in_ok-collect.ensures.ran in
