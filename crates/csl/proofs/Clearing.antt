@@ -27,7 +27,7 @@ then_both Greater s = refl
 pub is_own : (id : List ℕ) (v : Invocation) (k : due.Invocation) → is_invocation (timer_at id v).invocation k ≡ (is_its id k.id && int_eq v.id k.invoke)
 is_own id v k = then_both _ _
 
--- the deadline of one invocation goes
+-- the deadline of one invocation is removed
 pub one_cleared : (d : DeadlineMap) (id : List ℕ) (v : Invocation) (k : due.Invocation) → finite.get (finite.remove d (timer_at id v).invocation) k ≡ cond (is_its id k.id && int_eq v.id k.invoke) None (finite.get d k)
 one_cleared d id v k =
     finite.get-remove invocation_total d (timer_at id v).invocation k ∙ ap (λ b. cond b None (finite.get d k)) ((eq_by_cmp_equiv invocation_total).symm k (timer_at id v).invocation ∙ is_own id v k)

@@ -15,7 +15,7 @@ use Rattle.csl.specs.declared.ending.Ending.{Ending}
 use Rattle.csl.specs.Endings.{has_id, ending, ended, is_failing}
 use Rattle.csl.proofs.Places.{Parts, NoneHas, parts_of, none_of, get_at, set_at, remove_at}
 
--- what an ending is to the definitions
+-- an ending as a value of the definitions
 record Ends {P : Type 0} (c : ComponentOf P) (e : Ending) : Type 0 where
   pub concludes_its : (j : ℤ) → concludes j c ≡ int_eq e.id j
   pub after : (now : ℕ) (v : Invocation) → concluded_by now v (Some c) ≡ ended now e.how v
@@ -114,7 +114,7 @@ module _ {P : Type 0} where
       pub unmoved_where_absent : (vs : List Invocation) → position (has_id e.id) vs ≡ None → Unmoved vs
       unmoved_where_absent vs none = unmoved vs (none_concluded vs (none_of e.id vs none))
 
-      -- behind the one with the id are others
+      -- there are others after the one with the id
       others_behind : (front : List Invocation) (own : Invocation) (back : List Invocation) → IsMap (front ++ own ∷ back) → has_id e.id own ≡ true → NoneHas e.id back
       others_behind [] own back m q = every_one (λ u. int_eq u.id own.id ≡ false) (λ u. has_id e.id u ≡ false) (λ u r. subst (λ i. int_eq u.id i ≡ false) (int_is own.id e.id q) r) back m.0
       others_behind (v ∷ front) own back m q = others_behind front own back m.1 q

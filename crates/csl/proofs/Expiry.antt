@@ -69,7 +69,7 @@ is_next lists d now have t i j least vs is place found v read was state =
           (not_greater (timer_of t i j) (timer_of v'.deadline i' j') (least.least (timer_of v'.deadline i' j') (have (record { id = i'; invoke = j' }) ∙ ap deadline_one other.stands)));
     }
 
--- what times out is Idle
+-- the invocation that times out is Idle
 
 standing_is : (j : ℤ) (vs : List Invocation) → standing_of j vs ≡ option_map (λ (v : Invocation). (v.was, v.deadline)) (invocation_of j vs)
 standing_is j [] = refl

@@ -1,4 +1,4 @@
--- Components that are heard one by one.
+-- Components that are applied one by one.
 use Rattle.std.proofs.Common.{◌≡◌, ℕ, ◌+◌, ◌<◌, ◌≤◌, ℤ, List, [], ◌∷◌, ◌++◌, length, take, map, get_or, Bool, true, false, cond, not, ◌&&◌, ◌||◌, Option, Some, None, refl, sym, ap, ◌∙◌, subst, zero, suc, arith, nat_eq}
 use Rattle.std.specs.Option.{option_map, option_to_list}
 use Rattle.std.proofs.lemmas.List.{map_more, take-map, length-map, map-append, take_all}
@@ -14,7 +14,7 @@ use Rattle.q773_comp.specs.Seen.{rejection}
 use Rattle.csl.specs.Seen.{heard}
 use Rattle.csl.specs.Effects.{linked_now, reject_now}
 
--- what a loop over components has, once the earlier ones are heard
+-- the invariant of a loop over components, after the earlier ones
 pub record AreHeard {P : Type 0} (now : ℕ) (offer : Offer) (vs : List Invocation) (earlier : List (ComponentOf P)) (list : List Invocation) (rejects : List Rejection) (failed : Bool) : Type 0 where
   pub moved : list ≡ invocations_after now earlier vs
   pub rejected : rejects ≡ rejects_after offer vs [] earlier
@@ -44,7 +44,7 @@ module _ {P : Type 0} where
   pub none_heard : (now : ℕ) (offer : Offer) (vs : List Invocation) → AreHeard {P = P} now offer vs [] vs [] false
   none_heard now offer vs = record { moved = after_none P now vs; rejected = refl; has_failed = failed_none P vs }
 
-  -- the Reject of one, from the invocations as they then stand
+  -- the Reject of one, by the invocations at that point
   module _ (offer : Offer) (vs list : List Invocation) (started : Option ℤ) (is_first : Bool) (earlier : List (ComponentOf P))
       (open_same : (j : ℤ) → open_at vs earlier j ≡ in_sent j list)
       (start_same : (id : ℤ) → (not is_first && is_id started id) ≡ is_id (starts offer vs earlier) id)

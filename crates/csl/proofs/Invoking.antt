@@ -36,7 +36,7 @@ memory_only (Ok x) h e = cc
 memory_only (Err IdInUse) h e = cc
 memory_only (Err Memory) h e = cc
 
--- the first ones rise
+-- the ids of the first ones ascend
 
 pub first_rising : (now n : ℕ) → AreRising (first_invoked now n)
 first_rising now n = subst (λ m. AreRising (first_invoked now m)) count (rising_inserts now (replicate (8 * n + 1) 0))

@@ -15,7 +15,7 @@ use Rattle.csl.specs.Tables.{with_one}
 abbrev pub NoneHas : ℤ → List Invocation → Type 0
 NoneHas id vs = Every (λ (u : Invocation). has_id id u ≡ false) vs
 
--- the first invocation with an id, and what stands around it
+-- the first invocation with an id, and the others around it
 pub record Parts (id : ℤ) (vs : List Invocation) (place : ℕ) : Type 0 where
   pub front : List Invocation
   pub own : Invocation

@@ -1,4 +1,4 @@
--- The lists of the dialogues, as what is asked of them.
+-- The lists of the dialogues, by look-ups.
 use Rattle.std.proofs.Common.{arith, ◌==◌, length, ◌≡◌, ℕ, ℤ, List, [], ◌∷◌, ◌++◌, map, Bool, true, false, cond, Option, Some, None, Vec, vec_len, refl, sym, ap, ◌∙◌, subst, is_eq}
 use Rattle.std.specs.Prelude.{IfSome, IfNone, option_map}
 use Rattle.std.specs.Option.{IsSome}
@@ -96,7 +96,7 @@ module _ {A : Type 0} where
   pub get_lists : (m : tree.BTreeMap (List ℕ) (Vec Invocation A)) (q : List ℕ) → finite.get (lists_of m) q ≡ items_in (tree.get octets_cmp m q)
   get_lists m q = finite.get-from_entries octets_total (map items_of m.entries) q ∙ lookup_items m.entries q
 
-  -- a list is written, or taken out
+  -- a list is written or removed
   pub is_written : (m n : tree.BTreeMap (List ℕ) (Vec Invocation A)) (id : List ℕ) (w : Option (Vec Invocation A)) (vs : List Invocation)
       → ((q : List ℕ) → tree.get octets_cmp n q ≡ cond (is_its id q) w (tree.get octets_cmp m q)) → items_in w ≡ stored_list vs → lists_of n ≡ put_list (lists_of m) id vs
   is_written m n id w vs h e = is_put (lists_of m) (lists_of n) id vs (λ q. get_lists n q ∙ ap items_in (h q) ∙ by (is_its id q) q)
@@ -105,7 +105,7 @@ module _ {A : Type 0} where
       by true q = e
       by false q = sym (get_lists m q)
 
-  -- what a look-up gives
+  -- the result of a look-up
   pub list_got : (m : tree.BTreeMap (List ℕ) (Vec Invocation A)) (lists : InvocationLists) (id : List ℕ) (o : Option (Vec Invocation A)) → o ≡ tree.get octets_cmp m id → lists_of m ≡ lists
       → list_in (items_in o) ≡ invocations_at lists id
   list_got m lists id o e view = ap (λ r. list_in (items_in r)) e ∙ ap list_in (sym (get_lists m id)) ∙ ap (λ (l : InvocationLists). invocations_at l id) view
@@ -132,7 +132,7 @@ module _ {A : Type 0} where
       by true q e = had ∙ ap (tree.get octets_cmp m) (same_id id q e)
       by false q e = refl
 
-  -- and taken out afterwards
+  -- and removed afterwards
   pub emptied : (m n o : tree.BTreeMap (List ℕ) (Vec Invocation A)) (id : List ℕ) (l w : Vec Invocation A) → Some l ≡ tree.get octets_cmp m id → tree.WritesThrough octets_cmp (octets_cmp id) m w n
       → ((q : List ℕ) → tree.get octets_cmp o q ≡ cond (is_its id q) None (tree.get octets_cmp n q)) → lists_of o ≡ put_list (lists_of m) id []
   emptied m n o id l w had h gone = is_written m o id None [] (λ q. gone q ∙ ap (cond (is_its id q) None) (through m n id l w had h q) ∙ by (is_its id q) q) refl
@@ -168,7 +168,7 @@ pub items_some : (vs : List Invocation) (n : ℕ) → n ≡ length vs → (n == 
 items_some [] n l e = let some : n ≡ 0 → ⊥ = grind arith in absurd (some l)
 items_some (v ∷ vs) n l e = refl
 
--- taking out one invocation
+-- removing one invocation
 
 without_none : (id : ℤ) (vs : List Invocation) → NoneHas id vs → vs ≡ without id vs
 without_none id [] h = refl
@@ -183,6 +183,6 @@ without_at id vs place e =
     let p = parts_of id vs place e in
     ap (λ us. remove us place) p.whole ∙ ap (remove (p.front ++ p.own ∷ p.back)) (sym p.at) ∙ remove_at p.front p.own p.back ∙ without_past id p.front p.own p.back p.others p.same ∙ ap (without id) (sym p.whole)
 
--- where it is not there, all stays
+-- if it is not there, nothing changes
 pub put_without_none : (lists : InvocationLists) (id : List ℕ) (invoke : ℤ) → AreStored lists → NoneHas invoke (invocations_at lists id) → lists ≡ put_list lists id (without invoke (invocations_at lists id))
 put_without_none lists id invoke s h = put_same lists id s ∙ ap (put_list lists id) (without_none invoke (invocations_at lists id) h)

@@ -105,7 +105,7 @@ module _ (lists : InvocationLists) (d d₁ d₂ : DeadlineMap) (id : List ℕ) (
           ∙ pick (deadline_in k.invoke list) (deadline_in k.invoke (invocations_at lists id))
       by false e = after_other id list k (finite.get d k) e ∙ have k
 
-  -- and taken back, where the dialogue had none
+  -- and undone, if the dialogue had none
   pub have_taken_back : (new : InvocationLists) (d₃ : DeadlineMap) → new ≡ lists → (IsSome (finite.get lists id) → ⊥)
       → ((k : due.Invocation) → finite.get d₃ k ≡ cond (list_any (λ (t : Timer). is_invocation t.invocation k) (map (timer_at id) list)) None (finite.get d₂ k)) → HaveDeadlines new d₃
   have_taken_back new d₃ same absent back k =
@@ -127,7 +127,7 @@ module _ (lists : InvocationLists) (d d₁ d₂ : DeadlineMap) (id : List ℕ) (
       by true e = sym (had k (listed_its id list k e) ∙ ap (deadline_in k.invoke) none)
       by false e = after_unlisted (map (timer_at id) list) k (finite.get d k) e
 
--- one of several timers goes
+-- one of several timers is removed
 pub timer_cleared : (d d' : DeadlineMap) (ts : List Timer) (i : ℕ) (t : Timer) → i < length ts → t ≡ get_or ts i t → (k : due.Invocation) (before : Option ℕ)
     → finite.get d k ≡ cond (list_any (λ (u : Timer). is_invocation u.invocation k) (take i ts)) None before → d' ≡ finite.remove d t.invocation
     → finite.get d' k ≡ cond (list_any (λ (u : Timer). is_invocation u.invocation k) (take (i + 1) ts)) None before
@@ -144,7 +144,7 @@ timer_cleared d d' ts i t l at k before earlier gone =
     both false true = refl
     both false false = refl
 
--- a dialogue's invocations go
+-- a dialogue's invocations are removed
 
 deadline_without : (j i : ℤ) (vs : List Invocation) → IsMap vs → deadline_in i (without j vs) ≡ cond (int_eq j i) None (deadline_in i vs)
 deadline_without j i [] m = none (int_eq j i)

@@ -1,4 +1,4 @@
--- The effect of received components, as the code answers it.
+-- The effect of received components (Q.774, component sublayer), as the code returns it.
 use Rattle.std.specs.Prelude.{◌≡◌, ℤ, List, [], ◌∷◌, map, Bool, not, ◌&&◌, ◌||◌, Option, Some, None}
 use Rattle.machine.specs.Received.{OfResult, OfError, General, ComponentOf, Invoke, ResultLast, ResultNotLast, ReturnError, Reject, Bad, Ignored}
 use Rattle.machine.specs.Sent as sent
@@ -19,7 +19,7 @@ concluded HasFailed = effect.HasFailed
 concluded HasSucceeded = effect.HasSucceeded
 concluded GoesOn = effect.GoesOn
 
--- The answer is the effect: its Rejects in order, what started, and how the invocations then stand.
+-- The answer is the effect: its Rejects in order, what started, and the conclusion.
 pub record IsEffect (answer : Effect) (whole : effect.Effect) : Type 0 where
   pub rejects : map rejection answer.rejects.items ≡ whole.rejects
   pub started : answer.started ≡ whole.started
@@ -32,7 +32,7 @@ abbrev pub linked_now : List Invocation → Option ℤ → Option Bool
 linked_now vs None = None
 linked_now vs (Some id) = Some (in_sent id vs)
 
--- Whether the peer waits for this id.
+-- Whether this is the id of an open Invoke of the peer.
 abbrev pub is_open_now : effect.Offer → Option ℤ → Bool → ℤ → Bool
 is_open_now offer started is_first id = is_id offer.open_id id || (not is_first && is_id started id)
 

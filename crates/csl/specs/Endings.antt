@@ -13,14 +13,14 @@ use Rattle.csl.specs.declared.ending.Ending.{Ending}
 abbrev pub has_id : ℤ → Invocation → Bool
 has_id id v = int_eq v.id id
 
--- The ending that a component is to the invocation with its id.
+-- The ending that a component causes for the invocation with its id.
 abbrev pub ending : {P : Type 0} → ComponentOf P → Option Ending
 ending (ResultLast id) = Some (record { id = id; how = Succeeds })
 ending (ReturnError id error) = Some (record { id = id; how = Fails })
 ending (Reject (Some id) side problem) = cond (ends_it side) (Some (record { id = id; how = IsRejected })) None
 ending _ = None
 
--- An invocation that ends so: answered, it waits for a Reject; rejected, it is Idle.
+-- An invocation after its ending: Wait for Reject if it was answered, Idle if it was rejected.
 abbrev pub ended : ℕ → How → Invocation → List Invocation
 ended now IsRejected v = []
 ended now Fails v = record { id = v.id; was = WaitForReject; deadline = now + reject_timer } ∷ []

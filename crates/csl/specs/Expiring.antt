@@ -1,4 +1,4 @@
--- Which timer runs out next, and what becomes of its invocation (Q.774).
+-- Which timer expires next, and what happens to its invocation (Q.774).
 use Rattle.std.specs.Prelude.{◌≡◌, ℕ, ℤ, ◌≤◌, List, false, Some}
 use Rattle.std.specs.Ordering.{is_gt}
 use Rattle.machine.specs.Expiries.{without}

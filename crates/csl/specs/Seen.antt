@@ -1,4 +1,4 @@
--- What the code holds and answers, as what the definitions speak of.
+-- Values of the code as values of the definitions.
 use Rattle.std.specs.Prelude.{◌≡◌, ℕ, ℤ, refl}
 use Rattle.machine.specs.Received.{ComponentOf}
 use Rattle.machine.specs.State as state
@@ -27,6 +27,6 @@ invocation_of id standing deadline = record { id = id; was = was standing; deadl
 abbrev pub heard : {P : Type 0} → Component P → ComponentOf P
 heard c = component (λ p. p) c
 
--- an own invocation as a listing tells it
+-- an own invocation as in a listing
 abbrev pub told_of : state.Invocation → ℤ × Was × ℕ
 told_of v = (v.id, was_back v.was, v.deadline)

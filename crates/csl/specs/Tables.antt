@@ -1,5 +1,5 @@
--- The own invocations of a shard's dialogues, as a finite map: of each local transaction id that has some, the list, by
--- rising invoke ids.
+-- The own invocations of a shard's dialogues (Q.774), as a finite map from local transaction ids to lists by ascending invoke
+-- id.
 use Rattle.std.specs.Prelude.{◌≡◌, ◌≢◌, ℕ, ℤ, ◌∷◌, [], List, Bool, true, false, cond, Option, Some, None, option_map, IfSome, Vec, refl, map, int_lt, ◌+◌, pos, not, ◌&&◌}
 use Rattle.std.specs.List.{list_any}
 use Rattle.std.specs.BTreeMap as tree
@@ -20,7 +20,7 @@ use Rattle.csl.specs.Endings.{has_id}
 abbrev pub InvocationLists : Type 0
 InvocationLists = finite.FinMap octets_cmp (List Invocation)
 
--- The invocations of a dialogue: none, where it is not in the map.
+-- The invocations of a dialogue: none if it is not in the map.
 abbrev pub list_in : Option (List Invocation) → List Invocation
 list_in None = []
 list_in (Some vs) = vs
@@ -33,12 +33,12 @@ abbrev pub put_list : InvocationLists → List ℕ → List Invocation → Invoc
 put_list lists id [] = finite.remove lists id
 put_list lists id (v ∷ vs) = finite.insert lists id (v ∷ vs)
 
--- With one more, at its place by rising ids.
+-- With one more, at its place by ascending ids.
 abbrev pub with_one : Invocation → List Invocation → List Invocation
 with_one own [] = own ∷ []
 with_one own (v ∷ vs) = cond (int_lt own.id v.id) (own ∷ v ∷ vs) (v ∷ with_one own vs)
 
--- The first invocations of a dialogue, all invoked at once: 1 and these many more.
+-- The first invocations of a dialogue, all invoked at once: the id 1 and n more.
 abbrev pub first_invoked : ℕ → ℕ → List Invocation
 first_invoked now further = invoked now (pos 1) ∷ map (λ k. invoked now (pos (k + 2))) (below further)
 
@@ -60,7 +60,7 @@ HaveDeadlines lists deadlines = (k : due.Invocation) → finite.get deadlines k 
 abbrev pub has_one : ℤ → List Invocation → Bool
 has_one id vs = list_any (has_id id) vs
 
--- Whether this is an invocation of the dialogue that was among these and is not kept.
+-- Whether this invocation of the dialogue was among these and is not kept.
 abbrev pub is_gone : List ℕ → (were kept : List Invocation) → due.Invocation → Bool
 is_gone id were kept k = is_at (octets_cmp id) k.id && (has_one k.invoke were && not (has_one k.invoke kept))
 
@@ -73,7 +73,7 @@ items_of e = (e.0, e.1.items)
 abbrev pub lists_of : {A : Type 0} → tree.BTreeMap (List ℕ) (Vec Invocation A) → InvocationLists
 lists_of m = finite.from_entries (map items_of m.entries)
 
--- A list that is stored is not empty, and rises.
+-- A stored list is not empty, and its ids ascend.
 pub record IsStored (vs : List Invocation) : Type 0 where
   pub some : vs ≢ []
   pub rising : AreRising vs

@@ -1,4 +1,4 @@
-//! What received components do to the own invocations of one dialogue.
+//! What received components do to the own invocations of one dialogue (Q.774, component sublayer).
 
 ghost use Rattle.std.specs.Prelude.{◌≡◌, ◌≤◌, ◌^◌, ◌++◌, map, [], IfOk, OnOk, option_to_list};
 ghost use Rattle.machine.specs.Effect.{AreRising, conclusion_of, effect, invocations_after};
@@ -12,7 +12,7 @@ use crate::problems::{rejection_of, started_by};
 use q773_comp::{Component, Rejection};
 use std::alloc::{AllocError, Global};
 
-/// How invocations stand: whether one has failed, and whether one waits for its answer.
+/// The conclusion: whether an invocation has failed, and whether one still waits for its answer.
 #[tactic(auto, unfolding(machine::specs::Effect::conclusion_of))]
 fn conclusion_of(has_failed: bool, still_sent: bool) -> Conclusion
     ensures { concluded result ≡ conclusion_of has_failed still_sent }
@@ -26,7 +26,7 @@ fn conclusion_of(has_failed: bool, still_sent: bool) -> Conclusion
     }
 }
 
-/// Puts a Reject behind the others, if there is one.
+/// Appends a Reject, if there is one.
 fn push_rejection(
     rejects: &mut Vec<Rejection>,
     rejection: Option<Rejection>,
@@ -39,8 +39,7 @@ fn push_rejection(
     Ok(())
 }
 
-/// Moves the invocations through the components, one by one, and tells their effect. Where a growth is refused, some may
-/// have moved.
+/// Applies the components to the invocations, one by one, and returns the effect. On error some may have been applied.
 pub(crate) fn receive_each<P>(
     alloc: Global,
     offer: &Offer,
@@ -69,7 +68,7 @@ pub(crate) fn receive_each<P>(
     })
 }
 
-/// Moves the invocations through the components, one by one. Takes no memory.
+/// Applies the components to the invocations, one by one. Does not allocate.
 pub(crate) fn conclude_each<P>(list: &mut Vec<Invocation>, components: &[Component<P>], now: u64)
     requires rising { AreRising list.old.items }
     requires early { now ≤ 2 ^ 62 }
@@ -80,7 +79,7 @@ pub(crate) fn conclude_each<P>(list: &mut Vec<Invocation>, components: &[Compone
     }
 }
 
-/// What the components of a Begin do, whose dialogue has no invocations yet.
+/// What the components of a Begin do. Its dialogue has no invocations yet.
 pub fn effect_of_begin<P>(
     alloc: Global,
     offer: &Offer,

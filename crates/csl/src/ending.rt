@@ -1,4 +1,4 @@
-//! How a component concludes an invocation.
+//! How a component concludes an invocation (Q.774, operations of class 1).
 
 ghost use Rattle.std.specs.Prelude.{◌≡◌, IfSome, FitsSigned, Some};
 ghost use Rattle.std.specs.Int.{w8};
@@ -7,12 +7,12 @@ ghost use Rattle.csl.specs.Endings.{ending, is_failing};
 
 use q773_comp::{Component, Side};
 
-/// How an invocation in Operation Sent is concluded (Q.774).
+/// How an invocation in Operation Sent is concluded.
 #[derive(Clone, Copy)]
 pub(crate) enum How {
-    /// A last result.
+    /// A ReturnResultLast.
     Succeeds,
-    /// An error.
+    /// A ReturnError.
     Fails,
     /// A Reject of the Invoke.
     IsRejected,
@@ -35,8 +35,8 @@ pub(crate) fn is_failing(how: How) -> bool
     }
 }
 
-/// The ending that a component is, if it can conclude an invocation. A Reject ends one where its problem is general or
-/// of the Invoke.
+/// The ending that a component causes, if it can conclude an invocation. A Reject does if its problem is a general or an
+/// invoke problem.
 pub(crate) fn ending_of<P>(component: &Component<P>) -> Option<Ending>
     ensures exact { result ≡ ending (heard component.now) }
     // A caller that looks for the id needs its range.

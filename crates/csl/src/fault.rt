@@ -1,15 +1,15 @@
-//! Why nothing is invoked.
+//! Why an operation was not invoked.
 
 use std::alloc::AllocError;
 use thiserror::Error;
 
-/// Why nothing is invoked.
+/// Why an operation was not invoked.
 #[derive(Clone, Copy, Debug, PartialEq, Eq, Drop, Error)]
 pub enum CslFault {
-    /// The invoke id is in Operation Sent or Wait for Reject.
+    /// The invoke id is in use: in Operation Sent or Wait for Reject.
     #[error("invoke id in use")]
     IdInUse,
-    /// A growth was refused.
+    /// Out of memory.
     #[error("out of memory")]
     Memory,
 }

@@ -1,4 +1,4 @@
-//! One own invocation.
+//! One own invocation (Q.774, invocation state machine).
 
 ghost use Rattle.std.specs.Prelude.{◌≡◌, ◌≤◌, ◌^◌, ◌+◌, FitsSigned};
 ghost use Rattle.std.specs.Int.{w8};
@@ -13,13 +13,13 @@ use deadlines::Timer;
 use hlr_types::Tid;
 use std::marker::Model;
 
-/// How long an answer is waited for, in ticks of the shard's clock (profile).
+/// The invocation timer, in ticks of the shard's clock (profile).
 const INVOCATION_TIMER: u64 = 20;
 
-/// How long a Reject of the answer is waited for (profile).
+/// The reject timer: how long to wait for a Reject of the answer (profile).
 const REJECT_TIMER: u64 = 5;
 
-/// An own invocation in Operation Sent or Wait for Reject, with the time at which its timer runs out.
+/// An own invocation in Operation Sent or Wait for Reject, with the time at which its timer expires.
 #[derive(Clone, Copy)]
 pub(crate) struct Invocation {
     id: i8,
@@ -74,7 +74,7 @@ impl Invocation {
         self.was == Was::Sent
     }
 
-    /// Answered now, it waits for a Reject of its answer.
+    /// It is answered now: Wait for Reject, with the reject timer.
     pub(crate) fn wait(&mut self, now: u64)
         requires { now ≤ 2 ^ 62 }
         ensures { self.new ≡ record { id = self.old.id; was = WaitForReject; deadline = now + reject_timer } }

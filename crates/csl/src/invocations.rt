@@ -1,4 +1,4 @@
-//! The invocations of a shard.
+//! The own invocations of a shard (Q.774, component sublayer).
 
 ghost use Rattle.std.specs.Prelude.{◌≡◌, ◌<◌, ◌≤◌, ◌^◌, ◌-◌, ◌↔◌, [], map, Some, Err, IsSome, IfOk, IfSome, IfNone, OnOk, OnErr, FitsSigned};
 ghost use Rattle.std.specs.Int.{w8};
@@ -58,8 +58,8 @@ impl Invocations {
         }
     }
 
-    /// Invokes an operation: its invoke id is then in Operation Sent, with its timer. All operations here are of class 1,
-    /// so it makes no difference which it is (profile). Where it is refused, nothing has changed.
+    /// Invokes an operation (TC-INVOKE): its invoke id goes to Operation Sent, with its timer. The operation is not used: all are
+    /// of class 1 (profile). On error nothing changes.
     pub fn invoke(&mut self, id: Tid, invoke: i8, _operation: u8, now: u64) -> Result<(), CslFault>
         requires { now ≤ 2 ^ 62 }
         ensures ok { OnOk result (self.new ≡ put_list self.old id (with_one (invoked now invoke) (invocations_at self.old id))) }
@@ -76,8 +76,8 @@ impl Invocations {
         Ok(())
     }
 
-    /// Invokes 1 up to `count` in a dialogue that opens, all of them or none. They are in the place of the invocations
-    /// that the dialogue had, if it had any.
+    /// Invokes the ids 1 to `count` in a dialogue that opens, all of them or none. They replace any invocations that the
+    /// dialogue had.
     pub fn invoke_each(&mut self, id: Tid, count: u8, now: u64) -> Result<(), AllocError>
         requires some { 0 < count }
         requires most { count < 128 }
@@ -89,7 +89,7 @@ impl Invocations {
         self.replace(id, list)
     }
 
-    /// What received components do to the invocations of a dialogue. Changes nothing.
+    /// Returns what received components do to the invocations of a dialogue. Changes nothing.
     pub fn effect<P>(
         &self,
         id: Tid,
@@ -104,8 +104,8 @@ impl Invocations {
         receive_each(self.alloc, offer, &mut list, components, now)
     }
 
-    /// Moves the invocations of a dialogue through received components, with their timers, and tells the effect. Where a
-    /// growth is refused, nothing has changed.
+    /// Applies received components to the invocations of a dialogue and their timers, and returns the effect. On error nothing
+    /// changes.
     pub fn receive<P>(
         &mut self,
         id: Tid,
@@ -124,7 +124,7 @@ impl Invocations {
         Ok(effect)
     }
 
-    /// Moves the invocations of a dialogue as `receive` does, once `effect` has told the effect.
+    /// Updates the invocations of a dialogue as `receive` does, after `effect` returned the effect.
     pub fn conclude<P>(
         &mut self,
         id: Tid,
@@ -140,8 +140,8 @@ impl Invocations {
         self.replace(id, list)
     }
 
-    /// Of the timers that are not after `now` the least: by time, then by the octets of the local id, then by the invoke
-    /// id as a signed number.
+    /// The least of the timers that are not after `now`: by time, then by the octets of the local id, then by the invoke id as a
+    /// signed number (profile).
     pub fn least_due(&self, now: u64) -> Option<Due>
         ensures due { IfSome result (λ due. IsNext self.now now due.id due.invoke (was due.was)) }
         ensures none { IfNone result (NoneDue self.now now) }
@@ -160,7 +160,7 @@ impl Invocations {
         })
     }
 
-    /// Takes the least timer that is due, and makes its invocation Idle, that one alone. Takes no memory.
+    /// Handles the least timer that is due (Q.774): its invocation, and no other, becomes Idle. Does not allocate.
     pub fn expire(&mut self, now: u64) -> Option<(Tid, i8, Was)>
         ensures due { IfSome result (λ due. Expires self.old self.new now due.0 due.1 (was due.2)) }
         ensures none { IfNone result (NoneDue self.old now) }
@@ -173,7 +173,7 @@ impl Invocations {
         Some((due.id, due.invoke, due.was))
     }
 
-    /// Makes all invocations of a dialogue Idle. Takes no memory.
+    /// Makes all invocations of a dialogue Idle. Does not allocate.
     pub fn forget(&mut self, id: Tid)
         ensures { self.new ≡ put_list self.old id [] }
     {
@@ -183,7 +183,7 @@ impl Invocations {
         clear_gone(&mut self.deadlines, id, &list, &[]);
     }
 
-    /// Makes an invocation Idle, if there is one. Takes no memory.
+    /// Makes an invocation Idle, if there is one. Does not allocate.
     pub fn forget_one(&mut self, id: Tid, invoke: i8)
         ensures idle { self.new ≡ put_list self.old id (without invoke (invocations_at self.old id)) }
         ensures rising { AreRising (invocations_at self.old id) }
@@ -203,7 +203,7 @@ impl Invocations {
             .collect(self.alloc)
     }
 
-    /// An equal value.
+    /// An equal copy.
     pub fn try_copy(&self) -> Result<Self, AllocError>
         ensures { IfOk result (λ invocations. invocations ≡ self.now) }
     {
@@ -214,7 +214,7 @@ impl Invocations {
         })
     }
 
-    /// Makes these the invocations of a dialogue, with their timers. Where a growth is refused, nothing has changed.
+    /// Makes these the invocations of a dialogue, with their timers. On error nothing changes.
     fn replace(&mut self, id: Tid, list: Vec<Invocation>) -> Result<(), AllocError>
         requires { AreRising list.items }
         ensures ok { OnOk result (self.new ≡ put_list self.old id list.items) }

@@ -1,4 +1,4 @@
-//! What holds of the lists, for the layers above.
+//! What the layers above need of the lists of invocations.
 
 ghost use Rattle.std.specs.Prelude.{◌≡◌, ℕ, ℤ, List, [], map, cond, Some};
 ghost use Rattle.std.specs.FinMap as finite;
@@ -13,14 +13,14 @@ ghost use Rattle.q773_comp.specs.Seen.{component};
 ghost use Rattle.csl.specs.Seen.{heard};
 ghost use Rattle.csl.specs.Tables.{InvocationLists, invocations_at, put_list};
 
-/// Law: to put a list changes the invocations of that dialogue alone.
+/// Law: putting a list changes the invocations of that dialogue only.
 pub fn law_lists_are_put()
     ensures put { (lists : InvocationLists) (id : List ℕ) (vs : List Invocation) (q : List ℕ)
         → invocations_at (put_list lists id vs) q ≡ cond (same id q) vs (invocations_at lists q) }
     ensures none { (q : List ℕ) → invocations_at finite.empty q ≡ [] }
 {}
 
-/// Law: the effect does not look at what stands for a parameter.
+/// Law: the effect does not depend on how a parameter is represented.
 pub fn law_parameters_have_no_effect<P>()
     ensures effect { (f : P → Parameter) (now : ℕ) (offer : Offer) (vs : List Invocation) (cs : List (Component P))
         → effect now offer vs (map (component f) cs) ≡ effect now offer vs (map heard cs) }

@@ -1,5 +1,5 @@
-//! The own invocations of a shard's dialogues (Q.774, operations of class 1): which are in Operation Sent or Wait for
-//! Reject, when their timers run out, and what received components do to them.
+//! The own invocations of a shard's dialogues (Q.774, component sublayer; operations of class 1): which are in Operation Sent
+//! or Wait for Reject, when their timers expire, and what received components do to them.
 #![tactic(auto)]
 
 mod effect;
@@ -12,8 +12,6 @@ mod list;
 mod lists;
 mod offer;
 mod problems;
-#[cfg(test)]
-mod tests;
 mod timers;
 mod was;
 

@@ -1,4 +1,4 @@
-//! The invocations of one dialogue, by rising invoke id. There are few: a look-up goes through them.
+//! The invocations of one dialogue, by ascending invoke id. There are few, so a look-up is a linear search.
 
 ghost use Rattle.std.specs.Prelude.{◌≡◌, ◌<◌, ◌≤◌, ◌^◌, ◌-◌, [], ◌∷◌, position, IfOk, int_lt};
 ghost use Rattle.std.specs.List.{list_any};
@@ -37,7 +37,7 @@ pub(crate) fn any_sent(list: &[Invocation]) -> bool
     list.iter().any(|own| own.is_sent())
 }
 
-/// Concludes the invocation that a component concludes, if any, and says whether the operation failed by it.
+/// Concludes the invocation that a component concludes, if any, and returns whether the operation failed.
 pub(crate) fn conclude<P>(list: &mut Vec<Invocation>, component: &Component<P>, now: u64) -> bool
     requires rising { AreRising list.old.items }
     requires early { now ≤ 2 ^ 62 }
@@ -69,7 +69,7 @@ fn place_above(list: &[Invocation], own: &Invocation) -> Option<usize>
     list.iter().position(|other| own.id() < other.id())
 }
 
-/// The list with one more, at its place by rising ids.
+/// The list with one more invocation, at its place by ascending ids.
 pub(crate) fn with_one(
     alloc: Global,
     list: &[Invocation],
@@ -85,7 +85,7 @@ pub(crate) fn with_one(
     Ok(longer)
 }
 
-/// The first invocations of a dialogue: 1 up to `count`, all invoked now.
+/// The first invocations of a dialogue: the ids 1 to `count`, all invoked now.
 pub(crate) fn first_invoked(
     alloc: Global,
     count: u8,

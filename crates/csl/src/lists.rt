@@ -13,7 +13,7 @@ use std::alloc::{AllocError, Global};
 use std::collections::BTreeMap;
 use std::marker::Model;
 
-/// The invocations of each dialogue that has some, by rising invoke id.
+/// The invocations of each dialogue that has some, by ascending invoke id.
 #[derive(Drop)]
 pub(crate) struct Lists {
     by_dialogue: BTreeMap<Tid, Vec<Invocation>>,
@@ -52,7 +52,7 @@ impl Lists {
         }
     }
 
-    /// Makes these the invocations of a dialogue. Where it has some already, this takes no memory.
+    /// Makes these the invocations of a dialogue. If it has some already, this does not allocate.
     pub(crate) fn put(&mut self, id: Tid, list: Vec<Invocation>) -> Result<(), AllocError>
         requires { AreRising list.items }
         ensures ok { OnOk result (self.new ≡ put_list self.old id list.items) }
@@ -67,7 +67,7 @@ impl Lists {
         Ok(())
     }
 
-    /// Takes out the invocations of a dialogue, if it has some.
+    /// Removes the invocations of a dialogue, if it has some.
     pub(crate) fn remove(&mut self, id: Tid) -> Option<Vec<Invocation>>
         ensures removed { self.new ≡ put_list self.old id [] }
         ensures were { IfSome result (λ list. list.items ≡ invocations_at self.old id) }
@@ -76,7 +76,7 @@ impl Lists {
         self.by_dialogue.remove(&id)
     }
 
-    /// Takes out one invocation, if it is there.
+    /// Removes one invocation, if it is there.
     pub(crate) fn remove_one(&mut self, id: Tid, invoke: i8)
         ensures removed { self.new ≡ put_list self.old id (without invoke (invocations_at self.old id)) }
         ensures rising { AreRising (invocations_at self.old id) }
@@ -93,7 +93,7 @@ impl Lists {
         }
     }
 
-    /// An equal value.
+    /// An equal copy.
     pub(crate) fn try_copy(&self) -> Result<Self, AllocError>
         ensures { IfOk result (λ lists. lists ≡ self.now) }
     {

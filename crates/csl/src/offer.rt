@@ -1,13 +1,13 @@
-//! What is offered to received components, and what they do.
+//! What received components are checked against, and what they do (Q.774, component sublayer).
 
 use crate::was::Was;
 use hlr_types::Tid;
 use q773_comp::Rejection;
 
-/// What the receiver of components offers to the peer.
+/// What the peer may invoke in a dialogue.
 #[derive(Clone, Copy, Debug, PartialEq, Eq)]
 pub struct Offer {
-    /// The invoke id that the peer waits for.
+    /// The invoke id of the peer's own open Invoke.
     pub open_id: Option<i8>,
     /// The code of the operation that the peer may invoke.
     pub operation: Option<u8>,
@@ -17,7 +17,7 @@ pub struct Offer {
     pub typed: bool,
 }
 
-/// How the own invocations of a dialogue stand after received components.
+/// The own invocations of a dialogue after received components (profile).
 #[derive(Clone, Copy, Debug, PartialEq, Eq)]
 pub enum Conclusion {
     /// One was concluded by an error or a Reject.
@@ -35,11 +35,11 @@ pub struct Effect {
     pub rejects: Vec<Rejection>,
     /// The invoke id of what started.
     pub started: Option<i8>,
-    /// How the invocations then stand.
+    /// The conclusion.
     pub conclusion: Conclusion,
 }
 
-/// An own invocation whose timer has run out.
+/// An own invocation whose timer is due.
 #[derive(Clone, Copy, Debug, PartialEq, Eq)]
 pub struct Due {
     /// The local transaction id of its dialogue.

@@ -1,4 +1,4 @@
-//! The Reject of one received component.
+//! The Reject of one received component (Q.774, component sublayer; the problems are those of Q.773).
 
 ghost use Rattle.std.specs.Prelude.{◌≡◌, map, option_map, option_to_list};
 ghost use Rattle.machine.specs.Effect.{in_sent, is_id, is_operation, problem_of, problem_of_start, reject_answer, starts};
@@ -11,7 +11,7 @@ use crate::list::in_sent;
 use crate::offer::Offer;
 use q773_comp::{Code, Component, Rejection, Side};
 
-// Problems of an Invoke (Q.773).
+// Problem codes of an Invoke (Q.773).
 const DUPLICATE_INVOKE_ID: u8 = 0;
 
 const UNRECOGNIZED_OPERATION: u8 = 1;
@@ -24,7 +24,7 @@ const UNRECOGNIZED_LINKED_ID: u8 = 5;
 
 const LINKED_RESPONSE_UNEXPECTED: u8 = 6;
 
-/// The problem of a result or of an error that answers no invocation (Q.773).
+/// The problem code of a result or an error for no invocation (Q.773).
 const UNRECOGNIZED_INVOKE_ID: u8 = 0;
 
 /// Whether this is the id.
@@ -91,7 +91,7 @@ fn linked_to(list: &[Invocation], linked: Option<i8>) -> Option<bool>
     }
 }
 
-/// The Reject of a result or an error, where it answers nothing.
+/// The Reject of a result or an error for no invocation in Operation Sent.
 fn reject_answer(list: &[Invocation], id: i8, of: Side) -> Option<Rejection>
     ensures { option_to_list (option_map rejection result) ≡ reject_answer id (side of) (in_sent id list.now) }
 {
@@ -105,8 +105,8 @@ fn reject_answer(list: &[Invocation], id: i8, of: Side) -> Option<Rejection>
     })
 }
 
-/// The Reject of a component, if any, with the invocations as the components before it leave them. What started is of
-/// no concern to the first. A Reject is never answered.
+/// The Reject of a component, if any, with the invocations as the components before it leave them. `started` is ignored for
+/// the first component. A Reject is never answered.
 pub(crate) fn rejection_of<P>(
     offer: &Offer,
     list: &[Invocation],
@@ -145,7 +145,7 @@ pub(crate) fn rejection_of<P>(
     }
 }
 
-/// The invoke id of what starts: the first component, where it is an Invoke without a problem.
+/// The invoke id of what starts: the first component, if it is an Invoke without a problem.
 pub(crate) fn started_by<P>(
     offer: &Offer,
     list: &[Invocation],

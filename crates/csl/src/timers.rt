@@ -25,7 +25,7 @@ pub(crate) fn timers_of(
     list.iter().map(|own| own.timer(id)).collect(alloc)
 }
 
-/// Takes out the deadlines of those of a dialogue's invocations that are not kept. Takes no memory.
+/// Removes the deadlines of those of a dialogue's invocations that are not kept. Does not allocate.
 pub(crate) fn clear_gone(
     deadlines: &mut Deadlines,
     id: Tid,
@@ -41,7 +41,7 @@ pub(crate) fn clear_gone(
     }
 }
 
-/// Takes out these deadlines. Takes no memory.
+/// Removes these deadlines. Does not allocate.
 pub(crate) fn clear_timers(deadlines: &mut Deadlines, timers: &[Timer])
     ensures { (k : due.Invocation) → finite.get deadlines.new k ≡ cond (list_any (λ (timer : Timer). is_invocation timer.invocation k) timers.now) None (finite.get deadlines.old k) }
 {

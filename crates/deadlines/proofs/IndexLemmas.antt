@@ -1,4 +1,4 @@
--- The two indexes go on together.
+-- The two indexes change together.
 use Rattle.std.proofs.Common.{◌≡◌, ℕ, Bool, true, false, cond, not, ◌||◌, ◌⊎◌, inl, inr, Option, Some, None, refl, sym, ap, ◌∙◌, subst}
 use Rattle.std.specs.Prelude.{Result, Ok, Err, OnOk, OnErr}
 use Rattle.deadlines.specs.declared.timer.Invocation.{Invocation}
@@ -21,7 +21,7 @@ or_right false b e = e
 some_same : (x y : ℕ) → Some x ≡ Some y → x ≡ y
 some_same x y e = cc
 
--- a deadline is put in: the one before is stale
+-- a deadline is put in: the old one is stale
 module _ (stale : Timer → Bool) (M0 M1 : Invocation → Option ℕ) (S0 S1 : Timer → Bool) (timer : Timer)
     (map_put : (q : Invocation) → M1 q ≡ cond (is_invocation timer.invocation q) (Some timer.deadline) (M0 q))
     (index_put : (t : Timer) → S1 t ≡ cond (is_timer timer t) true (S0 t)) (is : IsIndexBut stale M0 S0) where
@@ -62,7 +62,7 @@ module _ (stale : Timer → Bool) (M0 M1 : Invocation → Option ℕ) (S0 S1 : T
   pub after_put : IsIndexBut (λ t. stale t || was (M0 timer.invocation) timer.invocation t) M1 S1
   after_put = record { all = put_all; only = put_only }
 
--- the deadline before goes out of the index by time, unless it stands in the map again
+-- the old deadline is removed from the index by time, unless it is in the map again
 pub after_drop : (stale : Timer → Bool) (before : Option ℕ) (k : Invocation) (M : Invocation → Option ℕ) (S2 S3 : Timer → Bool)
     → ((t : Timer) → M t.invocation ≡ Some t.deadline → S3 t ≡ S2 t) → ((t : Timer) → S3 t ≡ true → S2 t ≡ true)
     → ((t : Timer) → was before k t ≡ true → S3 t ≡ true → M t.invocation ≡ Some t.deadline)
@@ -79,7 +79,7 @@ after_drop stale before k M S2 S3 kept gone dropped is = record { all = λ t e. 
       | inr o ↦ either t (stale t) refl o h
     ]
 
--- what was put in is taken back
+-- what was put in is undone
 pub taken_map : (k : Invocation) (d : ℕ) (before : Option ℕ) (M0 M1 M2 M3 : Invocation → Option ℕ) → before ≡ M0 k
     → ((q : Invocation) → M1 q ≡ cond (is_invocation k q) (Some d) (M0 q)) → ((q : Invocation) → M2 q ≡ M1 q)
     → ((q : Invocation) → M3 q ≡ cond (is_invocation k q) before (M2 q)) → (q : Invocation) → M3 q ≡ M0 q
@@ -113,14 +113,14 @@ index_of_but M S is = record { all = is.all; only = λ t h. elim (is.only t h) [
 pub but_of_index : (M : Invocation → Option ℕ) (S : Timer → Bool) → IsIndex M S → IsIndexBut (λ t. false) M S
 but_of_index M S is = record { all = is.all; only = λ t h. inl (is.only t h) }
 
--- what answers alike is an index too
+-- equal functions are an index too
 pub index_alike : (M N : Invocation → Option ℕ) (S T : Timer → Bool) → ((q : Invocation) → N q ≡ M q) → ((t : Timer) → T t ≡ S t) → IsIndex M S → IsIndex N T
 index_alike M N S T m s is = record {
   all = λ t e. s t ∙ is.all t (sym (m t.invocation) ∙ e);
   only = λ t h. m t.invocation ∙ is.only t (sym (s t) ∙ h);
 }
 
--- a deadline goes
+-- a deadline is removed
 pub index_clear : (M N : Invocation → Option ℕ) (S T : Timer → Bool) (k : Invocation) (d : ℕ) → M k ≡ Some d
     → ((q : Invocation) → N q ≡ cond (is_invocation k q) None (M q)) → ((t : Timer) → T t ≡ cond (is_timer (record { deadline = d; invocation = k }) t) false (S t))
     → IsIndex M S → IsIndex N T
@@ -158,7 +158,7 @@ index_clear M N S T k d had m s is = record { all = all; only = only }
                 sym (own_timer (record { deadline = d; invocation = k }) t it) ∙ other
             differ false own e = refl
 
--- a deadline that an invocation had, and has no more, goes
+-- a deadline that an invocation no longer has is removed
 pub was_same : (before : Option ℕ) (d : ℕ) (k : Invocation) (t : Timer) → before ≡ Some d → was before k t ≡ true → record { deadline = d; invocation = k } ≡ t
 was_same None d k t e w = cc
 was_same (Some n) d k t e w = ap (λ (n : ℕ). record { deadline = n; invocation = k }) (sym (some_same n d e)) ∙ same_timer (record { deadline = n; invocation = k }) t w
@@ -181,7 +181,7 @@ drop_gone x S T drop t h = by_case (is_timer x t) refl
     by_case true own = let e : false ≡ true = sym (drop t ∙ ap (λ b. cond b false (S t)) own) ∙ h in cc
     by_case false other = sym (drop t ∙ ap (λ b. cond b false (S t)) other) ∙ h
 
--- whether the deadlines were put in or refused, what is left is an index
+-- whether putting in the deadlines succeeded or failed, the result is an index
 pub index_kept : {A E : Type 0} (r : Result A E) (M N : Invocation → Option ℕ) (S T : Timer → Bool)
     → OnOk r ((stale : Timer → Bool) → IsIndexBut stale M S → IsIndexBut stale N T) → OnErr r ((q : Invocation) → N q ≡ M q) → OnErr r ((t : Timer) → T t ≡ S t)
     → IsIndex M S → IsIndex N T

@@ -1,4 +1,4 @@
--- The orders of invocations and of deadlines are total, and tell them apart.
+-- The orders of invocations and of deadlines are total, and only equal keys compare equal.
 use Rattle.std.proofs.Common.{◌≡◌, ◌<◌, ℕ, ℤ, true, false, List, ap, sym, ◌∙◌}
 use Rattle.std.specs.declared.cmp.Ordering.TheVariants.{Less, Greater}
 use Rattle.std.specs.Ordering.{nat_cmp, int_cmp, ordering_then, ordering_reverse, is_eq, is_gt}
@@ -37,7 +37,7 @@ own_invocation k q e = ap (is_invocation k) (sym e) ∙ ap is_eq (tied_itself in
 pub own_timer : (t u : Timer) → t ≡ u → is_timer t u ≡ true
 own_timer t u e = ap (is_timer t) (sym e) ∙ ap is_eq (tied_itself timer_total t)
 
--- what is not greater than the other way round is not less
+-- if the second is not greater than the first, the first is not less
 pub not_less : (a b : Timer) → is_gt (timer_cmp a b) ≡ false → timer_cmp b a ≡ Less → ⊥
 not_less a b e l =
     let r : timer_cmp a b ≡ Greater = timer_total.antisymm a b ∙ ap ordering_reverse l in

@@ -1,4 +1,4 @@
--- Deadlines of own invocations, as a finite map, and which is the least that is due.
+-- Deadlines of own invocations (Q.774), as a finite map, and the least that is due.
 use Rattle.std.specs.Prelude.{◌≡◌, ◌≢◌, ◌≤◌, ◌<◌, ℕ, ℤ, List, [], ◌∷◌, Some, refl}
 use Rattle.std.specs.declared.cmp.Ordering.{Ordering}
 use Rattle.std.specs.declared.cmp.Ordering.TheVariants.{Less}
@@ -21,11 +21,11 @@ timer_of deadline id invoke = record { deadline = deadline; invocation = invocat
 abbrev pub invocation_cmp : Invocation → Invocation → Ordering
 invocation_cmp a b = ordering_then (octets_cmp a.id b.id) (int_cmp a.invoke b.invoke)
 
--- Deadlines are ordered by time, and at one time by invocation.
+-- Deadlines are ordered by time, then by invocation.
 abbrev pub timer_cmp : Timer → Timer → Ordering
 timer_cmp a b = ordering_then (nat_cmp a.deadline b.deadline) (invocation_cmp a.invocation b.invocation)
 
--- The deadlines: a finite map of invocation to time.
+-- The deadlines: a finite map from invocation to time.
 abbrev pub DeadlineMap : Type 0
 DeadlineMap = map.FinMap invocation_cmp ℕ
 
@@ -35,21 +35,21 @@ coded_invocation = code_by (List ℕ × ℤ) (coded× (coded_list coded_ℕ) cod
 abbrev pub deadline_map_code : Coded DeadlineMap
 deadline_map_code = map.code coded_invocation coded_ℕ
 
--- Each of these set in turn, in place of the deadline that the invocation had.
+-- Each of these set in turn; replaces the invocation's old deadline.
 abbrev pub set_all : DeadlineMap → List Timer → DeadlineMap
 set_all m [] = m
 set_all m (t ∷ ts) = set_all (map.insert m t.invocation t.deadline) ts
 
--- The deadline stands in the map.
+-- The deadline is in the map.
 abbrev pub IsSet : DeadlineMap → Timer → Type 0
 IsSet m t = map.get m t.invocation ≡ Some t.deadline
 
--- This deadline stands in the map and has come, and no other that stands there is before it.
+-- This deadline is in the map and due, and no other in the map is before it.
 pub record IsLeastDue (m : DeadlineMap) (now : ℕ) (due : Timer) : Type 0 where
   pub set : IsSet m due
   pub come : due.deadline ≤ now
   pub least : (t : Timer) → IsSet m t → timer_cmp t due ≢ Less
 
--- No deadline has come.
+-- No deadline is due.
 abbrev pub NoneDue : DeadlineMap → ℕ → Type 0
 NoneDue m now = (t : Timer) → IsSet m t → now < t.deadline

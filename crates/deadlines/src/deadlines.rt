@@ -1,4 +1,4 @@
-//! The deadlines, by invocation and by time.
+//! The deadlines, indexed by invocation and by time.
 
 ghost use Rattle.std.specs.Prelude.{◌≡◌, ◌∷◌, [], option_map, OnOk, OnErr, IfOk, IfSome, IfNone, FitsSigned, Some};
 ghost use Rattle.std.specs.Int.{w8};
@@ -12,7 +12,7 @@ use std::alloc::{AllocError, Global};
 use std::collections::{BTreeMap, BTreeSet};
 use std::marker::Model;
 
-/// A deadline for each of some invocations, seen as the finite map of invocation to time.
+/// The deadlines of invocations. Contracts see them as a finite map from invocation to time.
 #[derive(Drop)]
 pub struct Deadlines {
     by_invocation: BTreeMap<Invocation, u64>,
@@ -45,7 +45,7 @@ impl Deadlines {
         }
     }
 
-    /// Sets the deadline of an invocation, in place of the one that it had. Where a growth is refused, nothing has changed.
+    /// Sets the deadline of an invocation; replaces the one that it had. On error nothing changes.
     pub fn set(&mut self, id: Tid, invoke: i8, deadline: u64) -> Result<(), AllocError>
         ensures ok { OnOk result (self.new ≡ map.insert self.old (invocation_of id invoke) deadline) }
         ensures err { OnErr result (self.new ≡ self.old) }
@@ -56,7 +56,7 @@ impl Deadlines {
         })
     }
 
-    /// The same as `set`, for callers that keep invocations.
+    /// Like `set`, for callers that have a `Timer`.
     pub fn set_timer(&mut self, timer: Timer) -> Result<(), AllocError>
         ensures ok { OnOk result (self.new ≡ map.insert self.old timer.invocation timer.deadline) }
         ensures err { OnErr result (self.new ≡ self.old) }
@@ -64,8 +64,7 @@ impl Deadlines {
         self.set_each(&[timer])
     }
 
-    /// Sets each of these in turn, in place of the deadlines that the invocations had. Where a growth is refused, none of
-    /// them is set.
+    /// Sets all of these in turn; replaces the deadlines that the invocations had. On error nothing changes.
     pub fn set_each(&mut self, timers: &[Timer]) -> Result<(), AllocError>
         ensures ok { OnOk result (self.new ≡ set_all self.old timers.now) }
         ensures err { OnErr result (self.new ≡ self.old) }
@@ -73,14 +72,14 @@ impl Deadlines {
         put_each(&mut self.by_invocation, &mut self.by_deadline, timers)
     }
 
-    /// Takes out the deadline of an invocation, if it has one. Takes no memory.
+    /// Removes the deadline of an invocation, if it has one. Does not allocate.
     pub fn clear(&mut self, id: Tid, invoke: i8)
         ensures { self.new ≡ map.remove self.old (invocation_of id invoke) }
     {
         self.clear_timer(Invocation { id, invoke });
     }
 
-    /// The same as `clear`, for callers that keep invocations.
+    /// Like `clear`, for callers that have an `Invocation`.
     pub fn clear_timer(&mut self, invocation: Invocation)
         ensures { self.new ≡ map.remove self.old invocation }
     {
@@ -99,8 +98,8 @@ impl Deadlines {
         self.by_invocation.get(&invocation).copied()
     }
 
-    /// Of the deadlines that are not after `now` the least: by time, then by the octets of the local id, then by the
-    /// invoke id as a signed number.
+    /// The least of the deadlines that are not after `now`: by time, then by the octets of the local id, then by the invoke id
+    /// as a signed number (profile).
     pub fn least_due(&self, now: u64) -> Option<(u64, Tid, i8)>
         ensures due { IfSome result (λ due. IsLeastDue self.now now (timer_of due.0 due.1 due.2)) }
         ensures none { IfNone result (NoneDue self.now now) }
@@ -115,7 +114,7 @@ impl Deadlines {
         Some((deadline, id, invoke))
     }
 
-    /// The same as `least_due`, for callers that keep invocations.
+    /// Like `least_due`, for callers that use a `Timer`.
     pub fn least_timer(&self, now: u64) -> Option<Timer>
         ensures due { IfSome result (IsLeastDue self.now now) }
         ensures none { IfNone result (NoneDue self.now now) }
@@ -130,7 +129,7 @@ impl Deadlines {
         }
     }
 
-    /// An equal value.
+    /// An equal copy.
     pub fn try_copy(&self) -> Result<Self, AllocError>
         ensures { IfOk result (λ deadlines. deadlines ≡ self.now) }
     {

@@ -9,7 +9,7 @@ use crate::timer::{Invocation, Timer};
 use std::alloc::AllocError;
 use std::collections::{BTreeMap, BTreeSet};
 
-/// Sets each of these in turn, or none: what was set is taken back where a later one is refused.
+/// Sets all of these in turn, or none: if a later one fails, the earlier ones are undone.
 pub(crate) fn put_each(
     by_invocation: &mut BTreeMap<Invocation, u64>,
     by_deadline: &mut BTreeSet<Timer>,
@@ -36,7 +36,7 @@ pub(crate) fn put_each(
     Err(refused)
 }
 
-/// What was there when a deadline was put in: the one that the invocation had, and whether the new one is new to the
+/// What was there before a deadline was put in: the invocation's old deadline, and whether the new one was missing in the
 /// index by time.
 #[derive(Clone, Copy)]
 struct Before {
@@ -44,7 +44,7 @@ struct Before {
     is_new: bool,
 }
 
-/// Puts a deadline into both indexes, or into none. The one that the invocation had stays in the index by time.
+/// Puts a deadline into both indexes, or into none. The invocation's old deadline stays in the index by time.
 fn put(
     by_invocation: &mut BTreeMap<Invocation, u64>,
     by_deadline: &mut BTreeSet<Timer>,
@@ -72,7 +72,7 @@ fn put(
     }
 }
 
-/// Takes the deadline that an invocation had out of the index by time, unless the invocation has it still.
+/// Removes an invocation's old deadline from the index by time, unless it is also the new one.
 fn drop_stale(
     by_invocation: &BTreeMap<Invocation, u64>,
     by_deadline: &mut BTreeSet<Timer>,
@@ -108,7 +108,7 @@ fn has_deadline(
     }
 }
 
-/// Gives an invocation that has a deadline this one in its place, or none. Takes no memory.
+/// Replaces the deadline of an invocation that has one, or removes it. Does not allocate.
 fn give_deadline(
     by_invocation: &mut BTreeMap<Invocation, u64>,
     invocation: Invocation,

@@ -1,11 +1,9 @@
-//! The deadlines of a shard's own invocations: when each runs out (Q.774, the invocation timer), and which of those that
-//! are due is the least.
+//! The deadlines of a shard's own invocations (Q.774, invocation timer and reject timer), and which of those that are due is
+//! the earliest.
 #![tactic(auto)]
 
 mod deadlines;
 mod index;
-#[cfg(test)]
-mod tests;
 mod timer;
 
 pub use deadlines::Deadlines;

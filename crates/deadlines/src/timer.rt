@@ -10,7 +10,7 @@ pub struct Invocation {
     pub invoke: i8,
 }
 
-/// A deadline of an invocation, in the unit of the clock. They are ordered by time, and at one time by invocation.
+/// A deadline of an invocation, in clock ticks. Deadlines are ordered by time, then by invocation.
 #[derive(Clone, Copy, Debug, PartialEq, Eq, PartialOrd, Ord)]
 pub struct Timer {
     pub deadline: u64,

@@ -16,7 +16,7 @@ use Rattle.dialogues.proofs.JoinLemmas.{dialogues-joined}
 use Rattle.dialogues.proofs.NewIdLemmas.{machine_id}
 
 module _ (t : OpenTransactions) (lists : InvocationLists) (talks : List Talk) (tied : AreTied t lists talks) where
-  -- where an invocation stands, a transaction is open
+  -- if there is an invocation, a transaction is open
   standing_open : (i : List ℕ) (j : ℤ) (v : Invocation) → invocation_of j (invocations_at lists i) ≡ Some v → at t i ≢ None
   standing_open i j v stands none =
       let gone : None ≡ Some v = sym (ap (invocation_of j) (tied.only_open i none)) ∙ stands in cc

@@ -1,4 +1,4 @@
--- A full shard, told by how many transactions are open.
+-- A full shard, by the number of open transactions.
 use Rattle.std.proofs.Common.{◌≡◌, ◌≢◌, ◌<◌, ◌↔◌, inl, inr, ℕ, List, [], ◌∷◌, Bool, true, false, not, ◌&&◌, ◌||◌, Option, Some, None, length, map, refl, sym, ap, ◌∙◌, subst, arith, T, IsTrue}
 use Rattle.std.specs.List.{list_any}
 use Rattle.std.specs.Option.{option_map, is_some, IsNone}
@@ -129,7 +129,7 @@ full_iff t lists talks d view tied P told =
     subst (λ (e : OpenDialogues). (S : State) → S.dialogues ≡ dialogues_of e → P ↔ IsFull S e.shard) view
     (λ S is. ((λ p. full t lists talks tied S is (told.0 p)), (λ f. told.1 (full_only t lists talks tied S is f))))
 
--- what `is_none` answers
+-- the result of `is_none`
 pub told_none : {X : Type 0} (o : Option X) (b : Bool) (P : Type 0) → is_some o ≡ not b → IsNone o ↔ P → IsTrue b ↔ P
 told_none None true P e none = ((λ _. none.0 refl), (λ _. refl))
 told_none None false P e none = absurd cc

@@ -1,4 +1,4 @@
--- The tables as one: what is open at an id.
+-- The joined tables: what is open under an id.
 use Rattle.std.proofs.Common.{◌≡◌, ◌≢◌, ℕ, List, [], ◌∷◌, true, false, cond, ◌&&◌, Option, Some, None, length, map, refl, sym, ap, ◌∙◌, subst, T}
 use Rattle.std.specs.Option.{option_map}
 use Rattle.std.specs.Ordering.{eq_by_cmp, is_lt}

@@ -1,4 +1,4 @@
--- For whom a message is, by the dialogues.
+-- Which dialogue a message is for.
 use Rattle.std.proofs.Common.{◌≡◌, List, ℕ, Option, Some, None, true, false, cond, refl, sym, ap, ◌∙◌}
 use Rattle.std.specs.Option.{option_map}
 use Rattle.machine.specs.Keys.{same}

@@ -61,7 +61,7 @@ module _ (id : List ℕ) (t t' : OpenTransactions) (lists lists' : InvocationLis
   pub place_after : AreTied t lists talks → at t id ≢ None → count t' + 1 ≤ 4096
   place_after tied some = omega (arith, ap count closes ∙ count-closed t id some, tied.few)
 
--- what a caller says to be open, is
+-- what a caller claims to be open is open
 pub open_here : (t : OpenTransactions) (lists : InvocationLists) (talks : List Talk) (d : OpenDialogues) (id : List ℕ) → joined t lists talks ≡ d → dialogues_of d id ≢ None → at t id ≢ None
 open_here t lists talks d id view some = transaction_open t lists talks id (subst (λ (e : OpenDialogues). dialogues_of e id ≢ None) (sym view) some)
 
@@ -89,7 +89,7 @@ module _ (t s : OpenTransactions) (lists : InvocationLists) (talks roomy : List 
 
 -- ---- one opens
 
--- where an id is next, there is a place for one more
+-- if there is a next id, there is room for one more
 pub place_for_one : (t : OpenTransactions) (next : Option (List ℕ)) (id : List ℕ) → next ≡ Some id → IsNone next ↔ (count t ≡ 4096) → count t ≤ 4096 → count t + 1 ≤ 4096
 place_for_one t next id some none few =
     let not_full : count t ≢ 4096 = λ full. let h : IsNone next = none.1 full in let gone : IsNone (Some id) = subst IsNone some h in cc in
@@ -98,7 +98,7 @@ place_for_one t next id some none few =
 pub open_when_begun : (s t' : OpenTransactions) (id : List ℕ) (x : Transaction) → Begins s id x t' → at t' id ≡ Some x
 open_when_begun s t' id x b = ap (λ (u : OpenTransactions). at u id) b.after ∙ get-inserted s.open_ones id x id ∙ ap (λ c. cond c (Some x) (at s id)) (same_refl id)
 
--- the one that begins has the id that was the next
+-- the one that begins has the id that was next
 pub begun_next : (t s t' : OpenTransactions) (id begun : List ℕ) (x : Transaction) → t.next ≡ Some id → s ≡ record t { room = s.room } → Begins s begun x t' → id ≡ begun
 begun_next t s t' id begun x next more b =
     let known : Some begun ≡ Some id = sym b.was_next ∙ ap (λ (u : OpenTransactions). u.next) more ∙ next in cc
@@ -164,7 +164,7 @@ module _ (id next : List ℕ) (apart : id ≢ next) (vs : List Invocation) (list
       by false true e f = refl
       by false false e f = refl
 
--- the id that the next one has is another
+-- the id of the next one differs
 pub next_apart : (t : OpenTransactions) (id next : List ℕ) → MayBegin (closed t id) next → id ≢ next
 next_apart t id next may e = may.not_freed_last (ap Some e)
 

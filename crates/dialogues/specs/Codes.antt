@@ -1,4 +1,4 @@
--- Codes of the machine's dialogues, by which proofs tell values apart.
+-- Codes of the machine's dialogues, by which proofs distinguish values.
 use Rattle.std.specs.Prelude.{◌≡◌, ◌⊎◌, ℕ, ℤ, List, Bool, true, false, Option, Some, None, refl}
 use mathlib.Core.Logic.{inl, inr}
 use Rattle.std.specs.Coded.{Coded, code_by, coded×, coded⊎, coded_ℕ, coded_ℤ, coded_bool, coded_list, coded_option}
@@ -28,7 +28,7 @@ abbrev pub cancellation_kept : (why : CancellationType) → cancellation_of (is_
 cancellation_kept UpdateProcedure = refl
 cancellation_kept SubscriptionWithdraw = refl
 
--- What a kind holds: that of an update, that of a cancel, or nothing.
+-- The data of a kind: of an update, of a cancel, or none.
 abbrev pub Held : Type 0
 Held = Option ((Register × ℤ) ⊎ (List ℕ × (ℕ × Bool)))
 

@@ -1,4 +1,4 @@
--- The open dialogues of a shard, as a finite map from local transaction ids.
+-- The open dialogues of a shard (Q.774, TS 29.002), as a finite map from local transaction ids.
 use Rattle.std.specs.Prelude.{◌≡◌, ℕ, ℤ, List, [], Option, Some, None, refl}
 use Rattle.std.specs.Coded.{Coded, code_by, coded×, coded_ℕ, coded_option}
 use Rattle.std.specs.FinMap as map
@@ -10,7 +10,7 @@ use Rattle.machine.specs.State.{Invocation, Dialogue, IsIdOf}
 use Rattle.tsl.specs.Transactions.{active}
 use Rattle.dialogues.specs.Codes.{coded_octets, coded_dialogue}
 
--- The open dialogues of a shard by local id, and the id under which the next one opens, if there is room for one.
+-- The open dialogues of a shard by local id, and the id for the next one, if there is room for one.
 pub record OpenDialogues : Type 0 where
   pub shard : ℕ
   pub next : Option (List ℕ)
@@ -24,7 +24,7 @@ open_dialogues_code =
     (λ p. record { shard = p.0; next = p.1.0; open_ones = p.1.1 })
     (λ _. refl)
 
--- What is open at each local id.
+-- The open dialogue under each local id.
 unfoldable pub dialogues_of : OpenDialogues → List ℕ → Option Dialogue
 dialogues_of d id = map.get d.open_ones id
 
@@ -32,22 +32,22 @@ dialogues_of d id = map.get d.open_ones id
 abbrev pub count : OpenDialogues → ℕ
 count d = map.len d.open_ones
 
--- The invocations of what is open at an id: none, where nothing is.
+-- The invocations of the dialogue that is open under an id; none if none is open.
 abbrev pub invocations_in : Option Dialogue → List Invocation
 invocations_in None = []
 invocations_in (Some d) = d.invocations
 
--- No dialogue is open, and the shard is this one.
+-- The shard has this number, and no dialogue is open.
 pub record IsFresh (n : ℕ) (d : OpenDialogues) : Type 0 where
   pub of_shard : d.shard ≡ n
   pub none_open : dialogues_of d ≡ (λ _. None)
 
--- An id under which a dialogue may open: one of the shard, at which nothing is open.
+-- An id under which a dialogue may open: one of the shard that names no open dialogue.
 pub record IsNew (d : OpenDialogues) (id : List ℕ) : Type 0 where
   pub of_shard : IsIdOf d.shard id
   pub not_open : dialogues_of d id ≡ None
 
--- A dialogue after a Continue: Active, with this peer and the peer's id, and its invocations as the components leave
+-- A dialogue after a Continue (Q.774): Active, with this peer and this remote id, and its invocations as the components leave
 -- them.
 abbrev pub gone_on : {P : Type 0} → (peer remote : List ℕ) → (now : ℕ) → List (ComponentOf P) → Dialogue → Dialogue
 gone_on peer remote now components d =

@@ -1,4 +1,4 @@
-//! An open dialogue.
+//! An open dialogue (TS 29.002).
 
 ghost use Rattle.std.specs.Prelude.{◌≡◌};
 
@@ -7,7 +7,7 @@ use crate::talk::Talk;
 use hlr_types::Imsi;
 use tsl::Transaction;
 
-/// An open dialogue, but for its invocations.
+/// An open dialogue, without its invocations.
 #[derive(Clone, Copy, Debug, PartialEq, Eq)]
 pub struct Dialogue {
     pub subscriber: Imsi,
@@ -18,7 +18,7 @@ pub struct Dialogue {
 impl Dialogue {
     ghost use Rattle.dialogues.specs.Joined.{talk_in};
 
-    /// Whom it is about and what it is for.
+    /// Its subscriber and kind.
     pub(crate) fn talk(&self) -> Talk
         ensures { result ≡ talk_in self.now }
     {

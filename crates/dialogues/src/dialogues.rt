@@ -28,8 +28,7 @@ use tsl::{Head, Received, Transactions};
 pub struct Dialogues {
     transactions: Transactions,
     invocations: Invocations,
-    /// Whom each is about and what it is for, by the slot of its id. What is left at the slot of one that closed means
-    /// nothing.
+    /// Subscriber and kind of each dialogue, indexed by the slot of its id. A slot without an open dialogue holds stale data.
     talks: Vec<Talk>,
 }
 
@@ -65,7 +64,7 @@ impl Dialogues {
         })
     }
 
-    /// The dialogue that is open at this id, if one is.
+    /// The open dialogue with this id, if there is one.
     pub fn get(&self, id: Tid) -> Option<Dialogue>
         ensures { option_map (dialogue_with (invocations_in (dialogues_of self.now id))) result
             ≡ dialogues_of self.now id }
@@ -81,15 +80,15 @@ impl Dialogues {
         })
     }
 
-    /// For whom a message is, wherever it comes from: a Continue for the dialogue of its destination id, where the
-    /// transaction table says that it is for it; an End or an Abort for the dialogue that is open at its destination id.
+    /// Which dialogue a message is for, from whatever source (Q.774): a Continue for the dialogue with its destination id, if the
+    /// transaction table accepts it; an End or an Abort for the open dialogue with its destination id.
     pub fn look(&self, head: &Head) -> Received
         ensures { (from : List ℕ) → result ≡ looked from head.now (dialogues_of self.now (destination_of head.now)) }
     {
         self.transactions.look(head)
     }
 
-    /// What received components do to the invocations of a dialogue. Changes nothing.
+    /// Returns what received components do to the invocations of a dialogue. Changes nothing.
     pub fn effect<P>(
         &self,
         id: Tid,
@@ -104,8 +103,8 @@ impl Dialogues {
         self.invocations.effect(id, offer, components, now)
     }
 
-    /// Of the invocations whose timers have run out, the one that an expiry is of: by time, then by the octets of the
-    /// local id, then by the invoke id as a signed number.
+    /// The invocation that an expiry handles: of those whose timer is due the least by time, then by the octets of the local id,
+    /// then by the invoke id as a signed number (profile).
     pub fn least_due(&self, now: u64) -> Option<Due>
         ensures expiry { (S : State) → HasDialogues S self.now now → Expiry S self.now.shard (expiry_turn self.now result) }
         ensures is_open { IfSome result (λ due. dialogues_of self.now due.id ≢ None) }
@@ -115,7 +114,7 @@ impl Dialogues {
         self.invocations.least_due(now)
     }
 
-    /// The id under which the next dialogue opens. There is none exactly where the shard is full.
+    /// The id for the next dialogue that opens. `None` exactly if the shard is full.
     pub fn next_id(&self) -> Option<Tid>
         ensures value { result ≡ self.now.next }
         ensures is_new { IfSome result (IsNew self.now) }
@@ -124,7 +123,7 @@ impl Dialogues {
         self.transactions.next_id()
     }
 
-    /// The id under which the next dialogue opens where this open one closes in the same step.
+    /// The id for a dialogue that opens in the step in which this one closes.
     pub fn next_after(&self, id: Tid) -> Tid
         requires { dialogues_of self.now id ≢ None }
         ensures value { result ≡ next_use id }
@@ -134,7 +133,7 @@ impl Dialogues {
         self.transactions.next_after(id)
     }
 
-    /// Whether as many dialogues are open as may be.
+    /// Whether the shard is full: 4,096 dialogues are open.
     pub fn is_full(&self) -> bool
         ensures full { (S : State) → S.dialogues ≡ dialogues_of self.now → IsTrue result ↔ IsFull S self.now.shard }
         ensures room { IsTrue result ↔ (self.now.next ≡ None) }
@@ -151,7 +150,7 @@ impl Dialogues {
         self.transactions.len()
     }
 
-    /// The ids of the open dialogues, in their order.
+    /// The ids of the open dialogues, in ascending order.
     pub fn list(&self) -> Result<Vec<Tid>, AllocError>
         ensures { IfOk result (λ ids. ids.items ≡ finite.keys self.now.open_ones) }
     {
@@ -165,7 +164,7 @@ impl Dialogues {
         self.invocations.list(id)
     }
 
-    /// An equal value, with room of its own.
+    /// An equal copy.
     pub fn try_copy(&self) -> Result<Self, AllocError>
         ensures { IfOk result (λ dialogues. dialogues ≡ self.now) }
     {
@@ -176,7 +175,7 @@ impl Dialogues {
         })
     }
 
-    /// Closes an open dialogue. Takes no memory.
+    /// Closes an open dialogue. Does not allocate.
     pub fn close(&mut self, id: Tid)
         requires { dialogues_of self.old id ≢ None }
         ensures closed { dialogues_of self.new ≡ put (dialogues_of self.old) id None }
@@ -185,8 +184,7 @@ impl Dialogues {
         close(&mut self.transactions, &mut self.invocations, id);
     }
 
-    /// Opens a dialogue under the next id, and invokes 1 up to `invokes` in it. Where a growth is refused, nothing has
-    /// changed.
+    /// Opens a dialogue under the next id, and invokes the ids 1 to `invokes` in it. On error nothing changes.
     pub fn open(&mut self, dialogue: &Dialogue, invokes: u8, now: u64) -> Result<Tid, AllocError>
         requires room { self.old.next ≢ None }
         requires some { 0 < invokes }
@@ -205,8 +203,8 @@ impl Dialogues {
         Ok(begin(&mut self.transactions, &mut self.talks, dialogue))
     }
 
-    /// Closes an open dialogue and opens another, in a full shard too, under the id that `next_after` tells. Where a growth
-    /// is refused, nothing has changed.
+    /// Closes an open dialogue and opens another, also in a full shard, under the id that `next_after` returns. On error nothing
+    /// changes.
     pub fn replace(
         &mut self,
         id: Tid,
@@ -231,8 +229,8 @@ impl Dialogues {
         Ok(begin(&mut self.transactions, &mut self.talks, dialogue))
     }
 
-    /// An open dialogue goes on after a Continue: it is Active, with this peer and the peer's id, and its invocations are
-    /// as the components leave them. Where a growth is refused, nothing has changed.
+    /// An open dialogue goes on after a Continue (Q.774): it is Active, with this peer and this remote id, and the components are
+    /// applied to its invocations. On error nothing changes.
     pub fn go_on<P>(
         &mut self,
         id: Tid,
@@ -253,7 +251,7 @@ impl Dialogues {
         Ok(())
     }
 
-    /// Forgets an invocation of a dialogue, if there is one. Takes no memory.
+    /// Makes an invocation of a dialogue Idle, if there is one. Does not allocate.
     pub fn forget_one(&mut self, id: Tid, invoke: i8)
         ensures forgotten { dialogues_of self.new ≡ put (dialogues_of self.old) id
             (option_map (forgotten invoke) (dialogues_of self.old id)) }

@@ -1,5 +1,5 @@
-//! The open dialogues of a shard (ITU-T Q.774; 3GPP TS 29.002): the transaction, the invocations, the subscriber and
-//! the kind of each, kept together.
+//! The open dialogues of a shard (ITU-T Q.774; 3GPP TS 29.002): the transaction, the invocations, the subscriber and the MAP
+//! operation of each, kept together.
 #![tactic(auto)]
 
 mod dialogue;
@@ -7,9 +7,8 @@ mod dialogues;
 mod invoke_id;
 mod kind;
 mod parts;
+mod same;
 mod talk;
-#[cfg(test)]
-mod tests;
 
 pub use dialogue::Dialogue;
 pub use dialogues::Dialogues;

@@ -1,4 +1,4 @@
-//! What is done to the tables of open dialogues, in parts that the calls share.
+//! Changes of the tables of open dialogues, shared by the calls.
 
 ghost use Rattle.std.specs.Prelude.{◌≡◌, ◌≢◌, ◌<◌, ◌≤◌, ℕ, [], None, IfSome, OnOk, length, slice_index_or, slice_set};
 ghost use Rattle.tidalloc.specs.LiveIds.{slot_of};
@@ -21,7 +21,7 @@ pub(crate) fn slot_of(id: Tid) -> usize
     (id.number() % 4096) as usize
 }
 
-/// Makes room for a slot. Where it is not there yet, what is new has this talk.
+/// Makes room for a slot. New slots are filled with this talk.
 pub(crate) fn make_room(talks: &mut Vec<Talk>, slot: usize, talk: Talk) -> Result<(), AllocError>
     requires { slot < 4096 }
     ensures room { OnOk result (slot < length talks.new.items) }
@@ -35,7 +35,7 @@ pub(crate) fn make_room(talks: &mut Vec<Talk>, slot: usize, talk: Talk) -> Resul
     talks.resize(slot + 1, talk)
 }
 
-/// Makes room for one more transaction, where fewer than may be are open.
+/// Reserves memory for one more transaction, if the table is not full.
 pub(crate) fn reserve(transactions: &mut Transactions) -> Result<(), AllocError>
     requires { count transactions.old ≢ 4096 }
     ensures ok { transactions.new ≡ record transactions.old { room = transactions.new.room } }
@@ -48,7 +48,7 @@ pub(crate) fn reserve(transactions: &mut Transactions) -> Result<(), AllocError>
     }
 }
 
-/// Opens this transaction, in Initiation Sent where the peer's id is not known. Takes no memory.
+/// Opens this transaction, in Initiation Sent if the peer's id is not known. Does not allocate.
 fn begin_transaction(transactions: &mut Transactions, transaction: Transaction) -> Tid
     requires { 0 < transactions.old.room }
     ensures { Begins transactions.old result (transaction_of transaction) transactions.new }
@@ -59,8 +59,8 @@ fn begin_transaction(transactions: &mut Transactions, transaction: Transaction) 
     }
 }
 
-/// Opens the transaction of a dialogue under the next id, and keeps whom it is about and what it is for at the slot of
-/// that id. Takes no memory.
+/// Opens the transaction of a dialogue under the next id, and stores its subscriber and kind at the slot of that id. Does not
+/// allocate.
 pub(crate) fn begin(
     transactions: &mut Transactions,
     talks: &mut Vec<Talk>,
@@ -78,7 +78,7 @@ pub(crate) fn begin(
     id
 }
 
-/// Closes the transaction of a dialogue, and forgets its invocations. Takes no memory.
+/// Closes the transaction of a dialogue, and makes its invocations Idle. Does not allocate.
 pub(crate) fn close(transactions: &mut Transactions, invocations: &mut Invocations, id: Tid)
     requires { at transactions.old id ≢ None }
     ensures closed { transactions.new ≡ closed transactions.old id }

@@ -1,4 +1,4 @@
-//! Whom a dialogue is about, and what it is for.
+//! Subscriber and kind of a dialogue.
 
 use crate::kind::Kind;
 use hlr_types::Imsi;

@@ -1,4 +1,4 @@
--- What is heard, by what its verdict turns to.
+-- A received frame, by the turn of its verdict.
 use Rattle.std.proofs.Common.{◌≡◌, ◌≢◌, ℕ, List, [], map, Bool, true, false, Option, Some, None, refl, sym, ap, ◌∙◌, subst}
 use Rattle.std.specs.Prelude.{Result, Ok, Err, IfOk, OnOk}
 use Rattle.machine.specs.Received.{Component, Response, Verdict, Read, Begin, Continue}
@@ -48,7 +48,7 @@ turned : (s : ShardState) (from : List ℕ) (v : Verdict) (turn : Turn) → turn
 unfolding state_of
 turned s from v turn e = e
 
--- a frame that is dismissed with what is sent
+-- a frame that is answered without a change of state
 pub heard_as : (s : ShardState) (h : Hearing) (w : Verdict) (sent : List Out) (a : StepAnswer) → IsForMe s h → h.verdict ≡ w
     → ((dialogues : List ℕ → Option Dialogue) → turn_of_verdict dialogues h.from w ≡ Dismissed sent) → Says a None None sent → Hears s h a s
 heard_as s h w sent a mine e turns says =
@@ -164,7 +164,7 @@ begin_refused s0 s h from origin cs plan a view mine begin source is over says =
     subst (λ x. Hears x h a x) view (begin_turned_away s0 h origin cs plan a (subst (λ x. IsForMe x h) (sym view) mine) begin is over
     (subst (λ to. Says a None plan.subject (send to (SentAbort origin (Cause 4)))) source says))
 
--- what a Continue that comes from here is found to be
+-- the turn of a Continue from this source
 abbrev pub IsFound : (s : ShardState) → (from origin destination : List ℕ) → List (code.Component Parameter) → Option Plan → Type 0
 IsFound s from origin destination cs found = IsPlanOr s (continue_at from origin destination (seen cs) (dialogues_of s.dialogues destination)) cs
     (send from (SentAbort origin (Cause 1))) found
@@ -192,7 +192,7 @@ continue_left s0 s h from origin destination cs found a view mine continue sourc
     (subst (λ f. IsFound s0 f origin destination cs None) source (subst (IsFound s0 from origin destination cs) e is))
     (subst (λ to. Says a None None (send to (SentAbort origin (Cause 1)))) source says))
 
--- what an End or an Abort is found to be
+-- the turn of an End or an Abort
 abbrev pub IsClosed : (s : ShardState) → (destination : List ℕ) → Option Plan → Type 0
 IsClosed s destination found = IsPlanOr s (close_at destination (dialogues_of s.dialogues destination)) [] [] found
 
@@ -212,7 +212,7 @@ pub close_left : (s0 s : ShardState) (h : Hearing) (destination : List ℕ) (fou
 close_left s0 s h destination found a view mine closing is e says =
     subst (λ x. Hears x h a x) view (close_dismissed s0 h destination a (subst (λ x. IsForMe x h) (sym view) mine) closing (subst (IsClosed s0 destination) e is) says)
 
--- what an expiry is found to be
+-- the turn of an expiry
 pub expiry_can : (s : ShardState) (found : Option Plan) (plan : Plan) → IsExpiry s found → found ≡ Some plan → CanSettle s plan
 expiry_can s found plan is e = (subst (IsExpiry s) e is).planned.can
 

@@ -4,3 +4,4 @@ pub mod SettledLemmas
 pub mod TurnLemmas
 pub mod HearLemmas
 pub mod SoundLemmas
+pub mod RunningLemmas

@@ -1,4 +1,4 @@
--- A plan that is settled, as a step of the machine over octets; and one for which there is no room.
+-- A plan that is carried out, as a step of the machine over octets; and one for which there is no room.
 use Rattle.std.proofs.Common.{◌≡◌, ◌≢◌, ℕ, List, [], Option, Some, None, is_some, IsTrue, refl, sym, ap, ◌∙◌, subst}
 use Rattle.std.specs.Prelude.{IfSome}
 use Rattle.machine.specs.Received.{Component}
@@ -115,7 +115,7 @@ pub no_room : (s : ShardState) (imsi : List ℕ) (change : Change) (plan : Plan)
     → IsPlan s (Changes imsi change) [] plan → Overflows s plan → HasNoRoom (state_of s) (Operator imsi change)
 no_room s imsi change plan here is over = (plan.new, overflows_at s (shard_of imsi) (Changes imsi change) [] plan here is over)
 
--- What is for an open dialogue has room.
+-- An event for an open dialogue has room.
 opens_not : (clock : ℕ) (stays : Stays) → opens_of clock stays ≡ None → Opens stays → ⊥
 opens_not clock (Gone None) e o = o
 opens_not clock (Gone (Some p)) e o = absurd cc

@@ -30,7 +30,7 @@ no_register (Some register) e = absurd cc
 left_none : (r : Option Register) → r ≡ None → option_map machine_register r ≡ None
 left_none r e = ap (option_map machine_register) e
 
--- what a record of the machine keeps, of one that is fresh in the code
+-- the facts of a machine's record, for one that is fresh in the code
 abbrev Keeps : MachineSubscriber → Type 0
 Keeps s = (s.current ≡ None) × (s.register ≡ None → s.purged ≡ false) × (s.withdrawn ≡ true → s.register ≡ None)
 
@@ -89,7 +89,7 @@ step_keeps s t raw a is routed leads same =
       own = subst (λ k. state_of t ≡ part (state_of t) k) (sym same.shard) after.legal.after_part;
     }
 
--- whether the step is taken or not
+-- whether the event is handled or not
 pub sound_after : {E : Type 0} (r : Result StepAnswer E) (s t : ShardState) (raw : RawEvent) → IsSoundShard s → IfOk r (λ a. Leads s raw a t) → OnOk r (IsRouted (directory_of s.directory) raw s.shard)
     → OnErr r (t ≡ s) → IsSameShard s t → IsSoundShard t
 sound_after (Ok a) s t raw is leads routed err same = step_keeps s t raw a is routed leads same

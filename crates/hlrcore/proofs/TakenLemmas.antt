@@ -1,4 +1,4 @@
--- A turn that is taken, as a step of the machine over octets.
+-- A turn as a step of the machine over octets.
 use Rattle.std.proofs.Common.{◌≡◌, ◌≢◌, ℕ, List, [], ◌∷◌, map, Bool, true, false, cond, Option, Some, None, is_some, IsTrue, refl, sym, ap, ◌∙◌, subst}
 use Rattle.std.specs.Prelude.{Result, Ok, Err, IfOk, min, max, ◌==◌}
 use Rattle.std.proofs.Common.{◌⊎◌, inl, inr, eq-eqb}
@@ -50,7 +50,7 @@ pub routed_here : (s : ShardState) (e : Event) → route (directory_of s.directo
 unfolding state_of
 routed_here s e is = is
 
--- What is dismissed with what is sent.
+-- What is answered without a change of state.
 pub dismissed_step : (s : ShardState) (raw : RawEvent) (e : Event) (sent : List Out) (a : StepAnswer) → IsMine s raw e
     → TurnsTo (state_of s) e (Dismissed sent) → Says a None None sent → Leads s raw a s
 dismissed_step s raw e sent a mine turns says =

@@ -1,4 +1,4 @@
--- Only a clock value moves a clock, and what is for no open dialogue opens none.
+-- Only a clock value changes a clock, and what is for no open dialogue opens none.
 use Rattle.std.proofs.Common.{◌≡◌, ℕ, List, [], Option, Some, None, refl, sym, ap, ◌∙◌, subst}
 use Rattle.machine.specs.Received.{Component}
 use Rattle.machine.specs.State.{Dialogue, State, Transaction}
@@ -22,7 +22,7 @@ pub expiry_still : (S : State) (n : ℕ) (turn : Turn) → Expiry S n turn → (
 expiry_still S n turn (OneDue i d j v due least is) T = ap (λ t. ticked t T) is
 expiry_still S n turn (NoneDue none is) T = ap (λ t. ticked t T) is
 
--- Where the turn names no open dialogue, none opens.
+-- If the turn names no open dialogue, none opens.
 abbrev pub IsForOpen : Turn → Type 0
 IsForOpen turn = named turn ≡ None → (S : State) (n : ℕ) (new : List ℕ) → (outcome_in S n turn new).opens ≡ None
 

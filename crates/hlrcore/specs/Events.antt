@@ -13,21 +13,21 @@ abbrev pub change : Change → machine.Change
 change (Codes codes) = machine.Codes codes
 change Withdraw = machine.Withdraw
 
--- as it comes
+-- as received
 abbrev pub raw_event : RawEvent → frames.RawEvent
 raw_event (raw.Frame from octets) = frames.RawFrame from octets.items
 raw_event (raw.Clock shard now) = frames.RawClock shard now
 raw_event (raw.Expire shard) = frames.RawExpire shard
 raw_event (raw.Change imsi c) = frames.RawChange imsi (change c)
 
--- read, as it came
+-- decoded, as it was received
 abbrev pub raw_of : Event → frames.RawEvent
 raw_of (Frame indication) = frames.RawFrame indication.from indication.octets
 raw_of (Clock shard now) = frames.RawClock shard now
 raw_of (Expire shard) = frames.RawExpire shard
 raw_of (Changed imsi c) = frames.RawChange imsi (change c)
 
--- and as the machine has it
+-- decoded, as the machine has it
 abbrev pub event_of : Event → machine.Event
 event_of (Frame indication) = machine.Frame indication.from indication.verdict
 event_of (Clock shard now) = machine.Clock shard now

@@ -1,4 +1,4 @@
--- A received frame, for a shard.
+-- A received frame, for a shard (Q.773, Q.774).
 use Rattle.std.specs.Prelude.{◌≡◌, ℕ, List, Option}
 use Rattle.machine.specs.Events.{Frame}
 use Rattle.machine.specs.Received.{Component, Response, Verdict, Read, Continue}
@@ -12,16 +12,16 @@ use Rattle.shard_state.specs.declared.answer.StepAnswer.{StepAnswer}
 use Rattle.shard_state.specs.Shards.{ShardState, directory_of}
 use Rattle.hlrcore.specs.Leading.{Leads}
 
--- The frame is for this shard, and its octets read to its verdict.
+-- The frame is for this shard, and its verdict is that of its octets.
 pub record IsForMe (s : ShardState) (heard : Hearing) : Type 0 where
   pub routed : route (directory_of s.directory) (Frame heard.from heard.verdict) ≡ s.shard
   pub judged : IsVerdict heard.octets heard.verdict
 
--- The shard takes the frame with this answer.
+-- The shard handles the frame with this answer.
 abbrev pub Hears : ShardState → Hearing → StepAnswer → ShardState → Type 0
 Hears s heard a t = Leads s (RawFrame heard.from heard.octets) a t
 
--- A Continue with these ids and components, wherever it comes from.
+-- A Continue with these ids and components, from whatever source.
 abbrev pub IsContinueOf : Verdict → (origin destination : List ℕ) → List Component → Type 0
 IsContinueOf v origin destination components =
     (response : Option Response) × (v ≡ Read (Continue origin destination response components))

@@ -12,6 +12,6 @@ pub record IsMine (s : ShardState) (raw : RawEvent) (e : Event) : Type 0 where
   pub is_event : IsEvent raw e
   pub routed : route (directory_of s.directory) e ≡ s.shard
 
--- The shard takes the event with this answer: it is a step of the machine over octets.
+-- The shard handles the event with this answer: a step of the machine over octets.
 abbrev pub Leads : ShardState → RawEvent → StepAnswer → ShardState → Type 0
 Leads s raw a t = StepOctets (state_of s) (entry_of raw a) (state_of t)

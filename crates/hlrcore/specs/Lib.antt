@@ -3,3 +3,4 @@ pub mod Taken
 pub mod Leading
 pub mod Hearing
 pub mod Sound
+pub mod Running

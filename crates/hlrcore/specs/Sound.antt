@@ -1,11 +1,11 @@
--- What the state of a shard keeps.
+-- The invariant of a shard's state.
 use Rattle.std.specs.Prelude.{◌≡◌, ◌<◌}
 use Rattle.machine.specs.Numbers.{shards}
 use Rattle.machine.specs.Parts.{part}
 use Rattle.machine.specs.Sound.{Sound}
 use Rattle.shard_state.specs.Shards.{ShardState, state_of}
 
--- It is a sound state of the machine, and has nothing of another shard.
+-- It is a sound state of the machine, with nothing of another shard in it.
 pub record IsSoundShard (s : ShardState) : Type 0 where
   pub shard : s.shard < shards
   pub sound : Sound (state_of s)

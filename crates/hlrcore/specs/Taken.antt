@@ -4,7 +4,7 @@ use Rattle.hlrcore.specs.declared.event.Event.{Event}
 use Rattle.hlrcore.specs.declared.event.EventFault.{EventFault}
 use Rattle.hlrcore.specs.declared.event.EventFault.TheVariants.{Memory, ResetRefused}
 
--- This holds of the event that was read, also where the arena did not give its memory back.
+-- This holds for the event that was read, even if the arena could not be reset.
 abbrev pub IfRead : Result Event EventFault → (Event → Type 0) → Type 0
 IfRead (Ok event) P = P event
 IfRead (Err (ResetRefused event)) P = P event

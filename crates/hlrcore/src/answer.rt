@@ -11,10 +11,10 @@ pub enum StepFault {
     /// The event is for another shard.
     #[error("the event is for another shard")]
     NotMine,
-    /// An operator's change would open a dialogue, and as many are open as may be.
+    /// An operator's change would open a dialogue, and the shard is full: 4,096 dialogues are open.
     #[error("as many dialogues are open as may be")]
     NoRoom,
-    /// A growth was refused.
+    /// Out of memory.
     #[error("out of memory")]
     Memory,
 }

@@ -5,8 +5,8 @@ use records::Codes;
 /// An operator's change of a subscriber.
 #[derive(Debug, Drop)]
 pub enum Change {
-    /// Other teleservice codes.
+    /// New teleservice codes.
     Codes(Codes),
-    /// The end of the subscription.
+    /// Withdrawal: the end of the subscription.
     Withdraw,
 }

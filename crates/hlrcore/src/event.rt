@@ -1,4 +1,4 @@
-//! What comes to the register from outside.
+//! Events: the inputs of the register.
 
 ghost use Rattle.std.specs.Prelude.{◌≡◌, IfOk};
 ghost use Rattle.frames.specs.Octets as frames;
@@ -14,8 +14,8 @@ use msgarena::{Indication, Round, RoundFault};
 use std::alloc::{AllocError, Global};
 use thiserror::Error;
 
-/// An event as it comes: a frame with the address that it comes from, a clock value of a shard, the expiry of a shard's
-/// least timer that is due, or an operator's change.
+/// An event as received: a frame with its source address, a clock value for a shard, the expiry of a shard's least timer that is
+/// due, or an operator's change.
 #[derive(Debug, Drop)]
 pub enum RawEvent {
     Frame { from: Peer, octets: Vec<u8> },
@@ -24,7 +24,7 @@ pub enum RawEvent {
     Change { imsi: Imsi, change: Change },
 }
 
-/// The same with a frame read.
+/// The same, with the frame decoded.
 #[derive(Debug, Drop)]
 pub enum Event {
     Frame(Indication),
@@ -33,13 +33,13 @@ pub enum Event {
     Change { imsi: Imsi, change: Change },
 }
 
-/// Why an event was not read. Nothing is said of the arena afterwards: the caller makes a new one.
+/// Why an event was not read. The arena's contents are then unspecified: the caller makes a new one.
 #[derive(Debug, Drop, Error)]
 pub enum EventFault {
-    /// A growth was refused.
+    /// Out of memory.
     #[error("out of memory")]
     Memory,
-    /// The arena did not give its memory back. The frame was read, and this is the event.
+    /// The arena could not be reset. The frame was read, and this is the event.
     #[error("the arena did not give its memory back")]
     ResetRefused(Event),
 }
@@ -56,7 +56,7 @@ impl From<AllocError> for EventFault {
 }
 
 impl Change {
-    /// An equal change.
+    /// An equal copy.
     pub fn try_copy(&self, alloc: Global) -> Result<Change, AllocError>
         ensures { IfOk result (λ copy. change copy ≡ change self.now) }
     {
@@ -68,7 +68,7 @@ impl Change {
 }
 
 impl RawEvent {
-    /// An equal event.
+    /// An equal copy.
     pub fn try_copy(&self, alloc: Global) -> Result<RawEvent, AllocError>
         ensures { IfOk result (λ copy. raw_event copy ≡ raw_event self.now) }
     {
@@ -91,9 +91,9 @@ impl RawEvent {
 }
 
 impl Event {
-    /// The event, its frame read in the arena, which is reset.
+    /// The event, with its frame decoded in the arena, which is then reset.
     pub fn of(alloc: Global, bump: &mut Bump, raw: &RawEvent) -> Result<Event, EventFault>
-        // It is that event, and as the machine has it.
+        // It is that event, as the machine has it.
         ensures same { IfRead result (λ event. raw_of event ≡ raw_event raw.now) }
         ensures read { IfRead result (λ event. IsEvent (raw_event raw.now) (event_of event)) }
     {
@@ -111,7 +111,7 @@ impl Event {
         }
     }
 
-    /// The event as it came.
+    /// The event as received.
     pub fn try_raw(&self, alloc: Global) -> Result<RawEvent, AllocError>
         ensures { IfOk result (λ raw. raw_event raw ≡ raw_of self.now) }
     {
@@ -132,7 +132,7 @@ impl Event {
         }
     }
 
-    /// An equal event.
+    /// An equal copy.
     pub fn try_copy(&self, alloc: Global) -> Result<Event, AllocError>
         ensures same { IfOk result (λ copy. raw_of copy ≡ raw_of self.now) }
         ensures read { IfOk result (λ copy. event_of copy ≡ event_of self.now) }

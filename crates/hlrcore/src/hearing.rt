@@ -1,4 +1,4 @@
-//! A received frame.
+//! A received frame (Q.773, Q.774).
 
 ghost use Rattle.std.specs.Prelude.{◌≡◌, IfOk, OnErr, map};
 ghost use Rattle.frames.specs.Frames.{IsVerdict};
@@ -26,7 +26,7 @@ const UNRECOGNIZED_TRANSACTION_ID: u8 = 1;
 const RESOURCE_LIMITATION: u8 = 4;
 
 impl Stepper {
-    /// Takes a received frame.
+    /// Handles a received frame.
     pub(crate) fn hear(&mut self, indication: &Indication) -> Result<StepAnswer, AllocError>
         requires { route (directory_of self.old.directory) (Frame indication.now.from indication.now.verdict) ≡ self.old.shard }
         ensures heard { IfOk result (λ a. Hears self.old indication.now a self.new) }
@@ -43,7 +43,7 @@ impl Stepper {
         }
     }
 
-    /// Takes a received message.
+    /// Handles a received message.
     fn hear_message(
         &mut self,
         indication: &Indication,
@@ -73,7 +73,8 @@ impl Stepper {
         }
     }
 
-    /// Takes a Begin. In a full shard one that would open a dialogue is aborted (profile).
+    /// Handles a Begin. In a full shard one that would open a dialogue is answered with an Abort, cause resourceLimitation
+    /// (profile).
     fn begin(
         &mut self,
         indication: &Indication,
@@ -94,7 +95,7 @@ impl Stepper {
         self.shard.settle(plan, &[])
     }
 
-    /// Takes a Continue. One for no open dialogue is aborted.
+    /// Handles a Continue. One for no open dialogue is answered with an Abort, cause unrecognizedTransactionID (Q.774).
     fn continue_(
         &mut self,
         indication: &Indication,
@@ -126,7 +127,7 @@ impl Stepper {
         }
     }
 
-    /// Takes an End or an Abort. One for no open dialogue is discarded.
+    /// Handles an End or an Abort. One for no open dialogue is discarded (Q.774).
     fn close(
         &mut self,
         indication: &Indication,

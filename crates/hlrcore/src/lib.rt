@@ -1,6 +1,7 @@
 //! One shard of the register: what an event is, which shard it is for, and what it does to the shard's state.
 //!
-//! An event is taken by `State::step`, whose contract is a step of the machine over octets.
+//! `State::step` handles one event; its contract is a step of the machine over octets. `State::run` handles several in order;
+//! its contract is a run of the machine.
 #![tactic(auto)]
 
 mod answer;
@@ -8,6 +9,7 @@ mod change;
 mod event;
 mod hearing;
 mod naming;
+mod running;
 mod sending;
 mod shard_number;
 mod state;
@@ -18,6 +20,7 @@ pub use answer::StepFault;
 pub use change::Change;
 pub use event::{Event, EventFault, RawEvent};
 pub use naming::route;
+pub use running::RunFault;
 pub use shard_number::ShardNumber;
 pub use shard_state::{Frames, Out, StepAnswer};
 pub use state::State;

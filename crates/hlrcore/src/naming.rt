@@ -1,4 +1,4 @@
-//! The shard that an event is for.
+//! The shard that an event is for (profile).
 
 ghost use Rattle.std.specs.Prelude.{◌≡◌, ◌<◌};
 ghost use Rattle.machine.specs.Routing.{shard_named, shard_asked, route_message, route_verdict, route};
@@ -15,7 +15,7 @@ use turns::asked;
 /// How many shards there are.
 const SHARDS: u8 = 16;
 
-/// The shard of a destination id, which may be none of a local id's form.
+/// The shard of a destination id, which may not have the form of a local id.
 #[tactic(auto, unfolding(machine::specs::Keys::shard_of_id))]
 fn shard_named(id: &RemoteId) -> u8
     ensures value { result ≡ shard_named id.now }
@@ -29,7 +29,7 @@ fn shard_named(id: &RemoteId) -> u8
     }
 }
 
-/// The shard of a subscriber; without one it is shard 0.
+/// The shard of a subscriber; shard 0 without one.
 #[tactic(auto, using(crate::proofs::ShardLemmas::same_shard))]
 fn shard_asked(imsi: Option<Imsi>) -> u8
     ensures value { result ≡ shard_asked imsi }
@@ -63,8 +63,8 @@ fn route_verdict(directory: &Directory, verdict: &Verdict) -> u8
     }
 }
 
-/// The shard that an event is for. A Begin goes by the subscriber that it asks about, what follows by the destination id;
-/// everything else is for shard 0.
+/// The shard that an event is for: of a Begin by its subscriber, of a Continue, End or Abort by its destination id; everything
+/// else is for shard 0.
 #[tactic(auto, using(crate::proofs::ShardLemmas::same_shard))]
 pub fn route(directory: &Directory, event: &Event) -> u8
     ensures value { result ≡ route (directory_of directory.now) (event_of event.now) }

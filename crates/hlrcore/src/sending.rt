@@ -1,4 +1,4 @@
-//! What is answered where nothing changes.
+//! Answers that go with no change of state.
 
 ghost use Rattle.std.specs.Prelude.{◌≡◌, [], None, IfOk, map};
 ghost use Rattle.machine.specs.Sent.{SentAbort, Cause};
@@ -24,7 +24,7 @@ pub(crate) fn silent(alloc: Global) -> StepAnswer
     }
 }
 
-/// An Abort with this P-Abort cause (Q.773), and nothing else.
+/// A single Abort with this P-Abort cause (Q.773).
 pub(crate) fn aborted(
     alloc: Global,
     to: Peer,

@@ -26,7 +26,7 @@ use std::alloc::{AllocError, Global};
 use std::marker::Model;
 use std::sync::Arc;
 
-/// The state of one shard, on which events are taken. It is always a sound state of its shard.
+/// The state of one shard, which handles events. It is always a sound state of its shard.
 #[derive(Drop)]
 pub struct State {
     stepper: Stepper,
@@ -46,7 +46,7 @@ impl Model for State {
 }
 
 impl State {
-    /// A shard's part of what a records file says: its records, no dialogue, and its clock at 0.
+    /// The shard that begins with its part of a records file: its records, no dialogue, and its clock at 0.
     pub fn new(alloc: Global, shard: u8, loaded: &Loaded) -> Result<State, AllocError>
         requires { shard < 16 }
         ensures opening { IfOk result (IsOpening shard (part_of loaded.now.records shard) loaded.now.directory loaded.now.hlr) }
@@ -58,8 +58,8 @@ impl State {
         State::of_part(alloc, shard, records, directory, *loaded.hlr())
     }
 
-    /// The same of records that are the shard's part already, as a file gives them, with the directory and the register's
-    /// number that all shards share.
+    /// The same for records that are already the shard's part, as read from a file, with the directory and the HLR number that all
+    /// shards share.
     pub fn of_part(
         alloc: Global,
         shard: u8,
@@ -87,6 +87,13 @@ impl State {
         self.stepper.shard.number()
     }
 
+    /// The HLR number.
+    pub fn hlr(&self) -> IsdnAddress
+        ensures { result ≡ self.now.hlr }
+    {
+        self.stepper.shard.hlr()
+    }
+
     /// The records of the shard.
     pub fn records(&self) -> &Records
         ensures { result.now ≡ self.now.records }
@@ -102,6 +109,25 @@ impl State {
         self.stepper.shard.dialogues()
     }
 
+    /// The directory, which all shards share.
+    pub fn directory(&self) -> &Directory
+        ensures { result.now ≡ self.now.directory }
+    {
+        self.stepper.shard.directory()
+    }
+
+    /// The allocator of the state.
+    pub(crate) fn alloc(&self) -> Global {
+        self.stepper.alloc
+    }
+
+    /// Whether the states are equal, the number of the shard included.
+    pub fn same(&self, other: &State) -> Result<bool, AllocError>
+        ensures { IfOk result (λ same. IsTrue same ↔ (self.now ≡ other.now)) }
+    {
+        self.stepper.shard.same(&other.stepper.shard)
+    }
+
     /// Whether the event is for this shard.
     pub fn is_mine(&self, event: &Event) -> bool
         ensures { IsTrue result ↔ (shard_for (directory_of self.now.directory) (event_of event.now) ≡ self.now.shard) }
@@ -109,15 +135,15 @@ impl State {
         route(self.stepper.shard.directory(), event) == self.number()
     }
 
-    /// Takes one event. Where it is for another shard the answer is `NotMine`; where it is an operator's change that would open
-    /// a dialogue, and as many are open as may be, `NoRoom`; where a growth was refused, `Memory`. Then nothing has changed.
+    /// Handles one event. `NotMine` if it is for another shard; `NoRoom` if it is an operator's change that would open a dialogue
+    /// in a full shard; `Memory` if an allocation fails. On error nothing changes.
     pub fn step(&mut self, event: &Event) -> Result<StepAnswer, StepFault>
-        // It is a step of the machine over octets, of an event for this shard.
+        // It is a step of the machine over octets, for an event of this shard.
         ensures stepped { IfOk result (λ a. Leads self.old (raw_of event.now) a self.new) }
         ensures routed { OnOk result (IsRouted (directory_of self.old.directory) (raw_of event.now) self.old.shard) }
         ensures not_mine { (result ≡ Err StepFault.NotMine)
             ↔ (shard_for (directory_of self.old.directory) (event_of event.now) ≢ self.old.shard) }
-        // The machine has no step for it, and so it is never answered with one.
+        // The machine has no step for such an event, so it is never handled.
         ensures no_room { result ≡ Err StepFault.NoRoom → HasNoRoom (state_of self.old) (event_of event.now) }
         ensures room { HasNoRoom (state_of self.old) (event_of event.now) → OnOk result ⊥ }
         ensures err { OnErr result (self.new ≡ self.old) }
@@ -126,10 +152,10 @@ impl State {
         self.stepper.step(event)
     }
 
-    /// An equal state.
+    /// An equal copy.
     pub fn try_copy(&self) -> Result<State, AllocError>
         ensures equal { IfOk result (λ copy. copy ≡ self.now) }
-        // What the state keeps.
+        // The invariant of the state.
         ensures sound { IsSoundShard self.now }
     {
         Ok(State {

@@ -23,7 +23,7 @@ use std::alloc::AllocError;
 use turns::{expires, new_codes, withdraws};
 
 impl Stepper {
-    /// Takes one event, as `State::step` says.
+    /// Handles one event, as `State::step` says.
     pub(crate) fn step(&mut self, event: &Event) -> Result<StepAnswer, StepFault>
         ensures stepped { IfOk result (λ a. Leads self.old (raw_of event.now) a self.new) }
         ensures routed { OnOk result (IsRouted (directory_of self.old.directory) (raw_of event.now) self.old.shard) }
@@ -48,7 +48,7 @@ impl Stepper {
         }
     }
 
-    /// The least timer that is due expires, if one is.
+    /// Handles the expiry of the least timer that is due, if any.
     fn expire(&mut self) -> Result<StepAnswer, AllocError>
         ensures expired { IfOk result (λ a. Leads self.old (RawExpire self.old.shard) a self.new) }
         ensures err { OnErr result (self.new ≡ self.old) }
@@ -60,7 +60,7 @@ impl Stepper {
         }
     }
 
-    /// Takes an operator's change.
+    /// Handles an operator's change.
     fn change(&mut self, imsi: Imsi, change: &Change) -> Result<StepAnswer, StepFault>
         requires { IsMine self.old (RawChange imsi (said change.now)) (machine.Operator imsi (said change.now)) }
         ensures changed { IfOk result (λ a. Leads self.old (RawChange imsi (said change.now)) a self.new) }
@@ -76,7 +76,7 @@ impl Stepper {
         Ok(self.shard.settle(plan, &[])?)
     }
 
-    /// What an operator's change comes to.
+    /// The plan of an operator's change.
     fn plan_change(&self, imsi: Imsi, change: &Change) -> Result<Plan, AllocError>
         ensures { IfOk result (λ plan. IsPlan self.now (Changes imsi (said change.now)) [] plan) }
     {

@@ -1,10 +1,10 @@
-//! The parts of a state, on which events are taken.
+//! The parts of a state, which handle events.
 
 use shard_state::Shard;
 use std::alloc::{AllocError, Global};
 use std::marker::Model;
 
-/// The parts of a state. What each event does to them is a step of the machine; that they are sound is kept by `State`.
+/// The parts of a state. Each event changes them by a step of the machine; `State` keeps them sound.
 #[derive(Drop)]
 pub(crate) struct Stepper {
     pub(crate) alloc: Global,
@@ -24,7 +24,7 @@ impl Model for Stepper {
 impl Stepper {
     ghost use Rattle.std.specs.Prelude.{◌≡◌, IfOk};
 
-    /// Equal parts.
+    /// An equal copy.
     pub(crate) fn try_copy(&self) -> Result<Stepper, AllocError>
         ensures { IfOk result (λ copy. copy ≡ self.now) }
     {

@@ -1,4 +1,4 @@
--- New codes, by the register that there is.
+-- New codes, by the serving register.
 use Rattle.std.proofs.Common.{◌≡◌, ℕ, List, [], Bool, false, cond, Option, Some, None, sym, ap, ◌∙◌}
 use Rattle.machine.specs.Received.{Register}
 use Rattle.machine.specs.Sent.{SentBegin, SubscriberDataMngt}
@@ -15,7 +15,7 @@ told_if here s codes new register purged = record {
   sent = cond purged [] (send register.vlr (SentBegin new SubscriberDataMngt (inserts (Some here.imsi) s.msisdn codes)));
 }
 
--- a register that has not is told
+-- a register that has not gets the data
 pub codes_told : (here : Local) (s : Subscriber) (codes new : List ℕ) (register : Register) (old : Option Register) → old ≡ Some register → s.purged ≡ false
     → told_if here s codes new register false ≡ codes_to here s codes new old
 codes_told here s codes new register old is purged =

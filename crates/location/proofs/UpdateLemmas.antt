@@ -1,4 +1,4 @@
--- An update whose inserts have all succeeded, by the record that there is.
+-- An update whose inserts have all succeeded, by the record.
 use Rattle.std.proofs.Common.{◌≡◌, ℕ, ℤ, List, [], ◌∷◌, Bool, true, false, cond, Option, Some, None, sym, ap, ◌∙◌}
 use Rattle.machine.specs.Received.{Register}
 use Rattle.machine.specs.Sent.{Rejection, UpdateResult}

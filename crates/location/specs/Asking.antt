@@ -1,4 +1,4 @@
--- Who asks by a Begin, and whether it is one.
+-- The request in a Begin.
 use Rattle.std.specs.Prelude.{◌≡◌, ℕ, List, map, Option}
 use Rattle.machine.specs.Received.{Component, Begin, Verdict, Read}
 use Rattle.machine.specs.Begins as machine
@@ -8,11 +8,11 @@ use Rattle.q773_comp.specs.Seen.{rejection}
 use Rattle.location.specs.declared.asker.Asker.{Asker}
 use Rattle.location.specs.declared.asker.Source.{Source}
 
--- where a Begin came from, with the Rejects of its components
+-- the sender of a Begin, with the Rejects of its components
 abbrev pub source_with : Source → List Rejection → machine.Asker
 source_with s rejects = record { from = s.from; origin = s.origin; context = context s.context; rejects = rejects }
 
--- who asks
+-- the request
 abbrev pub asker_of : Asker → machine.Asker
 asker_of a = source_with a.source (map rejection a.rejects.items)
 

@@ -1,4 +1,4 @@
--- A cancel that is sent, if any.
+-- A cancelLocation to be sent, if any (TS 29.002, 8.1.3).
 use Rattle.std.specs.Prelude.{ℕ, ◌+◌, List, [], ◌++◌, Bool, cond, not, ◌&&◌, nat_lt, Option, Some, None}
 use Rattle.machine.specs.Keys.{same}
 use Rattle.machine.specs.Numbers.{most_attempts}
@@ -20,7 +20,7 @@ abbrev pub cancel_sent : Local → Option Cancelling → (new : List ℕ) → Li
 cancel_sent here None new = []
 cancel_sent here (Some c) new = cancel_begin here c.vlr (cancellation c.why) new
 
--- The named dialogue, if any, is gone; this is sent, and then the cancel.
+-- The named dialogue, if any, closes; these messages are sent, and then the cancel.
 abbrev pub then_cancel : Local → (after : Option Subscriber) → (sent : List Out) → Option Cancelling → (new : List ℕ) → Outcome
 then_cancel here after sent next new = record {
   after = after;
@@ -29,16 +29,16 @@ then_cancel here after sent next new = record {
   sent = sent ++ cancel_sent here next new;
 }
 
--- The cancel to the register that an update leaves, where its digits are others.
+-- The cancel to the old register after an update, if its digits differ.
 abbrev pub to_old : (register : Register) → (old : Option Register) → Option Cancelling
 to_old register None = None
 to_old register (Some old) = cond (same old.vlr register.vlr) None (Some (record { vlr = old.vlr; attempt = 1; why = UpdateProcedure }))
 
--- The cancel to the register of a subscription that ends.
+-- The cancel to the last register of a withdrawn subscriber.
 abbrev pub to_last : (register : Option Register) → Option Cancelling
 to_last None = None
 to_last (Some register) = Some (record { vlr = register.vlr; attempt = 1; why = SubscriptionWithdraw })
 
--- The next attempt of a cancel, where there is one and its register is not wanted.
+-- The next attempt of a cancel, if there is one and its register is not wanted.
 abbrev pub again : Cancelling → (wanted : Bool) → Option Cancelling
 again last wanted = cond (nat_lt last.attempt most_attempts && not wanted) (Some (record last { attempt = last.attempt + 1 })) None

@@ -1,4 +1,4 @@
--- What the code holds and answers, as what the definitions speak of.
+-- Values of the code as values of the definitions.
 use Rattle.std.specs.Prelude.{ℕ, ◌-◌, List, [], ◌∷◌, ◌++◌, map, Option, Some, None, option_map, true, false}
 use Rattle.std.specs.Borrow.{Bor}
 use Rattle.machine.specs.State as machine
@@ -27,7 +27,7 @@ use Rattle.location.specs.declared.outcome.Outcome.{Outcome}
 abbrev pub known : Option (Bor Subscriber) → Option machine.Subscriber
 known found = option_map (λ s. machine_subscriber s.now) found
 
--- The record after. The codes are those that an operator's change names.
+-- The record after. `codes` are those of an operator's change.
 abbrev pub after_of : (codes : List ℕ) → After → Option machine.Subscriber → Option machine.Subscriber
 after_of codes Same before = before
 after_of codes Purged before = option_map (λ (s : machine.Subscriber). record s { purged = true }) before
@@ -37,7 +37,7 @@ after_of codes NewCodes before = option_map (λ (s : machine.Subscriber). record
 after_of codes Withdrawn before =
     option_map (λ (s : machine.Subscriber). record s { register = None; purged = false; current = None; withdrawn = true }) before
 
--- The dialogue that is named as it stays. It comes with the transaction and the invocations that what was received leaves it.
+-- The named dialogue after, if it stays. It is given as the received message leaves it.
 abbrev pub stays_of : Option machine.Dialogue → Stays → Option machine.Dialogue
 stays_of named (Gone opens) = None
 stays_of named GoesOn = named
@@ -63,8 +63,8 @@ abbrev pub sent_of : (first second : Option Out) → List sent.Out
 sent_of first None = one first
 sent_of first (Some o) = one first ++ out o ∷ []
 
--- What is left, where this was seen before, this is the dialogue that the event names, moved by what was received, and these
--- are the codes of an operator's change.
+-- The outcome as the definitions have it: `named` is the dialogue that the event names, as the received message leaves it, and
+-- `codes` are those of an operator's change.
 abbrev pub outcome_of : Local → (named : Option machine.Dialogue) → (codes : List ℕ) → Outcome → left.Outcome
 outcome_of here named codes o = record {
   after = after_of codes o.after here.record_of;
@@ -73,6 +73,6 @@ outcome_of here named codes o = record {
   sent = sent_of o.first o.second;
 }
 
--- The effect of received components, with the invocations that it leaves.
+-- The effect of received components, with the invocations after them.
 abbrev pub effect_with : List Invocation → Effect → effects.Effect
 effect_with after e = record { rejects = map rejection e.rejects.items; started = e.started; invocations = after; conclusion = concluded e.conclusion }

@@ -1,10 +1,10 @@
--- How a record may be written.
+-- What may be written to a record.
 use Rattle.std.specs.Prelude.{Option, Some, None, true}
 use Rattle.records.specs.Subscriber.{Subscriber, IsPlace}
 use Rattle.location.specs.declared.outcome.After.{After}
 use Rattle.location.specs.declared.outcome.After.TheVariants.{Same, Purged, Placed, NewCodes, Withdrawn}
 
--- Where something changes there is a record, and it may have the register, the flag and the mark that it then has.
+-- If something changes there is a record, and the register, flag and mark that are written may stand in it.
 abbrev pub CanBeWritten : After → Option Subscriber → Type 0
 CanBeWritten Same found = Unit {0}
 CanBeWritten Purged None = ⊥

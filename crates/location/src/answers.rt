@@ -1,4 +1,4 @@
-//! What is sent in a dialogue (Q.774).
+//! Messages sent in an open dialogue (Q.774).
 
 ghost use Rattle.std.specs.Prelude.{◌≡◌, ◌∷◌, [], None, map, Option};
 ghost use Rattle.machine.specs.State.{Local};
@@ -23,7 +23,7 @@ pub(crate) fn peer_of(vlr: &IsdnAddress) -> Peer
     Peer::new(*vlr.digits())
 }
 
-/// An End, where the dialogue is Active. In Initiation Sent it ends without a frame.
+/// An End, if the dialogue is Active. In Initiation Sent the dialogue ends without a frame.
 pub(crate) fn ended(
     transaction: Transaction,
     rejects: Vec<Rejection>,
@@ -47,7 +47,7 @@ pub(crate) fn ended(
     }
 }
 
-/// A Continue, where there is a Reject to send.
+/// A Continue, if there is a Reject to send.
 pub(crate) fn continued(id: Tid, transaction: Transaction, rejects: Vec<Rejection>) -> Option<Out>
     ensures { one result ≡ continued id (transaction_of transaction) transaction.remote (map rejection rejects.items) }
 {

@@ -1,4 +1,4 @@
-//! Where a Begin came from, and the End that answers it.
+//! The sender of a Begin, and the End that answers it (Q.774).
 
 ghost use Rattle.std.specs.Prelude.{◌≡◌, ◌∷◌, []};
 ghost use Rattle.machine.specs.Begins.{answered};
@@ -10,7 +10,7 @@ use mapctx::Context;
 use outgoing::{Components, Out, SentComponent, SentMessage};
 use q773_comp::Rejection;
 
-/// Where a Begin came from: its source, its originating transaction id, and its context.
+/// The sender of a Begin: its address, the originating transaction id, and the application context.
 #[derive(Clone, Copy)]
 pub(crate) struct Source {
     pub(crate) from: Peer,
@@ -18,7 +18,7 @@ pub(crate) struct Source {
     pub(crate) context: Context,
 }
 
-/// Who asks by a Begin: where it came from, the Rejects of its components, and the invoke id of the Invoke that started.
+/// A request in a Begin: its sender, the Rejects of its components, and the invoke id of the Invoke that started.
 #[derive(Drop)]
 pub(crate) struct Asker {
     pub(crate) source: Source,

@@ -1,4 +1,4 @@
-//! A received Begin (TS 29.002, TS 23.012): the procedure that a peer starts.
+//! A received Begin: the MAP operation that a peer starts (TS 29.002; the order of the checks is the profile's).
 
 ghost use Rattle.std.specs.Prelude.{◌≡◌, ◌≢◌, ◌≤◌, ◌^◌, ◌∷◌, [], List, ℕ, Option, IfOk, IfSome, None, map, option_map, option_copied};
 ghost use Rattle.machine.specs.SmRoute.{sm_route};
@@ -37,7 +37,7 @@ use records::Record;
 use smroute::route_sm;
 use std::alloc::{AllocError, Global};
 
-/// The End with this component alone; nothing changes.
+/// The End with this component only; nothing changes.
 fn answered(who: Asker, component: SentComponent) -> Outcome
     ensures leaves { (here : Local) → outcome_of here None [] result
         ≡ unchanged here (answered (asker_of who) (component_of component ∷ [])) }
@@ -56,7 +56,7 @@ pub(crate) fn failed(who: Asker, code: u8) -> Outcome
     answered(who, component)
 }
 
-/// sendRoutingInfoForSM.
+/// sendRoutingInfoForSM (TS 29.002, 12.1).
 fn route(who: Asker, subscriber: Option<&Record>) -> Outcome
     ensures leaves { (here : Local) → IfSome subscriber.entry (λ s. s.now.imsi ≡ here.imsi)
         → outcome_of here None [] result ≡ unchanged here
@@ -67,7 +67,7 @@ fn route(who: Asker, subscriber: Option<&Record>) -> Outcome
     answered(who, component)
 }
 
-/// The procedure of an Invoke that started.
+/// The procedure of an Invoke that was accepted.
 fn procedure(who: Asker, asked: &Argument, subscriber: Option<&Record>, new: Tid) -> Outcome
     ensures leaves { (here : Local) → IfSome subscriber.entry (λ s. s.now.imsi ≡ here.imsi)
         → here.record_of ≡ known subscriber.entry
@@ -82,7 +82,7 @@ fn procedure(who: Asker, asked: &Argument, subscriber: Option<&Record>, new: Tid
     }
 }
 
-/// What a Begin in a context may start.
+/// What a Begin may start in its application context.
 fn offer_in(of: Context, components: &[Component<Parameter>]) -> Offer
     ensures { offered result ≡ offer_in (context of) (map (component parameter) components.now) }
 {
@@ -94,7 +94,7 @@ fn offer_in(of: Context, components: &[Component<Parameter>]) -> Offer
     }
 }
 
-/// The End with the Rejects alone, where nothing started.
+/// The End with the Rejects only, if nothing started.
 fn not_started(source: Source, rejects: Vec<Rejection>) -> Outcome
     ensures leaves { (here : Local) → outcome_of here None [] result
         ≡ unchanged here (answered (source_with source (map rejection rejects.items)) []) }
@@ -129,7 +129,7 @@ fn started_in(
     }
 }
 
-/// A Begin in a context in which a peer may begin.
+/// A Begin in a context that is accepted from a peer.
 fn begins_in(
     alloc: Global,
     source: Source,
@@ -151,8 +151,8 @@ fn begins_in(
     Ok(started_in(source, effect, asked, subscriber, new))
 }
 
-/// A received Begin: it is aborted where it is not accepted, and otherwise its procedure follows. A dialogue that opens takes
-/// the new id. Only the effect of the components takes memory.
+/// A received Begin: answered with an Abort if its dialogue is not accepted, otherwise by its procedure. A dialogue that opens
+/// has the id `new`. Only the effect of the components allocates.
 pub fn begins(
     alloc: Global,
     indication: &Indication,

@@ -1,4 +1,4 @@
-//! Cancels (TS 29.002, cancelLocation).
+//! Own cancelLocation (TS 29.002, 8.1.3 MAP_CANCEL_LOCATION; TS 23.012, Location cancellation).
 
 ghost use Rattle.std.specs.Prelude.{◌≡◌, ◌∷◌, [], List, ℕ, Option};
 ghost use Rattle.machine.specs.State as machine;
@@ -18,7 +18,7 @@ use mapctx::Context;
 use outgoing::{Components, Out, SentComponent, SentMessage};
 use tsl::Transaction;
 
-/// A cancel that is sent: the VLR digits that it goes to, which attempt it is, and why.
+/// A cancel to be sent: the VLR digits, the attempt, and the cancellationType.
 #[derive(Clone, Copy)]
 pub(crate) struct Cancelling {
     pub(crate) vlr: Peer,
@@ -59,7 +59,7 @@ fn cancel_begin(imsi: Imsi, vlr: Peer, why: CancellationType, new: Tid) -> Out
     }
 }
 
-/// The named dialogue, if any, is gone, and a cancel may follow what is sent in it.
+/// The named dialogue, if any, closes with this message; a cancel may follow.
 pub(crate) fn then_cancel(
     after: After,
     first: Option<Out>,

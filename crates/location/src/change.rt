@@ -1,4 +1,4 @@
-//! An operator's change of one subscriber (profile; TS 29.002, insertSubscriberData and cancelLocation).
+//! An operator's change of one subscriber (profile; TS 29.002, 8.8.1 MAP-INSERT-SUBSCRIBER-DATA, 8.1.3 MAP_CANCEL_LOCATION).
 
 ghost use Rattle.std.specs.Prelude.{◌≡◌, ◌≤◌, ◌∷◌, [], IfSome, Some, None, option_map, length, List, ℕ, Option, option_copied};
 ghost use Rattle.machine.specs.State.{Local};
@@ -71,7 +71,7 @@ fn data_begin(subscriber: &Record, register: &Register, codes: &[u8], new: Tid) 
     }
 }
 
-/// New codes: an update in progress is no longer current, and a register that is not purged is told.
+/// New codes: an update in progress is no longer current, and a register that is not purged gets the data.
 fn codes_to(subscriber: &Record, codes: &[u8], new: Tid) -> Outcome
     requires { length codes.now ≤ 32 }
     ensures leaves { (here : Local) → subscriber.now.imsi ≡ here.imsi
@@ -98,8 +98,8 @@ fn codes_to(subscriber: &Record, codes: &[u8], new: Tid) -> Outcome
     }
 }
 
-/// An operator gives a subscriber these codes. Where the subscriber is unknown or withdrawn nothing changes. A dialogue that
-/// opens takes the new id.
+/// An operator sets a subscriber's codes. If the subscriber is unknown or withdrawn nothing changes. A dialogue that opens has
+/// the id `new`.
 pub fn new_codes(subscriber: Option<&Record>, codes: &[u8], new: Tid) -> Outcome
     requires { length codes.now ≤ 32 }
     ensures leaves { (here : Local) → IfSome subscriber.entry (λ s. s.now.imsi ≡ here.imsi)
@@ -113,7 +113,7 @@ pub fn new_codes(subscriber: Option<&Record>, codes: &[u8], new: Tid) -> Outcome
     }
 }
 
-/// The cancel to the register of a subscription that ends.
+/// The cancel to the last register of a withdrawn subscriber.
 fn to_last(register: Option<Register>) -> Option<Cancelling>
     ensures { result ≡ to_last (option_map machine_register register) }
 {
@@ -127,7 +127,7 @@ fn to_last(register: Option<Register>) -> Option<Cancelling>
     }
 }
 
-/// The end of a subscription: the record has no register any more, and the one that it had, purged or not, gets a cancel.
+/// A withdrawal: the record loses its register, and that register, purged or not, gets a cancel.
 fn withdraw_from(subscriber: &Record, new: Tid) -> Outcome
     ensures leaves { (here : Local) → subscriber.now.imsi ≡ here.imsi
         → here.record_of ≡ Some (machine_subscriber subscriber.now)
@@ -139,8 +139,8 @@ fn withdraw_from(subscriber: &Record, new: Tid) -> Outcome
     then_cancel(After::Withdrawn, None, subscriber.imsi, next, new)
 }
 
-/// An operator ends a subscription. Where the subscriber is unknown or withdrawn nothing changes. A cancel that opens takes
-/// the new id.
+/// An operator withdraws a subscriber. If the subscriber is unknown or withdrawn nothing changes. A cancel that opens has the
+/// id `new`.
 pub fn withdraws(subscriber: Option<&Record>, new: Tid) -> Outcome
     ensures leaves { (here : Local) → IfSome subscriber.entry (λ s. s.now.imsi ≡ here.imsi)
         → here.record_of ≡ known subscriber.entry

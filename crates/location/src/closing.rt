@@ -1,4 +1,4 @@
-//! A received End or Abort of an open dialogue (TS 29.002).
+//! A received End or Abort of an open dialogue (Q.774).
 
 ghost use Rattle.std.specs.Prelude.{◌≡◌, [], Option, option_copied};
 ghost use Rattle.machine.specs.State.{Dialogue, Local};
@@ -11,7 +11,7 @@ use crate::update_end::unmarked;
 use hlr_types::Tid;
 use records::Record;
 
-/// An End or an Abort: the dialogue is gone, whatever components the End carries, and nothing is sent.
+/// An End or an Abort: the dialogue closes, whatever components the End carries, and nothing is sent (profile).
 pub fn closes(subscriber: Option<&Record>, id: Tid) -> Outcome
     ensures leaves { (here : Local) (named : Option Dialogue) → here.record_of ≡ known subscriber.entry
         → outcome_of here named [] result ≡ closes here id }

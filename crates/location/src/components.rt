@@ -1,4 +1,4 @@
-//! The components that procedures answer with (TS 29.002).
+//! The results and errors that procedures answer with (TS 29.002).
 
 ghost use Rattle.std.specs.Prelude.{◌≡◌};
 ghost use Rattle.machine.specs.Sent as machine;
@@ -20,7 +20,7 @@ pub(crate) const DATA_MISSING: u8 = 35;
 
 pub(crate) const UNEXPECTED_DATA_VALUE: u8 = 36;
 
-/// An error.
+/// A ReturnError.
 pub(crate) fn error(invoke: InvokeId, code: u8) -> SentComponent
     ensures { component result ≡ machine.SentError invoke code }
 {
@@ -30,7 +30,7 @@ pub(crate) fn error(invoke: InvokeId, code: u8) -> SentComponent
     }
 }
 
-/// The result of updateLocation.
+/// The result of updateLocation (MAP-MS-DataTypes, UpdateLocationRes).
 pub(crate) fn update_result(invoke: InvokeId, hlr: IsdnAddress) -> SentComponent
     ensures { component result ≡ machine.UpdateResult invoke hlr }
 {
@@ -40,7 +40,7 @@ pub(crate) fn update_result(invoke: InvokeId, hlr: IsdnAddress) -> SentComponent
     }
 }
 
-/// The result of purgeMS.
+/// The result of purgeMS (MAP-MS-DataTypes, PurgeMS-Res).
 pub(crate) fn purge_result(invoke: InvokeId, freeze: bool) -> SentComponent
     ensures { component result ≡ machine.PurgeResult invoke freeze }
 {
@@ -50,7 +50,7 @@ pub(crate) fn purge_result(invoke: InvokeId, freeze: bool) -> SentComponent
     }
 }
 
-/// The answer to sendRoutingInfoForSM.
+/// The answer to sendRoutingInfoForSM: RoutingInfoForSM-Res (MAP-SM-DataTypes), or an error.
 pub(crate) fn route_answer(invoke: InvokeId, answer: RouteAnswer) -> SentComponent
     ensures { component result ≡ route_component invoke (machine_answer answer) }
 {

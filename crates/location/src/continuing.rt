@@ -1,4 +1,4 @@
-//! A received Continue of an open dialogue (TS 29.002, TS 23.012).
+//! A received Continue of an open dialogue (Q.774, TS 29.002).
 
 ghost use Rattle.std.specs.Prelude.{◌≡◌, [], List, Option, Some, map, option_copied};
 ghost use Rattle.machine.specs.State.{Invocation, Local};
@@ -24,8 +24,7 @@ use outgoing::Components;
 use q773_comp::Rejection;
 use records::Record;
 
-/// What a dialogue offers to the components of a Continue. In an update the peer waits for its own Invoke, and may invoke
-/// nothing else; in the others it may invoke nothing.
+/// What the peer may invoke in a Continue: nothing. In an update its own updateLocation is still open.
 pub fn offer_to(kind: &Kind) -> Offer
     ensures { offered result ≡ offer_to (kind_of kind.now) }
 {
@@ -41,7 +40,7 @@ pub fn offer_to(kind: &Kind) -> Offer
     }
 }
 
-/// The dialogue goes on, and the Rejects are sent.
+/// The dialogue goes on, and the Rejects, if any, are sent.
 fn goes_on(id: Tid, dialogue: &Dialogue, rejects: Vec<Rejection>) -> Outcome
     ensures leaves { (here : Local) (vs after : List Invocation)
         → outcome_of here (Some (dialogue_with after dialogue.now)) [] result
@@ -57,7 +56,7 @@ fn goes_on(id: Tid, dialogue: &Dialogue, rejects: Vec<Rejection>) -> Outcome
     }
 }
 
-/// A cancel or a data dialogue ends by success and by failure.
+/// A cancel or a data dialogue: it ends when its invocations have succeeded or failed.
 fn other_continues(id: Tid, dialogue: &Dialogue, effect: Effect) -> Outcome
     ensures leaves { (here : Local) (vs after : List Invocation)
         → outcome_of here (Some (dialogue_with after dialogue.now)) [] result
@@ -76,7 +75,7 @@ fn other_continues(id: Tid, dialogue: &Dialogue, effect: Effect) -> Outcome
     }
 }
 
-/// An update, by how its inserts stand.
+/// An update, by the conclusion of its inserts.
 fn update_continues(
     hlr: IsdnAddress,
     subscriber: Option<&Record>,
@@ -103,7 +102,7 @@ fn update_continues(
     }
 }
 
-/// A dialogue, by what it is for, and the effect that the components have.
+/// A dialogue, by its kind and the effect of the components.
 fn continues_by(
     hlr: IsdnAddress,
     subscriber: Option<&Record>,
@@ -127,8 +126,8 @@ fn continues_by(
     }
 }
 
-/// A Continue that is for an open dialogue, whose peer and remote id it has set already, with the effect of its components.
-/// Where an update completes, and its subscriber had another register, a cancel opens under the new id.
+/// A Continue for an open dialogue, whose peer and remote id are already set, with the effect of its components. If an update
+/// completes and its subscriber had another register, a cancel opens with the id `new`.
 pub fn continues(
     hlr: IsdnAddress,
     subscriber: Option<&Record>,

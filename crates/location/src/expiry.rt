@@ -1,4 +1,4 @@
-//! The expiry of one timer of an open dialogue (Q.774, TS 29.002).
+//! The expiry of a timer of an open dialogue (Q.774, invocation timer and reject timer; TS 29.002).
 
 ghost use Rattle.std.specs.Prelude.{◌≡◌, [], List, Option, IfSome, Some, option_map, option_copied};
 ghost use Rattle.machine.specs.State as machine;
@@ -25,10 +25,10 @@ use outgoing::Components;
 use records::Record;
 use std::alloc::Global;
 
-/// How often a cancel is tried (profile).
+/// How often a cancel is attempted (profile).
 const MOST_ATTEMPTS: u8 = 3;
 
-/// The register of an open update of this subscriber.
+/// The register of the dialogue, if it is an update of this subscriber.
 pub fn register_of(imsi: Imsi, dialogue: Option<Dialogue>) -> Option<Register>
     ensures { (vs : List Invocation)
         → option_map machine_register result ≡ register_of (if_of imsi (option_map (dialogue_with vs) dialogue)) }
@@ -42,7 +42,7 @@ pub fn register_of(imsi: Imsi, dialogue: Option<Dialogue>) -> Option<Register>
     }
 }
 
-/// Whether these are the digits of the register.
+/// Whether these are the register's VLR digits.
 fn is_register(vlr: &Peer, register: Option<Register>) -> bool
     ensures { result ≡ is_register vlr.now (option_map machine_register register) }
 {
@@ -64,7 +64,7 @@ fn is_wanted(vlr: &Peer, subscriber: Option<&Record>, current: Option<Register>)
     }
 }
 
-/// The next attempt of a cancel, where there is one and its register is not wanted.
+/// The next attempt of a cancel, if there is one and its register is not wanted.
 fn again(last: Cancelling, wanted: bool) -> Option<Cancelling>
     ensures { result ≡ again last wanted }
 {
@@ -77,8 +77,8 @@ fn again(last: Cancelling, wanted: bool) -> Option<Cancelling>
     })
 }
 
-/// A cancel that is not answered ends, with an End where it is Active. It is sent again, as the next attempt and to the same
-/// digits, unless the register there is wanted.
+/// A cancel that is not answered closes, with an End if it is Active. It is repeated to the same digits as the next attempt,
+/// unless that register is wanted (profile).
 fn cancel_expires(
     alloc: Global,
     subscriber: Option<&Record>,
@@ -101,7 +101,7 @@ fn cancel_expires(
     then_cancel(After::Same, first, dialogue.subscriber, next, new)
 }
 
-/// An expiry in Operation Sent ends the dialogue. New subscriber data is not sent again.
+/// An expiry in Operation Sent closes the dialogue. New subscriber data is not sent again (profile).
 fn sent_expires(
     alloc: Global,
     subscriber: Option<&Record>,
@@ -135,8 +135,8 @@ fn sent_expires(
     }
 }
 
-/// The expiry of the timer of an invocation, in the state in which it was. `current` is the register of the subscriber's
-/// current update. In Wait for Reject the invocation is forgotten, and nothing else happens.
+/// The expiry of an invocation's timer, by the invocation's state. `current` is the register of the subscriber's current
+/// update. In Wait for Reject the invocation becomes Idle, and nothing else happens.
 pub fn expires(
     alloc: Global,
     subscriber: Option<&Record>,

@@ -1,4 +1,4 @@
-//! Subscriber data (TS 29.002, insertSubscriberData), eight codes to an insert (profile).
+//! Subscriber data (TS 29.002, 8.8.1 MAP-INSERT-SUBSCRIBER-DATA), eight codes in an insert (profile).
 
 ghost use Rattle.std.specs.Prelude.{◌≡◌, ◌+◌, ◌<◌, ◌≤◌, ℕ, length};
 ghost use Rattle.machine.specs.Outcome.{further, inserts, inserts_invoked};
@@ -14,7 +14,7 @@ use outgoing::{Components, SubscriberData};
 /// How many codes one insert carries (profile).
 const CODES_IN_INSERT: usize = 8;
 
-/// How many inserts carry these codes: one at least, since the first has the MSISDN.
+/// How many inserts carry these codes: at least one, since the first has the MSISDN.
 fn insert_count(codes: &[u8]) -> u8
     requires { length codes.now ≤ 32 }
     ensures value { result ≡ further codes.now + 1 }
@@ -24,7 +24,7 @@ fn insert_count(codes: &[u8]) -> u8
     (codes.len().saturating_sub(1) / CODES_IN_INSERT) as u8 + 1
 }
 
-/// A dialogue that opens with the inserts of these codes.
+/// A dialogue that opens with inserts of these codes.
 pub(crate) fn inserting(dialogue: Dialogue, codes: &[u8]) -> Opening
     requires { length codes.now ≤ 32 }
     ensures { (clock : ℕ) → opening_of clock result ≡ dialogue_with (inserts_invoked clock codes.now) dialogue }
@@ -35,7 +35,7 @@ pub(crate) fn inserting(dialogue: Dialogue, codes: &[u8]) -> Opening
     }
 }
 
-/// The inserts themselves. The IMSI goes along where no update names the subscriber.
+/// The inserts. They carry the IMSI if no update names the subscriber.
 pub(crate) fn subscriber_data(imsi: Option<Imsi>, msisdn: IsdnAddress, codes: &[u8]) -> Components
     requires { length codes.now ≤ 32 }
     ensures { components result ≡ inserts imsi msisdn codes.now }

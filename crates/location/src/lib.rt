@@ -1,7 +1,8 @@
-//! The location procedures of the register (3GPP TS 29.002, TS 23.012), each a function of what it sees to what it leaves.
+//! The procedures of the register (3GPP TS 29.002; TS 23.012 Location updating, Location cancellation, Purge MS), each a
+//! function from what it sees to an outcome.
 //!
-//! A procedure changes no table. Its contract says that what it leaves is what the definitions leave, for everything that it
-//! does not see. But for the effect of a Begin's components none takes memory, and none can fail.
+//! A procedure changes no table. Its contract says that the outcome is that of the definitions, whatever it does not see. Only
+//! `begins` allocates (for the effect of its components); no other procedure can fail.
 #![tactic(auto)]
 
 mod answers;

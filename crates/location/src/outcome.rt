@@ -1,4 +1,4 @@
-//! What a procedure on one subscriber leaves.
+//! The outcome of a procedure on one subscriber.
 
 ghost use Rattle.std.specs.Prelude.{◌<◌, ◌≤◌};
 
@@ -6,12 +6,12 @@ use dialogues::{Dialogue, InvokeId};
 use hlr_types::{Register, Tid};
 use outgoing::Out;
 
-/// How the subscriber's record changes (TS 23.012). It says what is written, so that nothing else of the record is copied.
+/// How the subscriber's record changes (TS 23.012): only what is written, so that the rest of the record is not copied.
 #[derive(Clone, Copy, Debug, PartialEq, Eq)]
 pub enum After {
-    /// It stays as it is, also where there is none.
+    /// It stays the same, or there is none.
     Same,
-    /// The serving register has purged the subscriber.
+    /// The serving register has purged the subscriber (Purge MS).
     Purged,
     /// It has this register, this purged flag and this current update.
     Placed {
@@ -19,35 +19,35 @@ pub enum After {
         purged: bool,
         current: Option<Tid>,
     },
-    /// It has the codes that the operator named, and no current update.
+    /// It has the operator's new codes, and no current update.
     NewCodes,
-    /// The subscription has ended: it has no register and no current update.
+    /// The subscriber is withdrawn: no register and no current update.
     Withdrawn,
 }
 
-/// A dialogue that opens under the new id.
+/// A dialogue that opens with the new id.
 #[derive(Clone, Copy, Debug)]
 pub struct Opening {
     pub dialogue: Dialogue,
-    /// How many operations are invoked in it at once, with the invoke ids 1, 2 and so on.
+    /// How many operations are invoked in it at once, with the invoke ids 1, 2, ..
     pub invoked: u8,
     ghost some: { 0 < invoked },
     ghost most: { invoked ≤ 4 },
 }
 
-/// What becomes of the dialogue that an event names. Only where it is gone, or none is named, may another open.
+/// What happens to the dialogue that an event names. Another may open only if it closes or none is named.
 #[derive(Clone, Copy, Debug)]
 pub enum Stays {
-    /// It is gone, or none is named.
+    /// It closes, or none is named.
     Gone { opens: Option<Opening> },
-    /// It goes on, with the transaction and the invocations that what was received leaves it.
+    /// It goes on; its transaction and invocations are as the received message leaves them.
     GoesOn,
     /// It goes on without the invocation of this id.
     Forgets(InvokeId),
 }
 
-/// What a procedure leaves: the record after, the dialogue that the event names as it stays with the one that opens, and at
-/// most two messages, of which the second is the Begin of a cancel. It takes no memory.
+/// The outcome of a procedure: the change of the record, what happens to the named dialogue, the dialogue that opens, and at
+/// most two messages, the second being the Begin of a cancel. Building it does not allocate.
 #[derive(Debug, Drop)]
 pub struct Outcome {
     pub after: After,

@@ -1,4 +1,4 @@
-//! A Begin's purgeMS (TS 29.002, TS 23.012).
+//! A Begin's purgeMS (TS 29.002, 8.1.6 MAP_PURGE_MS; TS 23.012, Purge MS).
 
 ghost use Rattle.std.specs.Prelude.{◌≡◌, [], Some, option_map, option_copied};
 ghost use Rattle.machine.specs.State.{Local};
@@ -17,7 +17,7 @@ use mapargs_loc::PurgeArg;
 use records::Record;
 use smroute::UNKNOWN_SUBSCRIBER;
 
-/// The purge of a subscriber who is not withdrawn: only the stored register, told by its digits, purges the subscriber.
+/// The purge of a subscriber who is not withdrawn: only the stored register, compared by its digits, sets the purged flag.
 fn purge_known(who: Asker, vlr: IsdnAddress, subscriber: &Record) -> Outcome
     ensures leaves { (here : Local) → here.record_of ≡ Some (machine_subscriber subscriber.now)
         → outcome_of here None [] result
@@ -38,7 +38,7 @@ fn purge_known(who: Asker, vlr: IsdnAddress, subscriber: &Record) -> Outcome
     }
 }
 
-/// purgeMS. Without a VLR number the error is dataMissing, also for an unknown subscriber.
+/// purgeMS. Without a VLR number the error is dataMissing, even for an unknown subscriber (profile).
 pub(crate) fn purge(who: Asker, asked: &PurgeArg, subscriber: Option<&Record>) -> Outcome
     ensures leaves { (here : Local) → here.record_of ≡ known subscriber.entry → outcome_of here None [] result
         ≡ purge here (asker_of who) who.invoke asked.now.vlr (known subscriber.entry) }

@@ -1,4 +1,4 @@
-//! A Begin's updateLocation (TS 29.002, TS 23.012).
+//! A Begin's updateLocation (TS 29.002, 8.1.2 MAP_UPDATE_LOCATION; TS 23.012, Location updating).
 
 ghost use Rattle.std.specs.Prelude.{◌≡◌, ◌∷◌, [], IfSome, Some, None, false, map, option_copied};
 ghost use Rattle.std.specs.List.{list_any};
@@ -30,7 +30,7 @@ use records::{Record, Roam};
 use smroute::UNKNOWN_SUBSCRIBER;
 use tsl::Transaction;
 
-/// Whether one of the prefixes is a prefix of the VLR's digits, or all are allowed.
+/// Whether the VLR is allowed: all are, or its digits begin with one of the prefixes.
 fn is_allowed(roam: &Roam, vlr: &IsdnAddress) -> bool
     ensures { result ≡ is_allowed (prefixes_of roam.now) vlr.now }
 {
@@ -59,7 +59,7 @@ fn is_prefix(prefix: &[u8], digits: &[u8]) -> bool
     digits.starts_with(prefix)
 }
 
-/// The Continue that carries the subscriber data.
+/// The Continue that carries the subscriber data (insertSubscriberData).
 fn data_sent(source: Source, rejects: Vec<Rejection>, subscriber: &Record, new: Tid) -> Out
     ensures { out result ∷ [] ≡ send source.from (SentContinue new source.origin (Some (context source.context))
         (map rejection rejects.items) (inserts None subscriber.now.msisdn subscriber.now.codes)) }
@@ -81,7 +81,7 @@ fn data_sent(source: Source, rejects: Vec<Rejection>, subscriber: &Record, new: 
     }
 }
 
-/// The update begins. It is the current one from now on, in place of any other.
+/// The update begins. It becomes the subscriber's current update, in place of any other.
 fn update_opens(who: Asker, register: Register, subscriber: &Record, new: Tid) -> Outcome
     requires { subscriber.now.withdrawn ≡ false }
     ensures leaves { (here : Local) → subscriber.now.imsi ≡ here.imsi
@@ -134,7 +134,7 @@ fn update_known(who: Asker, register: Register, subscriber: &Record, new: Tid) -
     }
 }
 
-/// updateLocation. It does not begin for an unknown subscriber, nor at a VLR that the record does not allow.
+/// updateLocation. Refused with unknownSubscriber, or with roamingNotAllowed at a VLR that the record does not allow.
 pub(crate) fn update(
     who: Asker,
     register: Register,

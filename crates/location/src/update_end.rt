@@ -1,4 +1,4 @@
-//! How an updateLocation ends (TS 29.002, TS 23.012).
+//! The end of an updateLocation (TS 29.002, 8.1.2 MAP_UPDATE_LOCATION; TS 23.012, Location updating).
 
 ghost use Rattle.std.specs.Prelude.{◌≡◌, ◌∷◌, [], ℕ, List, Option, Some, option_map, map, option_copied, true, false};
 ghost use Rattle.machine.specs.State as machine;
@@ -27,14 +27,14 @@ use outgoing::Components;
 use q773_comp::Rejection;
 use records::Record;
 
-/// What an update is to answer: the register of its argument, and the invoke id that the peer waits for.
+/// The data of an update: the register in its argument, and the invoke id to answer.
 #[derive(Clone, Copy)]
 pub(crate) struct Updating {
     pub(crate) register: Register,
     pub(crate) invoke: InvokeId,
 }
 
-/// Whether the mark of the current update is that of this dialogue.
+/// Whether this dialogue is the subscriber's current update.
 fn is_marked(subscriber: &Record, id: Tid) -> bool
     ensures value { result ≡ is_marked subscriber.now.current id }
     ensures not_withdrawn { result ≡ true → subscriber.now.withdrawn ≡ false }
@@ -42,7 +42,7 @@ fn is_marked(subscriber: &Record, id: Tid) -> bool
     subscriber.current == Some(id)
 }
 
-/// The record without the mark, where it is this dialogue's.
+/// Clears the current mark, if it is this dialogue's.
 pub(crate) fn unmarked(subscriber: Option<&Record>, id: Tid) -> After
     ensures leaves { (codes : List ℕ)
         → after_of codes result (known subscriber.entry) ≡ unmarked id (known subscriber.entry) }
@@ -58,7 +58,7 @@ pub(crate) fn unmarked(subscriber: Option<&Record>, id: Tid) -> After
     }
 }
 
-/// An update that fails, or is not the current one: systemFailure, and the register stays.
+/// An update that fails, or is not the current one: error systemFailure, and the register stays (profile).
 pub(crate) fn update_fails(
     subscriber: Option<&Record>,
     id: Tid,
@@ -81,8 +81,8 @@ pub(crate) fn update_fails(
     }
 }
 
-/// The cancel to the register that an update leaves, where its digits are others. Whether it has purged the subscriber makes
-/// no difference (profile).
+/// The cancel to the old register, if its VLR digits differ. It is sent even if that register has purged the subscriber
+/// (profile).
 fn to_old(register: &Register, old: Option<Register>) -> Option<Cancelling>
     ensures { result ≡ to_old (register_of register.now) (option_map machine_register old) }
 {
@@ -96,8 +96,8 @@ fn to_old(register: &Register, old: Option<Register>) -> Option<Cancelling>
     }
 }
 
-/// The current update completes: its register serves from now on. An old register with other digits, purged or not, gets a
-/// cancel, whose Begin follows the End (profile).
+/// The current update completes: its register becomes the serving one. An old register with other digits, purged or not, gets
+/// a cancel, whose Begin follows the End (profile).
 fn update_done(
     hlr: IsdnAddress,
     subscriber: &Record,
@@ -127,7 +127,7 @@ fn update_done(
     then_cancel(after, first, dialogue.subscriber, next, new)
 }
 
-/// An update whose inserts have all succeeded: it counts only where it is the current one.
+/// An update whose inserts have all succeeded: it completes only if it is the current one.
 pub(crate) fn update_completes(
     hlr: IsdnAddress,
     subscriber: Option<&Record>,

@@ -34,7 +34,7 @@ front_again version found n (l ∷ ls) (s ∷ ss) rest h apart =
     rw (record_again version l s h.0, imsi_free found s free, msisdn_free found s free)
     (next ∙ ap (λ (x : List Subscriber). records_after version x ((n + 1) + length ls) rest) regroup ∙ ap (λ (m : ℕ). records_after version (found ++ s ∷ ss) m rest) place)
 
--- what stands at the line of a fault decides
+-- the content of the line with a fault decides
 faulty_line : (version : Version) (found : List Subscriber) (n : ℕ) (line : List ℕ) (rest : List (List ℕ)) (e : RecordsFault) → with_line found n (record_of version (parts 32 line)) ≡ Err e → records_after version found n (line ∷ rest) ≡ Err e
 unfolding records_after
 faulty_line version found n line rest e bad = ap (and_then (λ next. records_after version next (n + 1) rest)) bad

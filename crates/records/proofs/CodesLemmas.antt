@@ -1,4 +1,4 @@
--- What is read where something was read.
+-- What is read if something was read.
 use Rattle.std.proofs.Common.{◌≡◌, List, ℕ, refl, ap, ◌∙◌, sym}
 use Rattle.std.specs.Prelude.{Option, Some, None, option_map}
 

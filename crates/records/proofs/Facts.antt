@@ -1,4 +1,4 @@
--- What is read keeps what every record keeps.
+-- What is read has the facts of every record.
 use Rattle.std.proofs.Common.{◌≡◌, ℕ, ◌∷◌, Bool, false, List, [], refl, sym, subst, ◌∙◌, arith, inl, inr}
 use Rattle.std.specs.Prelude.{◌&&◌, is_some, Option, Some, None, IfSome, option_map}
 use Rattle.std.specs.List.{AllByRecursion}
@@ -32,7 +32,7 @@ not_purged : (field : List ℕ) (register : Option Register) (purged : Bool) →
 not_purged field None purged h e = h.1
 not_purged field (Some r) purged h e = absurd cc
 
--- a line that is read gives a record
+-- a line that is read is a record
 pub keeps : (imsi msisdn codes roam register : List ℕ) (w : Bool) (s : Subscriber) → subscriber_of imsi msisdn codes roam register w ≡ Some s → AreOctets s.codes → MayServe s.register → IsRecord s
 keeps imsi msisdn codes roam register w s e octets serves =
     let f = subscriber_found imsi msisdn codes roam register w s e in

@@ -12,7 +12,7 @@ use Rattle.records.specs.Reading.{record_of}
 use Rattle.records.proofs.LineLaws.{record_found}
 use Rattle.records.proofs.MapLemmas.{digits_total}
 
--- the rest is what every record keeps
+-- the rest are the facts of every record
 pub fresh_unmarked : (s : Subscriber) → IsRecord s → s.current ≡ None → IsFresh s
 fresh_unmarked s keeps none = record { unmarked = none; purged = keeps.place.purged; withdrawn = keeps.place.left }
 
@@ -26,14 +26,14 @@ fresh_step true v s o fresh others e =
     subst IsFresh same fresh
 fresh_step false v s o fresh others e = others e
 
--- one fresh record more
+-- one more fresh record
 pub fresh_insert : (m : RecordMap) (k : List ℕ) (v : Subscriber) → AreFresh m → IsFresh v → AreFresh (map.insert m k v)
 fresh_insert m k v are fresh = λ q s e. fresh_step (eq_by_cmp digits_cmp q k) v s (map.get m q) fresh (are q s) (sym (map.get-insert digits_total m k v q) ∙ e)
 
 pub fresh_empty : AreFresh map.empty
 fresh_empty = λ q s e. absurd (cc (sym (map.get-empty digits_cmp q) ∙ e))
 
--- one fresh record more, unless memory is refused
+-- one more fresh record, unless memory runs out
 pub fresh_added : {A E : Type 0} (r : Result A E) (m n : RecordMap) (v : Subscriber) → OnOk r (n ≡ map.insert m v.imsi v) → OnErr r (n ≡ m) → AreFresh m → IsFresh v → AreFresh n
 fresh_added (Ok a) m n v ok err are fresh = subst AreFresh (sym ok) (fresh_insert m v.imsi v are fresh)
 fresh_added (Err e) m n v ok err are fresh = subst AreFresh (sym err) are

@@ -16,5 +16,8 @@ pub mod FreshLemmas
 pub mod Readings
 pub mod WrittenLemmas
 pub mod SavedLaws
+pub mod SameLemmas
 pub mod SplitLemmas
 pub mod CodesLemmas
+pub mod Computed
+pub mod FilesRead

@@ -1,4 +1,4 @@
--- One line more is loaded.
+-- One more line is loaded.
 use Rattle.std.proofs.Common.{◌≡◌, ℕ, ◌+◌, Bool, true, false, List, [], ◌∷◌, ◌++◌, map as each, refl, sym, ap, ◌∙◌}
 use Rattle.std.specs.Prelude.{Option, Some, None, Result, Ok, Err, is_some}
 use Rattle.std.specs.FinMap as map
@@ -27,7 +27,7 @@ by_msisdn-push found s new =
     ap (λ es. map.from_entries es) (map-append msisdn_entry found (s ∷ []))
     ∙ map.from_entries_push digits_total digits_exact (each msisdn_entry found) s.msisdn s.imsi (none_is (at_msisdn found s.msisdn) new)
 
--- A loop that has come to line n, with these lines left, loads what it would load from line 2 on.
+-- A loop that has reached line n, with these lines left, loads what it would load from line 2 on.
 pub record IsAtLine (version : Version) (loaded : Subscribers) (hlr : List ℕ) (n : ℕ) (left : List (List ℕ)) (all : List (List ℕ)) : Type 0 where
   pub found : List Subscriber
   pub holds : loaded ≡ loaded_from (with_hlr hlr found)

@@ -49,14 +49,14 @@ own_step true k q v s o at own others e =
     ap (λ (x : Subscriber). x.imsi) (sym same) ∙ own ∙ sym (same_digits q k at)
 own_step false k q v s o at own others e = others e
 
--- one record more that stands at its own IMSI
+-- one more record under its own IMSI
 pub own_insert : (m : RecordMap) (k : List ℕ) (v : Subscriber) → AreByImsi m → v.imsi ≡ k → AreByImsi (map.insert m k v)
 own_insert m k v h own = λ q s e. own_step (eq_by_cmp digits_cmp q k) k q v s (map.get m q) refl own (h q s) (sym (map.get-insert digits_total m k v q) ∙ e)
 
 pub own_empty : AreByImsi map.empty
 own_empty = λ q s e. absurd (cc (sym (map.get-empty digits_cmp q) ∙ e))
 
--- an IMSI that the tree does not have is none that is known
+-- an IMSI that is not in the tree is unknown
 pub none_known : {Y : Type 0} (es : List (List ℕ × Subscriber)) (k : List ℕ) (m : RecordMap) → map.from_entries es ≡ m → lookup (is_at (digits_cmp k)) es ≡ None → IsSome (map.get m k) → Y
 none_known es k m view none known =
     let at : map.get m k ≡ None = ap (λ (n : RecordMap). map.get n k) (sym view) ∙ get_view es k ∙ none in
@@ -70,13 +70,13 @@ unfolding IsStrictlySortedBy
 below_first k v [] h = refl
 below_first k v (e ∷ es) h = let less : digits_cmp k e.0 ≡ Less = h.0.0 in rw less refl
 
-entries_of_view : {X : Type 0} (es : List (List ℕ × X)) → IsStrictlySortedBy digits_cmp (keys_of es) → map.entries (map.from_entries {R = digits_cmp} es) ≡ es
+-- the entries of a tree in order are those of the finite map
+pub entries_of_view : {X : Type 0} (es : List (List ℕ × X)) → IsStrictlySortedBy digits_cmp (keys_of es) → map.entries (map.from_entries {R = digits_cmp} es) ≡ es
 unfolding IsStrictlySortedBy
 entries_of_view [] h = no_entries
 entries_of_view (e ∷ es) h =
     map.entries-insert digits_total (map.from_entries es) e.0 e.1 ∙ ap (map.put digits_cmp e.0 e.1) (entries_of_view es h.1) ∙ below_first e.0 e.1 es h
 
--- what a tree has in its order is what the finite map has
 pub values_of_view : {X : Type 0} (es : List (List ℕ × X)) → IsStrictlySortedBy digits_cmp (keys_of es) → map.values (map.from_entries {R = digits_cmp} es) ≡ values_of es
 values_of_view es h = ap values_of (entries_of_view es h)
 

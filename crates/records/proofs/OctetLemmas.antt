@@ -1,4 +1,4 @@
--- What an octet's type says.
+-- What an octet's type guarantees.
 use Rattle.std.proofs.Common.{◌≡◌, ℕ, zero, suc, ◌<◌, List, [], ◌∷◌, get_or, Fits, w8, arith}
 use Rattle.std.specs.Prelude.{nat_lt, slice_index, true, refl}
 use Rattle.std.specs.Str.{IsAscii}

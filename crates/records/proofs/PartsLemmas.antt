@@ -27,7 +27,7 @@ parts_none at [] none = refl
 parts_none at (x ∷ xs) none =
     slice_split-cons_no (λ b. b == at) x xs (ne_eqb x at (none 0 (omega arith))) ∙ ap (onto_first x) (parts_none at xs (λ k l. none (suc k) (omega arith)))
 
--- the same of the first place that a search finds
+-- the same for the first place that a search finds
 pub parts_found : (at : ℕ) (text : List ℕ) (i : ℕ) → IsFirstByte (is_byte at) text (Some i) → parts at text ≡ take i text ∷ parts at (drop (i + 1) text)
 parts_found at text i (none, here) =
     parts_at at text i none.high (λ k l e. none.before k (omega arith) l (eq-eqb (get_or text k 0) at e)) (eqb-true (get_or text i 0) at here)
@@ -57,7 +57,7 @@ pub record_of_six : (a b c d e text : List ℕ) → record_of One (a ∷ b ∷ c
 unfolding record_of
 record_of_six a b c d e text = let p = parts_cons 32 text in rw p.2 refl
 
--- a code that stands twice
+-- a code that occurs twice
 pub codes_after-repeated : (found : List ℕ) (part : List ℕ) (more : List (List ℕ)) (code : ℕ) (total : Option (List ℕ)) → octet_in part ≡ Some code → list_any (λ c. c == code) found ≡ true
     → codes_after found (part ∷ more) ≡ total → None ≡ total
 unfolding codes_after

@@ -24,7 +24,7 @@ nobody = map.empty
 abbrev pub at : List RecordMap → ℕ → RecordMap
 at parts n = get_or parts n nobody
 
--- Each part has what was taken of its shard.
+-- Each part has the records of its shard that were taken.
 pub record AreTaken (all rest : Entries) (parts : List RecordMap) : Type 0 where
   pub sixteen : length parts ≡ 16
   pub own : (n : ℕ) → n < 16 → IsPart (is_of n) all rest (at parts n)

@@ -5,12 +5,12 @@ use Rattle.records.specs.declared.version.Version.{Version}
 use Rattle.records.specs.Subscriber.{Subscriber}
 use Rattle.records.specs.Spelling.{IsHeader, IsRecordLine, Each}
 
--- What a file says: the number of the register, and the records in the order of their lines.
+-- The contents of a file: the HLR number, and the records in the order of their lines.
 pub record Contents : Type 0 where
   pub hlr : List ℕ
   pub records : List Subscriber
 
--- The parts of a text round a separator; there is at least one, which may be empty.
+-- The parts of a text between separators; there is at least one, which may be empty.
 abbrev pub parts : ℕ → List ℕ → List (List ℕ)
 parts separator written = slice_split (λ octet. octet == separator) written
 
@@ -23,7 +23,7 @@ without_empty_last (x ∷ y ∷ ys) = x ∷ without_empty_last (y ∷ ys)
 unfoldable pub lines : List ℕ → List (List ℕ)
 lines written = without_empty_last (parts 10 written)
 
--- Two records that may not stand in one file.
+-- Two records that must not be in one file.
 abbrev pub Share : Subscriber → Subscriber → Type 0
 Share s t = (s.imsi ≡ t.imsi) ⊎ (s.msisdn ≡ t.msisdn)
 
@@ -37,13 +37,13 @@ abbrev pub SharesWithOne : Subscriber → List Subscriber → Type 0
 SharesWithOne s [] = ⊥
 SharesWithOne s (t ∷ ts) = Share t s ⊎ SharesWithOne s ts
 
--- The first line has the number of the register, and each line below stands for a record, which are apart.
+-- The first line has the HLR number, and each line below stands for a record. No two records share an IMSI or an MSISDN.
 pub record AreLines (version : Version) (header : List ℕ) (below : List (List ℕ)) (contents : Contents) : Type 0 where
   pub is_header : IsHeader header version contents.hlr
   pub are_records : Each (IsRecordLine version) below contents.records
   pub are_apart : AreApart contents.records
 
--- The text is a records file, of either version, that says this.
+-- The text is a records file, of either version, with these contents.
 pub record File (written : List ℕ) (contents : Contents) : Type 0 where
   pub version : Version
   pub header : List ℕ
@@ -53,7 +53,7 @@ pub record File (written : List ℕ) (contents : Contents) : Type 0 where
 
 -- ---- the first fault
 
--- The lines before line n are as in a file that says this, and line n follows.
+-- The lines before line n are those of a file with these contents, and line n follows.
 pub record IsGoodBefore (written : List ℕ) (n : ℕ) (version : Version) (contents : Contents) (line : List ℕ) : Type 0 where
   pub header : List ℕ
   pub front : List (List ℕ)
@@ -62,17 +62,17 @@ pub record IsGoodBefore (written : List ℕ) (n : ℕ) (version : Version) (cont
   pub place : n ≡ length front + 2
   pub are_lines : AreLines version header front contents
 
--- There is no first line, or it has no number of a register.
+-- There is no first line, or it is no header.
 abbrev pub HasNoHeader : List ℕ → Type 0
 HasNoHeader written = (header : List ℕ) (below : List (List ℕ)) → lines written ≡ header ∷ below → (version : Version) (hlr : List ℕ) → ¬ (IsHeader header version hlr)
 
--- The first line with a fault is line n, which is not of the form.
+-- The first line with a fault is line n: it does not have its form.
 abbrev pub IsBadLine : List ℕ → ℕ → Type 0
 IsBadLine written n =
     ((n ≡ 1) × HasNoHeader written)
     ⊎ ((version : Version) × (contents : Contents) × (line : List ℕ) × IsGoodBefore written n version contents line × ((s : Subscriber) → ¬ (IsRecordLine version line s)))
 
--- The first line with a fault is line n, whose IMSI or MSISDN stands on an earlier line.
+-- The first line with a fault is line n: its IMSI or MSISDN is also on an earlier line.
 abbrev pub IsTwice : List ℕ → ℕ → Type 0
 IsTwice written n = (version : Version) × (contents : Contents) × (line : List ℕ) × IsGoodBefore written n version contents line
     × (s : Subscriber) × IsRecordLine version line s × SharesWithOne s contents.records

@@ -3,7 +3,7 @@ use Rattle.std.specs.FinMap as map
 use Rattle.records.specs.Subscriber.{Subscriber}
 use Rattle.records.specs.Maps.{RecordMap}
 
--- A record as a file gives it: no update is in progress, what has no register is not purged, and what is withdrawn has none.
+-- A record as read from a file: no update is in progress, without a register it is not purged, and if withdrawn it has none.
 pub record IsFresh (s : Subscriber) : Type 0 where
   pub unmarked : s.current ≡ None
   pub purged : s.register ≡ None → s.purged ≡ false

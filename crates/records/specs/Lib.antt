@@ -9,3 +9,4 @@ pub mod Loaded
 pub mod Reading
 pub mod Written
 pub mod Parts
+pub mod Examples

@@ -7,7 +7,7 @@ use Rattle.std.specs.FinMap as map
 use Rattle.std.specs.Coded.{Coded}
 use Rattle.records.specs.Subscriber.{Subscriber, subscriber_code, coded_digits}
 
--- A text comes before each longer one that begins with it, and `12` before `2`.
+-- A text comes before every longer one that begins with it, and `12` before `2`.
 abbrev pub digits_cmp : List ℕ → List ℕ → Ordering
 digits_cmp = slice_cmp nat_cmp
 
@@ -24,7 +24,7 @@ DirectoryMap = map.FinMap digits_cmp (List ℕ)
 abbrev pub directory_map_code : Coded DirectoryMap
 directory_map_code = map.code coded_digits coded_digits
 
--- Each record stands at its own IMSI.
+-- Each record is under its own IMSI.
 abbrev pub AreByImsi : RecordMap → Type 0
 AreByImsi records = (imsi : List ℕ) (s : Subscriber) → map.get records imsi ≡ Some s → s.imsi ≡ imsi
 

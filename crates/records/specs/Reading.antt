@@ -30,7 +30,7 @@ None >>= f = None
 abbrev pub is_text : List ℕ → List ℕ → Bool
 is_text a b = pointwise nat_eq a b
 
--- The parts that are left behind a cut.
+-- The parts left after a cut.
 abbrev pub parts_left : ℕ → Option (List ℕ) → List (List ℕ)
 parts_left separator None = []
 parts_left separator (Some rest) = parts separator rest
@@ -136,13 +136,13 @@ contents_of (header ∷ below) = contents_below (header_in header) below
 
 -- ---- what a call answers
 
--- The file was read as its contents say, unless memory ran out.
+-- The result is what the contents say, unless memory ran out.
 abbrev pub Answers : Result Subscribers RecordsFault → Result Contents RecordsFault → Type 0
 Answers (Ok loaded) read = (contents : Contents) × (read ≡ Ok contents) × (loaded ≡ loaded_from contents)
 Answers (Err (BadLine n)) read = read ≡ Err (BadLine n)
 Answers (Err (Twice n)) read = read ≡ Err (Twice n)
 Answers (Err Memory) read = Unit {0}
 
--- What the lines below the header hold.
+-- The contents of the lines below the header.
 abbrev pub below_header : Version → List ℕ → List (List ℕ) → Result Contents RecordsFault
 below_header version hlr all = and_then (λ found. Ok (with_hlr hlr found)) (records_after version [] 2 all)

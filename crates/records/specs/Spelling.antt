@@ -27,7 +27,7 @@ IsHexadecimal written octets = decode_of written ≡ Ok octets
 abbrev pub IsCode : List ℕ → ℕ → Type 0
 IsCode written code = IsHexadecimal written (code ∷ [])
 
--- Each text stands for the value in its place.
+-- Each text stands for the value at its index.
 abbrev pub Each : {X : Type 0} → (List ℕ → X → Type 0) → List (List ℕ) → List X → Type 0
 Each StandsFor [] [] = Unit {0}
 Each StandsFor (t ∷ ts) (x ∷ xs) = StandsFor t x × Each StandsFor ts xs
@@ -57,7 +57,7 @@ abbrev pub IsLmsiField : List ℕ → Option (List ℕ) → Type 0
 IsLmsiField field None = field ≡ text "-"
 IsLmsiField field (Some lmsi) = IsHexadecimal field lmsi × (length lmsi ≡ 4)
 
--- `p` where the register has purged the subscriber, `s` where it serves.
+-- `p` if the register has purged the subscriber, `s` if it serves.
 abbrev pub purged_text : Bool → List ℕ
 purged_text purged = if purged then text "p" else text "s"
 
@@ -68,13 +68,13 @@ IsRegister field (Some register) purged = (vlr msc lmsi : List ℕ)
     × (field ≡ join_with_byte 44 (vlr ∷ msc ∷ lmsi ∷ purged_text purged ∷ []))
     × IsNumber vlr register.vlr × IsNumber msc register.msc × IsLmsiField lmsi register.lmsi
 
--- `w` where the subscriber is withdrawn, else `a`.
+-- `w` if the subscriber is withdrawn, else `a`.
 abbrev pub withdrawn_text : Bool → List ℕ
 withdrawn_text withdrawn = if withdrawn then text "w" else text "a"
 
 -- ---- lines
 
--- The fields that version 2 has and version 1 has not.
+-- The fields that only version 2 has.
 abbrev pub sixth : Version → Bool → List (List ℕ)
 sixth One withdrawn = []
 sixth Two withdrawn = withdrawn_text withdrawn ∷ []
@@ -84,8 +84,8 @@ abbrev pub MayBeWithdrawn : Version → Subscriber → Type 0
 MayBeWithdrawn One s = s.withdrawn ≡ false
 MayBeWithdrawn Two s = s.withdrawn ≡ true → s.register ≡ None
 
--- The line is `<imsi> <msisdn> <codes> <roam> <register>`, in version 2 with ` <a or w>` behind, and stands for the
--- record. No file has a current update.
+-- The line is `<imsi> <msisdn> <codes> <roam> <register>`, in version 2 followed by ` <a or w>`, and stands for the record.
+-- No file has a current update.
 pub record IsRecordLine (version : Version) (line : List ℕ) (s : Subscriber) : Type 0 where
   pub imsi : List ℕ
   pub msisdn : List ℕ
@@ -105,6 +105,6 @@ abbrev pub mark_of : Version → List ℕ
 mark_of One = text "HLR1 "
 mark_of Two = text "HLR2 "
 
--- The line is `HLR1 <digits>` or `HLR2 <digits>`, the number of the register.
+-- The line is `HLR1 <digits>` or `HLR2 <digits>`; the digits are the HLR number.
 abbrev pub IsHeader : List ℕ → Version → List ℕ → Type 0
 IsHeader line version hlr = (number : List ℕ) × (line ≡ mark_of version ++ number) × IsNumber number hlr

@@ -1,13 +1,13 @@
--- A subscriber's record as a value (TS 23.012), and what every record keeps.
+-- A subscriber's record as a value (TS 23.012), and the facts of every record.
 use Rattle.std.specs.Prelude.{◌≡◌, ℕ, ◌<◌, ◌≤◌, Bool, true, false, List, length, Option, Some, None, nat_eq, refl}
 use Rattle.std.specs.List.{AllByRecursion, IsDistinct}
 use Rattle.std.specs.Coded.{Coded, code_by, coded×, coded_ℕ, coded_bool, coded_list, coded_option}
 use Rattle.hlr_types.specs.declared.register.Register.{Register}
 use Rattle.hlr_types.specs.Digits.{AreSomeDigits, AreImsiDigits}
 
--- Who the subscriber is; the teleservice codes, and the prefixes of the VLR numbers that are allowed, `None` where all
--- are; the serving register, and whether it has purged the subscriber; the local id of the update that counts; whether
--- the operator has withdrawn the subscriber.
+-- IMSI and MSISDN; the teleservice codes, and the prefixes of the allowed VLR numbers, `None` if all are allowed; the serving
+-- register, and whether it has purged the subscriber; the local id of the current update; whether the operator has withdrawn
+-- the subscriber.
 pub record Subscriber : Type 0 where
   pub imsi : List ℕ
   pub msisdn : List ℕ
@@ -43,7 +43,7 @@ abbrev pub MayServe : Option Register → Type 0
 MayServe None = Unit {0}
 MayServe (Some r) = AreSomeDigits r.vlr × AreSomeDigits r.msc × MayHaveLmsi r.lmsi
 
--- There is no purged flag without a register, and of a withdrawn subscriber neither a register nor a current update.
+-- There is no purged flag without a register, and a withdrawn subscriber has neither a register nor a current update.
 pub record IsPlace (is_withdrawn : Bool) (register : Option Register) (is_purged : Bool) (current : Option (List ℕ)) : Type 0 where
   pub purged : register ≡ None → is_purged ≡ false
   pub left : is_withdrawn ≡ true → register ≡ None
@@ -69,7 +69,7 @@ placed s register purged current = record s { register = register; purged = purg
 abbrev pub allowed : Subscriber → List ℕ → Bool → Subscriber
 allowed s codes withdrawn = record s { codes = codes; withdrawn = withdrawn }
 
--- The record of a subscription that has ended: it has neither a register nor a current update.
+-- The record of a withdrawn subscriber: it has neither a register nor a current update.
 abbrev pub ended : Subscriber → Subscriber
 ended s = record s { register = None; purged = false; current = None; withdrawn = true }
 
@@ -77,7 +77,7 @@ ended s = record s { register = None; purged = false; current = None; withdrawn 
 abbrev pub unmarked : Subscriber → Subscriber
 unmarked s = record s { current = None }
 
--- ---- codes, by which values are told apart
+-- ---- codes that distinguish values
 
 abbrev pub coded_digits : Coded (List ℕ)
 coded_digits = coded_list coded_ℕ

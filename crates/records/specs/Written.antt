@@ -1,5 +1,5 @@
 -- What is written: the line of a record in either version, and a saved file, which is of version 2. Hexadecimal digits are
--- written in upper case.
+-- in upper case.
 use Rattle.std.specs.Prelude.{ℕ, Bool, List, [], ◌∷◌, ◌++◌, map as each, Option, Some, None, codes as text}
 use Rattle.std.specs.List.{AllByRecursion, flat_map, join_with_byte}
 use Rattle.hex.specs.Hex.{encode_upper}
@@ -12,7 +12,7 @@ use Rattle.records.specs.Subscriber.{Subscriber, IsRecord, unmarked}
 use Rattle.records.specs.Spelling.{mark_of, purged_text, sixth}
 use Rattle.records.specs.File.{Contents, File, AreApart}
 
--- Two digits for an octet.
+-- An octet as two digits.
 abbrev pub code_text : ℕ → List ℕ
 code_text code = encode_upper (code ∷ [])
 
@@ -44,11 +44,12 @@ header_line version hlr = mark_of version ++ text_of hlr
 abbrev pub saved_file : List ℕ → List Subscriber → List ℕ
 saved_file hlr ss = flat_map (λ line. line ++ 10 ∷ []) (header_line Two hlr ∷ each (record_line Two) ss)
 
--- What a saved file says: the records without their current updates.
+-- The contents of a saved file: the records without their current updates.
 abbrev pub saved_contents : List ℕ → List Subscriber → Contents
 saved_contents hlr ss = record { hlr = hlr; records = each unmarked ss }
 
--- What is saved is read again: the saved file of records that are apart is a records file that says them.
+-- What is saved is read again: if no two records share an IMSI or an MSISDN, the saved file is a records file with them as
+-- its contents.
 abbrev pub SavedIsRead : Type 0
 SavedIsRead = (hlr : List ℕ) (ss : List Subscriber) → AreSomeDigits hlr → AllByRecursion IsRecord ss → AreApart ss → File (saved_file hlr ss) (saved_contents hlr ss)
 

@@ -7,7 +7,7 @@ use crate::codes::read_codes;
 use std::alloc::{AllocError, Global};
 use std::marker::Model;
 
-/// Teleservice codes that a subscriber may have: at most 32, all different.
+/// Teleservice codes that a subscriber may have (TS 29.002, TeleserviceCode): at most 32, all different (profile).
 #[derive(Debug, Drop)]
 pub struct Codes {
     codes: Vec<u8>,
@@ -27,8 +27,8 @@ impl Model for Codes {
 impl Codes {
     ghost use Rattle.records.specs.Spelling.{IsCodes};
 
-    /// The codes of a field of a records file: `-`, or 1 to 32 different octets of two hexadecimal digits with commas
-    /// between them. None where it is neither.
+    /// The codes in a field of a records file: `-`, or 1 to 32 different octets of two hexadecimal digits, with commas. `None` if
+    /// it is neither.
     pub fn read(alloc: Global, field: &[u8]) -> Result<Option<Codes>, AllocError>
         ensures found { IfOk result (λ read. IfSome read (λ codes. IsCodes field.now codes)) }
         ensures only { (codes : List ℕ) → IsCodes field.now codes → IfOk result (λ read. read ≡ Some codes) }
@@ -47,7 +47,7 @@ impl Codes {
         self.codes.as_slice()
     }
 
-    /// An equal list.
+    /// An equal copy.
     pub fn try_copy(&self, alloc: Global) -> Result<Codes, AllocError>
         ensures { IfOk result (λ copy. copy ≡ self.now) }
     {

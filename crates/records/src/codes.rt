@@ -11,13 +11,13 @@ use crate::pieces::cut;
 use hex::FromHex;
 use std::alloc::{AllocError, Global};
 
-/// The most codes that a subscriber may have (profile).
+/// How many codes a subscriber may have (profile).
 const MOST_CODES: usize = 32;
 
-/// The teleservice codes that a field of a records file stands for: `-`, or 1 to 32 different octets of two hexadecimal
-/// digits with commas between them. None where it is neither.
+/// The teleservice codes in a field of a records file: `-`, or 1 to 32 different octets of two hexadecimal digits, with
+/// commas. `None` if it is neither.
 pub fn read_codes(alloc: Global, field: &[u8]) -> Result<Option<Vec<u8>>, AllocError>
-    // What is read is what the field stands for, and what it stands for is read.
+    // The result is exactly what the field stands for.
     ensures found { IfOk result (λ read. IfSome read (λ codes. IsCodes field.now codes.items)) }
     ensures only { (codes : List ℕ) → IsCodes field.now codes
         → IfOk result (λ read. option_map (λ c. c.items) read ≡ Some codes) }
@@ -59,7 +59,7 @@ fn listed_codes(alloc: Global, field: &[u8]) -> Result<Option<Vec<u8>>, AllocErr
     Ok(Some(codes))
 }
 
-/// The octet of two hexadecimal digits.
+/// The octet that two hexadecimal digits stand for.
 fn octet(part: &[u8]) -> Option<u8>
     ensures { result ≡ octet_in part.now }
 {

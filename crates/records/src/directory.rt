@@ -1,6 +1,6 @@
-//! Whose an MSISDN is.
+//! The subscribers by MSISDN.
 
-ghost use Rattle.std.specs.Prelude.{◌≡◌, IfOk, OnOk, OnErr};
+ghost use Rattle.std.specs.Prelude.{◌≡◌, ◌↔◌, IfOk, IsTrue, OnOk, OnErr};
 ghost use Rattle.std.specs.FinMap as map;
 
 use hlr_types::{Imsi, IsdnAddress};
@@ -8,7 +8,7 @@ use std::alloc::{AllocError, Global};
 use std::collections::BTreeMap;
 use std::marker::Model;
 
-/// The directory: each subscriber's IMSI by MSISDN. It is made when the records file is read and does not change.
+/// The directory: each subscriber's IMSI by MSISDN. It is built when the records file is read, and then never changes.
 #[derive(Drop)]
 pub struct Directory {
     imsis: BTreeMap<IsdnAddress, Imsi>,
@@ -26,7 +26,7 @@ impl Model for Directory {
 }
 
 impl Directory {
-    /// No MSISDN.
+    /// An empty directory.
     pub(crate) fn new(alloc: Global) -> Directory
         ensures { result ≡ map.empty }
     {
@@ -51,7 +51,15 @@ impl Directory {
         self.imsis.get(msisdn).copied()
     }
 
-    /// An equal value.
+    /// Whether the directories are equal.
+    pub fn same(&self, other: &Directory) -> bool
+        ensures { IsTrue result ↔ (self.now ≡ other.now) }
+    {
+        let (_ordered, _others_ordered) = (self.imsis.len(), other.imsis.len());
+        self.imsis == other.imsis
+    }
+
+    /// An equal copy.
     pub fn try_copy(&self) -> Result<Directory, AllocError>
         ensures { IfOk result (λ copy. copy ≡ self.now) }
     {

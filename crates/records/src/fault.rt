@@ -8,13 +8,13 @@ use thiserror::Error;
 /// The first fault of a records file. Lines count from 1.
 #[derive(Clone, Copy, PartialEq, Eq, Debug, Drop, Error)]
 pub enum RecordsFault {
-    /// The line is not of the form.
+    /// The line does not have its form.
     #[error("records line {0}")]
     BadLine(u64),
-    /// The line's IMSI or MSISDN stands on an earlier line.
+    /// The line's IMSI or MSISDN is also on an earlier line.
     #[error("records line {0} twice")]
     Twice(u64),
-    /// A growth was refused.
+    /// Out of memory.
     #[error("memory")]
     Memory,
 }

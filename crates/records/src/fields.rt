@@ -11,17 +11,17 @@ use hex::FromHex;
 use hlr_types::{Digits, Imsi, IsdnAddress, Lmsi, Register};
 use std::alloc::{AllocError, Global};
 
-/// The most roaming prefixes that a subscriber may have (profile).
+/// How many roaming prefixes a subscriber may have (profile).
 const MOST_PREFIXES: usize = 8;
 
-/// An IMSI as its 5 to 15 digits.
+/// An IMSI (E.212): its 5 to 15 digits.
 pub fn imsi_field(field: &[u8]) -> Option<Imsi>
     ensures { result ≡ imsi_in field.now }
 {
     Imsi::from_digits(Digits::from_text(field)?).ok()
 }
 
-/// Where a subscriber may roam: `*`, or 1 to 8 prefixes with commas between them.
+/// Where a subscriber may roam: `*`, or 1 to 8 prefixes, with commas.
 #[tactic(auto, unfolding(crate::specs::Reading::roam_in))]
 pub fn roam_field(alloc: Global, field: &[u8]) -> Result<Option<Roam>, AllocError>
     ensures { IfOk result (λ read. option_map prefixes_of read ≡ roam_in field.now) }

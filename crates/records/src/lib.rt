@@ -1,12 +1,13 @@
-//! Subscribers: their records, the file that these are read from, the map that a shard has of them, and the lines that
-//! they are written as.
+//! Subscribers: their records (TS 23.012), the records file, a shard's map of records, and the lines that they are written
+//! as.
 //!
-//! Contracts see a `Record` as a `Subscriber` of `specs`, `Records` and the `Directory` as finite maps from digits.
+//! Contracts see a `Record` as a `Subscriber` of `specs`, and `Records` and the `Directory` as finite maps from digits.
 #![tactic(auto)]
 
 mod code_list;
 mod codes;
 mod directory;
+mod examples;
 mod fault;
 mod fields;
 mod line;
@@ -18,6 +19,7 @@ mod push;
 mod record;
 mod records;
 mod roam;
+mod same;
 mod shard;
 mod version;
 mod write;
@@ -25,6 +27,7 @@ mod write;
 pub use code_list::Codes;
 pub use codes::read_codes;
 pub use directory::Directory;
+pub use examples::{law_read_files, law_worked_files};
 pub use fault::RecordsFault;
 pub use load::read_records;
 pub use loaded::Loaded;
@@ -35,6 +38,3 @@ pub use roam::Roam;
 pub use shard::shard_of;
 pub use version::Version;
 pub use write::{law_saved_is_read, save, write_line};
-
-#[cfg(test)]
-mod tests;

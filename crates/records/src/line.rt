@@ -13,10 +13,10 @@ use crate::version::Version;
 use hlr_types::{Digits, IsdnAddress, Register};
 use std::alloc::{AllocError, Global};
 
-/// The number of octets of `HLR1 `.
+/// The length of `HLR1 ` in octets.
 const MARK_LEN: usize = 5;
 
-/// The version of the file, and the number of the register.
+/// The version of the file, and the HLR number.
 #[tactic(auto, unfolding(crate::specs::Reading::header_in))]
 pub fn read_header(line: &[u8]) -> Option<(Version, IsdnAddress)>
     ensures { result ≡ header_in line.now }
@@ -52,7 +52,7 @@ struct Fields<'a> {
     register: &'a [u8],
 }
 
-/// The record of a line, or none where the line is not of its version's form.
+/// The record of a line. `None` if the line does not have its version's form.
 #[tactic(auto, using(crate::proofs::PartsLemmas::record_of_six, crate::proofs::PartsLemmas::record_of_seven), unfolding(crate::specs::Reading::record_of))]
 pub fn read_record(
     alloc: Global,
@@ -132,7 +132,7 @@ fn record_from(alloc: Global, fields: Fields, withdrawn: bool) -> Result<Option<
     }))
 }
 
-/// Whether the subscriber is withdrawn and yet has a register.
+/// Whether the subscriber is withdrawn but still has a register.
 fn has_stayed(withdrawn: bool, register: &Option<Register>) -> bool
     ensures { result ≡ (withdrawn && is_some register.now) }
 {

@@ -13,19 +13,19 @@ use crate::version::Version;
 use hlr_types::IsdnAddress;
 use std::alloc::Global;
 
-/// Reads a records file of version 1 or 2: ASCII lines, each ended by a line feed, which the last may lack. The first line
-/// is `HLR1 ` or `HLR2 ` and the digits of the register's own number. Every other line is a record, its fields with one
-/// space between them: `<imsi> <msisdn> <codes> <roam> <register>`, in version 2 also `<a or w>`.
+/// Reads a records file of version 1 or 2: ASCII lines, each ended by a line feed, which the last may lack. The first line is
+/// `HLR1 ` or `HLR2 ` and the digits of the HLR number. Every other line is a record, its fields separated by one space:
+/// `<imsi> <msisdn> <codes> <roam> <register>`, in version 2 also `<a or w>`.
 ///
 /// - codes: `-`, or 1 to 32 different octets of two hexadecimal digits, with commas.
 /// - roam: `*`, or 1 to 8 prefixes of 1 to 16 digits, with commas.
 /// - register: `-`, or `<vlr>,<msc>,<lmsi or ->,<s or p>`; the LMSI has eight hexadecimal digits, `p` means purged.
-/// - `w` where the subscriber is withdrawn, whose register must be `-`, else `a`.
+/// - `w` if the subscriber is withdrawn (the register is then `-`), else `a`.
 ///
-/// A line that is not of its form is `BadLine`, also the first line of an empty file; a line whose IMSI or MSISDN stands
+/// A line that does not have its form is `BadLine`, as is the first line of an empty file; a line whose IMSI or MSISDN is also
 /// on an earlier line is `Twice`. The first line with a fault decides.
 pub fn read_records(alloc: Global, text: &[u8]) -> Result<Loaded, RecordsFault>
-    // What is read is a records file, and what was loaded is what it says.
+    // A text that is read is a records file, and what is loaded are its contents.
     ensures found { IfOk result (λ loaded. (contents : Contents)
         × File text.now contents × (loaded ≡ loaded_from contents)) }
 
@@ -33,11 +33,11 @@ pub fn read_records(alloc: Global, text: &[u8]) -> Result<Loaded, RecordsFault>
     ensures only { (contents : Contents) → File text.now contents
         → MatchResult result (λ loaded. loaded ≡ loaded_from contents) (λ fault. fault ≡ RecordsFault.Memory) }
 
-    // A fault is that of the first line with one.
+    // A fault is the one of the first line with a fault.
     ensures bad_line { (n : ℕ) → result ≡ Err (RecordsFault.BadLine n) → IsBadLine text.now n }
     ensures twice { (n : ℕ) → result ≡ Err (RecordsFault.Twice n) → IsTwice text.now n }
 
-    // The first line with a fault is answered, unless memory runs out.
+    // The first line with a fault is reported, unless memory runs out.
     ensures at_bad_line { (n : ℕ) → IsBadLine text.now n
         → MatchResult result (λ _. ⊥) (λ fault. (fault ≡ RecordsFault.BadLine n) ⊎ (fault ≡ RecordsFault.Memory)) }
     ensures at_twice { (n : ℕ) → IsTwice text.now n

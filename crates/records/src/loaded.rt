@@ -1,4 +1,4 @@
-//! What a records file says.
+//! The contents of a records file.
 
 ghost use Rattle.std.specs.Prelude.{◌≡◌, ◌<◌, None, IfOk, OnOk, is_some};
 ghost use Rattle.std.specs.FinMap as map;
@@ -12,9 +12,9 @@ use std::alloc::{AllocError, Global};
 use std::marker::Model;
 use std::sync::Arc;
 
-/// What a records file says: the number of the register, the records, and the directory, which all shards share.
+/// The contents of a records file: the HLR number, the records, and the directory, which all shards share.
 ///
-/// A file never says that an update is in progress, so no record has a current one.
+/// A file never has an update in progress, so no record has a current one.
 #[derive(Drop)]
 pub struct Loaded {
     hlr: IsdnAddress,
@@ -41,7 +41,7 @@ impl Loaded {
     ghost use Rattle.records.specs.Parts.{AreParts};
     ghost use Rattle.records.specs.Fresh.{AreFresh};
 
-    /// The number of the register.
+    /// The HLR number.
     pub fn hlr(&self) -> &IsdnAddress
         ensures { result.now ≡ self.now.hlr }
     {
@@ -55,7 +55,7 @@ impl Loaded {
         &self.directory
     }
 
-    /// The directory, for a shard to keep. It is not copied.
+    /// The shared directory, for a shard to keep. It is not copied.
     pub fn shared_directory(&self) -> Result<Arc<Directory>, AllocError>
         ensures { IfOk result (λ shared. arc_value shared ≡ self.now.directory) }
     {
@@ -67,24 +67,24 @@ impl Loaded {
         requires { shard < 16 }
         ensures part { IfOk result (λ part. part ≡ part_of self.now.records shard) }
 
-        // Each record is as a file gives it: no update is in progress.
+        // Each record is as read from a file: no update is in progress.
         ensures fresh { AreFresh self.now.records }
     {
         self.records.part(shard)
     }
 
-    /// The records of each shard, at the place of its number. No record is copied, and what was loaded is given up.
+    /// The records of each shard, indexed by its number. No record is copied; the loaded value is consumed.
     pub fn into_parts(self) -> Result<Vec<Records>, AllocError>
         ensures parts { IfOk result (λ parts. AreParts self.records parts.items) }
 
-        // Each record is as a file gives it: no update is in progress.
+        // Each record is as read from a file: no update is in progress.
         ensures fresh { AreFresh self.records }
     {
         self.records.into_parts()
     }
 }
 
-/// What the lines read so far say.
+/// The contents of the lines read so far.
 #[derive(Drop)]
 pub(crate) struct Loading {
     hlr: IsdnAddress,
@@ -108,7 +108,7 @@ impl Model for Loading {
 impl Loading {
     ghost use Rattle.records.specs.Loaded.{with_record, nobody};
 
-    /// The number of the register, and no record.
+    /// The HLR number, and no record.
     pub(crate) fn new(alloc: Global, hlr: IsdnAddress) -> Loading
         ensures { result ≡ nobody hlr }
     {
@@ -131,7 +131,7 @@ impl Loading {
         self.directory.find(&subscriber.msisdn).is_some()
     }
 
-    /// Puts one record more. Where memory is refused the value is of no use.
+    /// Adds a record. After an error the value must not be used.
     pub(crate) fn add(&mut self, subscriber: Record) -> Result<(), AllocError>
         requires { subscriber.current ≡ None }
         ensures { OnOk result (self.new ≡ with_record self.old subscriber) }
@@ -140,7 +140,7 @@ impl Loading {
         self.records.add(subscriber)
     }
 
-    /// All of it, with the directory as it can be shared.
+    /// The whole contents, with the directory in its shared form.
     pub(crate) fn finish(self, alloc: Global) -> Result<Loaded, AllocError>
         ensures { IfOk result (λ loaded. loaded ≡ self) }
     {

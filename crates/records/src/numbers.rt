@@ -1,4 +1,4 @@
-//! What the types of a register's numbers keep. Nothing is computed here.
+//! Facts that the types of a register's numbers guarantee. Nothing is computed here.
 
 ghost use Rattle.std.specs.Prelude.{◌≡◌, length};
 ghost use Rattle.records.specs.Subscriber.{MayServe, MayHaveLmsi, AreOctets};

@@ -6,7 +6,7 @@ ghost use Rattle.records.specs.Reading.{parts_left};
 
 use memchr::memchr;
 
-/// What stands before the first separator, and what stands behind it where there is one.
+/// The text before the first separator, and the text after it if there is one.
 pub fn cut(text: &[u8], separator: u8) -> (&[u8], Option<&[u8]>)
     ensures parts { parts separator text.now ≡ result.0.now ∷ parts_left separator (option_map (λ rest. rest.now) result.1) }
     ensures shorter { IfSome result.1 (λ rest. length rest.now < length text.now) }

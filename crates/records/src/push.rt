@@ -1,4 +1,4 @@
-//! The parts of a line, at the end of a text. Where memory is refused a part of the line may stand there.
+//! Appends the parts of a line to a text. On error a part of the line may have been appended.
 
 ghost use Rattle.std.specs.Prelude.{◌≡◌, ◌<◌, ◌++◌, ◌∷◌, [], OnOk, string_bytes, slice_index};
 ghost use Rattle.std.specs.List.{AllByRecursion, flat_map};

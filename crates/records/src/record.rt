@@ -6,11 +6,10 @@ use hlr_types::{Imsi, IsdnAddress, Register, Tid};
 use std::alloc::AllocError;
 use std::marker::Model;
 
-/// A subscriber's record (TS 23.012): who the subscriber is, the data that a serving register is given, and which
-/// register that is.
+/// A subscriber's record (TS 23.012): identity, subscriber data, and the serving register.
 ///
-/// Every record keeps these facts: 1 to 32 different codes or none, 1 to 8 roaming prefixes or every VLR, no purged flag
-/// without a register, and of a withdrawn subscriber neither a register nor a current update.
+/// Facts of every record: at most 32 codes, all different; 1 to 8 roaming prefixes or every VLR; no purged flag without a
+/// register; a withdrawn subscriber has neither a register nor a current update.
 #[derive(Drop)]
 pub struct Record {
     pub imsi: Imsi,
@@ -20,9 +19,9 @@ pub struct Record {
     pub roam: Roam,
     /// The serving register.
     pub register: Option<Register>,
-    /// Whether the serving register has purged the subscriber.
+    /// Whether the serving register has purged the subscriber (TS 23.012, Purge MS).
     pub purged: bool,
-    /// The local id of the update that counts.
+    /// The local id of the current update, the only one that may complete.
     pub current: Option<Tid>,
     /// Whether the operator has withdrawn the subscriber.
     pub withdrawn: bool,
@@ -66,7 +65,7 @@ impl Record {
     ghost use Rattle.std.specs.Prelude.{◌≡◌};
     ghost use Rattle.records.specs.Subscriber.{IsPlace, AreAllowed, placed, allowed, ended};
 
-    /// Changes the serving register, the purged flag and the current update.
+    /// Sets the serving register, the purged flag and the current update.
     pub(crate) fn place(&mut self, register: Option<Register>, purged: bool, current: Option<Tid>)
         requires { IsPlace self.old.withdrawn register purged current }
         ensures { self.new ≡ placed self.old register purged current }
@@ -77,7 +76,7 @@ impl Record {
         self.current = current;
     }
 
-    /// Changes the codes, and whether the subscriber is withdrawn.
+    /// Sets the codes, and whether the subscriber is withdrawn.
     pub(crate) fn allow(&mut self, codes: Vec<u8>, withdrawn: bool)
         requires codes { AreAllowed codes.items }
         requires place { IsPlace withdrawn self.old.register self.old.purged self.old.current }
@@ -87,7 +86,7 @@ impl Record {
         self.withdrawn = withdrawn;
     }
 
-    /// Ends the subscription: there is then neither a register nor a current update.
+    /// Withdraws the subscriber: no register and no current update any more.
     pub(crate) fn withdraw(&mut self)
         ensures { self.new ≡ ended self.old }
     {

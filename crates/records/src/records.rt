@@ -1,12 +1,13 @@
 //! The subscribers of a shard.
 
-ghost use Rattle.std.specs.Prelude.{◌≡◌, ◌<◌, IsSome, IfSome, IfOk, OnOk, OnErr, option_copied, map as each, length, replicate};
+ghost use Rattle.std.specs.Prelude.{◌≡◌, ◌<◌, ◌↔◌, IsSome, IsTrue, IfSome, IfOk, OnOk, OnErr, option_copied, map as each, length, replicate};
 ghost use Rattle.std.specs.FinMap as map;
 ghost use Rattle.std.specs.BTreeMap.{values, IsOrdered};
 ghost use Rattle.records.specs.Maps.{digits_cmp};
 ghost use Rattle.records.specs.Parts.{AreParts, with_one};
 
 use crate::record::Record;
+use crate::same::are_same;
 use crate::shard::shard_of;
 use hlr_types::{Imsi, Register, Tid};
 use std::alloc::{AllocError, Global};
@@ -37,7 +38,7 @@ impl Records {
     ghost use Rattle.records.specs.Subscriber.{Subscriber, IsRecord, IsPlace, AreAllowed, placed, allowed, ended};
     ghost use Rattle.records.specs.Maps.{part_of};
 
-    /// No record.
+    /// An empty map.
     pub(crate) fn new(alloc: Global) -> Records
         ensures { result ≡ map.empty }
     {
@@ -47,7 +48,7 @@ impl Records {
         }
     }
 
-    /// Puts a record at its IMSI.
+    /// Puts a record under its IMSI.
     pub(crate) fn add(&mut self, subscriber: Record) -> Result<(), AllocError>
         ensures ok { OnOk result (self.new ≡ map.insert self.old subscriber.imsi subscriber) }
         ensures err { OnErr result (self.new ≡ self.old) }
@@ -60,7 +61,7 @@ impl Records {
     pub fn get(&self, imsi: &Imsi) -> Option<&Record>
         ensures found { option_copied result ≡ map.get self.now imsi.now }
 
-        // What every record keeps.
+        // The facts of every record.
         ensures facts { IfSome result (λ found. IsRecord found.now) }
         ensures own { IfSome result (λ found. found.now.imsi ≡ imsi.now) }
     {
@@ -69,7 +70,7 @@ impl Records {
         Some(found)
     }
 
-    /// Changes the serving register, the purged flag and the current update of a record.
+    /// Sets the serving register, the purged flag and the current update of a record.
     pub fn set(
         &mut self,
         imsi: &Imsi,
@@ -89,7 +90,7 @@ impl Records {
         found.place(register, purged, current);
     }
 
-    /// Changes the codes of a record, and whether it is withdrawn. Takes no memory.
+    /// Sets the codes of a record, and whether it is withdrawn. Does not allocate.
     pub fn put(&mut self, imsi: &Imsi, codes: Vec<u8>, withdrawn: bool)
         requires known { IsSome (map.get self.old imsi.now) }
         requires codes { AreAllowed codes.items }
@@ -104,7 +105,7 @@ impl Records {
         found.allow(codes, withdrawn);
     }
 
-    /// Ends a subscription: the record then has neither a register nor a current update. Takes no memory.
+    /// Withdraws a subscriber: no register and no current update any more. Does not allocate.
     pub fn withdraw(&mut self, imsi: &Imsi)
         requires known { IsSome (map.get self.old imsi.now) }
         ensures { (s : Subscriber) → map.get self.old imsi.now ≡ Some s
@@ -116,7 +117,7 @@ impl Records {
         found.withdraw();
     }
 
-    /// All records, by IMSI, which are ordered as texts.
+    /// All records, ordered by IMSI as text.
     pub fn list(&self) -> Result<Vec<&Record>, AllocError>
         ensures { IfOk result (λ list. each (λ found. found.now) list.items ≡ map.values self.now) }
     {
@@ -151,7 +152,16 @@ impl Records {
         Ok(parts)
     }
 
-    /// An equal value.
+    /// Whether the records are equal.
+    pub fn same(&self, other: &Records) -> Result<bool, AllocError>
+        ensures { IfOk result (λ same. IsTrue same ↔ (self.now ≡ other.now)) }
+    {
+        let mine = all(self.alloc, &self.by_imsi)?;
+        let theirs = all(other.alloc, &other.by_imsi)?;
+        Ok(are_same(&mine, &theirs))
+    }
+
+    /// An equal copy.
     pub fn try_copy(&self) -> Result<Records, AllocError>
         ensures { IfOk result (λ copy. copy ≡ self.now) }
     {
@@ -162,7 +172,7 @@ impl Records {
     }
 }
 
-/// No record, for each shard.
+/// An empty map for each shard.
 fn no_records(alloc: Global) -> Result<Vec<Records>, AllocError>
     ensures { IfOk result (λ parts. parts.items ≡ replicate 16 map.empty) }
 {
@@ -173,7 +183,7 @@ fn no_records(alloc: Global) -> Result<Vec<Records>, AllocError>
     Ok(parts)
 }
 
-/// Puts a record into the part of its shard.
+/// Adds a record to the part of its shard.
 fn add_to_own(parts: &mut Vec<Records>, found: Record) -> Result<(), AllocError>
     requires { length parts.old.items ≡ 16 }
     ensures { OnOk result (parts.new.items ≡ with_one parts.old.items found) }

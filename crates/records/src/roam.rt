@@ -8,7 +8,7 @@ use std::alloc::AllocError;
 pub enum Roam {
     /// Every VLR.
     Everywhere,
-    /// Those whose number begins with one of these 1 to 8 prefixes.
+    /// VLRs whose number begins with one of these 1 to 8 prefixes.
     Within(Vec<Digits>),
 }
 

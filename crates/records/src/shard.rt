@@ -5,7 +5,7 @@ ghost use Rattle.records.specs.Maps.{shard_of};
 
 use hlr_types::Imsi;
 
-/// The number made of the last two digits, modulo 16.
+/// The number made of the last two digits of the IMSI, modulo 16 (profile).
 #[tactic(auto, unfolding(crate::specs::Maps::shard_of))]
 pub fn shard_of(imsi: &Imsi) -> u8
     ensures value { result ≡ shard_of imsi.now }

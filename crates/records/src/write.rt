@@ -14,7 +14,7 @@ use std::alloc::{AllocError, Global};
 
 /// A record's line in a file of this version, without a line feed. Hexadecimal digits are upper case.
 ///
-/// Version 1 has no field for a withdrawn subscriber: its line is that of a subscriber who is not.
+/// Version 1 has no field for withdrawn: a withdrawn subscriber's line is that of one who is not.
 pub fn write_line(
     alloc: Global,
     version: Version,
@@ -22,7 +22,7 @@ pub fn write_line(
 ) -> Result<String, AllocError>
     ensures line { IfOk result (λ line. string_bytes line ≡ record_line version subscriber.now) }
 
-    // What is written stands for the record without its current update.
+    // The line stands for the record without its current update.
     ensures again { MayBeWithdrawn version subscriber.now
         → IfOk result (λ line. IsRecordLine version (string_bytes line) (unmarked subscriber.now)) }
 {
@@ -38,10 +38,9 @@ pub fn law_saved_is_read()
     ensures { SavedIsRead }
 {}
 
-/// The records file of version 2 of these records, in this order, under the number of the register.
+/// The records file of version 2 with the HLR number and these records, in this order.
 ///
-/// What is written is read again, as the records without their current updates, where no two of them share an IMSI or an
-/// MSISDN.
+/// It is read again as the same records, without their current updates, if no two of them share an IMSI or an MSISDN.
 pub fn save(alloc: Global, hlr: &IsdnAddress, subscribers: &[&Record]) -> Result<String, AllocError>
     ensures text { IfOk result (λ text.
         string_bytes text ≡ saved_file hlr.now (each (λ s. s.now) subscribers.now)) }

@@ -50,7 +50,7 @@ pub same_written : (codes : List ℕ) (after : After) (imsi : Option (List ℕ))
     → imsi ≡ Some x → after ≡ Same → records ≡ written codes after imsi records
 same_written codes after imsi x records at is = written_at codes after Same imsi x records records at is (sym (put_again records x))
 
--- a record that was there is another now
+-- an existing record is replaced
 pub inserted_as : (codes : List ℕ) (a : After) (records new : RecordMap) (x : List ℕ) (s r : Subscriber) → finite.get records x ≡ Some s
     → Some (machine_subscriber r) ≡ after_of codes a (Some (machine_subscriber s)) → new ≡ finite.insert records x r
     → records_of new ≡ put (records_of records) x (after_of codes a (records_of records x))
@@ -65,7 +65,7 @@ not_written (Placed register purged current) can changes = can
 not_written NewCodes can changes = can
 not_written Withdrawn can changes = can
 
--- the record of the subscriber whom a procedure concerns, as g makes it
+-- the record of the procedure's subscriber, changed by g
 pub written_by : (codes : List ℕ) (after a : After) (imsi : Option (List ℕ)) (x : List ℕ) (records new : RecordMap) (g : Subscriber → Subscriber)
     → imsi ≡ Some x → after ≡ a → (a ≡ Same → ⊥) → CanBeWritten after (record_at records imsi)
     → ((s : Subscriber) → Some (machine_subscriber (g s)) ≡ after_of codes a (Some (machine_subscriber s)))

@@ -1,4 +1,4 @@
--- What is settled, as the machine moves.
+-- A plan that is carried out is a step of the machine.
 use Rattle.std.proofs.Common.{◌≡◌, ℕ, List, Option, Some, None, cond, ◌==◌, refl, sym, ap, ◌∙◌, subst, eq-eqb}
 use Rattle.std.specs.Prelude.{IfSome}
 use Rattle.machine.specs.State as machine
@@ -37,7 +37,7 @@ same_named s cs Nothing = refl
 same_named s cs (Open id) = refl
 same_named s cs (Continued id peer remote) = refl
 
--- where none is named and none opens, nothing changes
+-- if none is named and none opens, nothing changes
 nothing_changes : (clock : ℕ) (cs : List (Component Parameter)) (stays : Stays) (new : List ℕ) (open_ones : List ℕ → Option machine.Dialogue) → (Opens stays → ⊥) → changed clock cs Nothing stays new open_ones ≡ open_ones
 nothing_changes clock cs (Gone None) new open_ones h = refl
 nothing_changes clock cs (Gone (Some opening)) new open_ones h = absurd (h tt)

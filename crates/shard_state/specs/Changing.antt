@@ -1,4 +1,4 @@
--- How the records and the open dialogues change by what a procedure leaves.
+-- How the outcome of a procedure changes the records and the open dialogues.
 use Rattle.std.specs.Prelude.{◌≡◌, ℕ, List, Option, Some, None, option_map, map, IfSome}
 use Rattle.machine.specs.Keys.{put}
 use Rattle.machine.specs.State as machine
@@ -15,24 +15,24 @@ use Rattle.shard_state.specs.declared.plan.Named.{Named}
 use Rattle.shard_state.specs.declared.plan.Named.TheVariants.{Nothing, Open, Continued}
 use Rattle.shard_state.specs.Plans.{id_of}
 
--- the records, of which that of a subscriber, if any, is as the procedure leaves it
+-- the records after: that of the subscriber, if any, is changed as the outcome says
 abbrev pub written : (codes : List ℕ) → After → (imsi : Option (List ℕ)) → (List ℕ → Option machine.Subscriber) → List ℕ → Option machine.Subscriber
 written codes after None records = records
 written codes after (Some imsi) records = put records imsi (after_of codes after (records imsi))
 
--- the dialogue that is named among the open ones, as what was received leaves it
+-- the named dialogue among the open ones, as the received message leaves it
 abbrev pub named_among : (clock : ℕ) → List (Component Parameter) → Named → (List ℕ → Option machine.Dialogue) → Option machine.Dialogue
 named_among clock components Nothing open_ones = None
 named_among clock components (Open id) open_ones = open_ones id
 named_among clock components (Continued id peer remote) open_ones =
     option_map (gone_on peer remote clock (map heard components)) (open_ones id)
 
--- the open dialogues, of which the one that is named stays so, with the one that opens
+-- the open dialogues after: the named one as it stays, and the one that opens
 abbrev pub changed : (clock : ℕ) → List (Component Parameter) → Named → Stays → (new : List ℕ) → (List ℕ → Option machine.Dialogue) → List ℕ → Option machine.Dialogue
 changed clock components named stays new open_ones =
     new_opens new (opens_of clock stays) (named_stays (id_of named) (stays_of (named_among clock components named open_ones) stays) open_ones)
 
--- The id that a dialogue takes which opens, beside the open ones or in the place of one.
+-- The id for a dialogue that opens, beside the open ones or in place of one.
 abbrev pub IsNext : OpenDialogues → (place : Option (List ℕ)) → (new : List ℕ) → Type 0
 IsNext d None new = IfSome d.next (λ id. id ≡ new)
 IsNext d (Some id) new = new ≡ next_use id

@@ -1,4 +1,4 @@
--- The frames that a step sends, as an entry of a journal has them.
+-- The frames that a step sends, as in an entry of a journal.
 use Rattle.std.specs.Prelude.{ℕ, List, refl}
 use Rattle.std.specs.Coded.{Coded, code_by, coded×, coded_list, coded_ℕ}
 use Rattle.frames.specs.Octets.{RawOut}

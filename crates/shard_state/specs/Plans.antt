@@ -1,4 +1,4 @@
--- What an event comes to before anything is done, and what is then done.
+-- What an event results in before anything is done, and what is then done.
 use Rattle.std.specs.Prelude.{◌≡◌, ◌≢◌, ℕ, List, Option, Some, None, option_map, map, IfSome}
 use Rattle.machine.specs.State as machine
 use Rattle.machine.specs.State.{Local, IsFull}
@@ -26,18 +26,18 @@ id_of Nothing = None
 id_of (Open id) = Some id
 id_of (Continued id peer remote) = Some id
 
--- that dialogue as what was received leaves it
+-- that dialogue, as the received message leaves it
 abbrev pub named_as : ShardState → List (Component Parameter) → Named → Option machine.Dialogue
 named_as s components Nothing = None
 named_as s components (Open id) = dialogues_of s.dialogues id
 named_as s components (Continued id peer remote) =
     option_map (gone_on peer remote s.clock (map heard components)) (dialogues_of s.dialogues id)
 
--- what the procedure sees of the subscriber whom the event concerns, if any
+-- what the procedure sees of the event's subscriber, if any
 abbrev pub here : ShardState → Plan → Local
 here s plan = seen (state_of s) s.shard plan.imsi
 
--- what the procedure leaves
+-- the procedure's outcome
 abbrev pub left : ShardState → List (Component Parameter) → Plan → Outcome
 left s components plan = outcome_of (here s plan) (named_as s components plan.named) plan.codes.items plan.left
 
@@ -50,13 +50,13 @@ abbrev pub Opens : Stays → Type 0
 Opens (Gone (Some opening)) = Unit {0}
 Opens _ = ⊥
 
--- An invocation is forgotten only in a dialogue that is as it was.
+-- An invocation is forgotten only in a dialogue that is otherwise unchanged.
 abbrev pub IsForgetting : Named → Stays → Type 0
 IsForgetting (Continued id peer remote) (Forgets invoke) = ⊥
 IsForgetting named stays = Unit {0}
 
--- The id that a dialogue takes which opens: the next one, where there is one, and where the named dialogue closes in the same
--- step the one that then is next.
+-- The id for a dialogue that opens: the next id, if there is one; if the named dialogue closes in the same step, the next id
+-- after that.
 abbrev pub IsNextId : ShardState → Named → (new : List ℕ) → Type 0
 IsNextId s named new = after (id_of named)
   where
@@ -64,8 +64,8 @@ IsNextId s named new = after (id_of named)
     after None = IfSome s.dialogues.next (λ id. (id ≡ new) × IsNew s.dialogues id)
     after (Some id) = (new ≡ next_use id) × IsNew s.dialogues new
 
--- What the plan names is there: the dialogue is open; the record may be written so; new codes may be had; and what opens or
--- changes a dialogue is about a subscriber.
+-- The plan can be carried out: the dialogue is open; the record may be written so; the new codes are allowed; what opens or
+-- changes a dialogue has a subscriber.
 pub record CanSettle (s : ShardState) (plan : Plan) : Type 0 where
   pub is_open : IfSome (id_of plan.named) (λ id. dialogues_of s.dialogues id ≢ None)
   pub writable : CanBeWritten plan.left.after (record_at s.records plan.imsi)
@@ -78,7 +78,7 @@ pub record CanSettle (s : ShardState) (plan : Plan) : Type 0 where
 abbrev pub HasRoom : ShardState → Plan → Type 0
 HasRoom s plan = Opens plan.left.stays → id_of plan.named ≡ None → s.dialogues.next ≢ None
 
--- A dialogue would open beside the open ones, of which there are as many as may be.
+-- A dialogue would open beside the open ones, and the shard is full.
 pub record Overflows (s : ShardState) (plan : Plan) : Type 0 where
   pub opens : Opens plan.left.stays
   pub beside : id_of plan.named ≡ None

@@ -1,4 +1,4 @@
--- The state of a shard, as the code keeps it and as a state of the machine.
+-- The state of a shard, as the code has it and as a state of the machine.
 use Rattle.std.specs.Prelude.{ℕ, ◌≡◌, ◌<◌, ◌≤◌, List, Option, Some, None, option_map, cond, ◌==◌, refl}
 use Rattle.std.specs.FinMap as map
 use Rattle.std.specs.Coded.{Coded, code_by, coded×, coded_ℕ}
@@ -9,8 +9,7 @@ use Rattle.dialogues.specs.Dialogues.{OpenDialogues, open_dialogues_code, dialog
 use Rattle.machine.specs.Numbers.{shards, latest_clock}
 use Rattle.machine.specs.State as machine
 
--- The shard's number, its clock, its records and its open dialogues; the directory and the register's own number, which all
--- shards have.
+-- The shard's number, its clock, its records and its open dialogues; the directory and the HLR number, which all shards share.
 pub record ShardState : Type 0 where
   pub shard : ℕ
   pub clock : ℕ
@@ -31,7 +30,7 @@ abbrev pub shard_of_fields : ℕ → ℕ → RecordMap → OpenDialogues → Dir
 shard_of_fields shard clock records dialogues directory hlr =
     record { shard = shard; clock = clock; records = records; dialogues = dialogues; directory = directory; hlr = hlr }
 
--- There is such a shard, its clock has gone no further than it may, and its dialogues have its ids.
+-- There is such a shard, its clock is at most 2^62, and its dialogues have its ids.
 pub record IsShardState (s : ShardState) : Type 0 where
   pub shard : s.shard < shards
   pub clock : s.clock ≤ latest_clock
@@ -58,7 +57,7 @@ state_of s = record {
   hlr = s.hlr;
 }
 
--- A shard as it begins: these records, no open dialogue, and its clock at 0.
+-- A shard at the beginning: these records, no open dialogue, and its clock at 0.
 pub record IsOpening (shard : ℕ) (records : RecordMap) (directory : DirectoryMap) (hlr : List ℕ) (s : ShardState) : Type 0 where
   pub shard_is : s.shard ≡ shard
   pub clock : s.clock ≡ 0
@@ -67,7 +66,7 @@ pub record IsOpening (shard : ℕ) (records : RecordMap) (directory : DirectoryM
   pub directory_is : s.directory ≡ directory
   pub hlr_is : s.hlr ≡ hlr
 
--- What no event changes of a shard: its number, the directory and the register's number.
+-- What no event changes in a shard: its number, the directory and the HLR number.
 pub record IsSameShard (before after : ShardState) : Type 0 where
   pub shard : after.shard ≡ before.shard
   pub directory : after.directory ≡ before.directory

@@ -1,16 +1,16 @@
-//! What a step answers.
+//! The answer of a step.
 
 use crate::sent_frames::Frames;
 use hlr_types::{Imsi, Peer, Tid};
 
-/// A frame that is sent, with the address that it goes to.
+/// A frame to send, with its destination address.
 #[derive(Debug, PartialEq, Eq, Drop)]
 pub struct Out {
     pub to: Peer,
     pub octets: Vec<u8>,
 }
 
-/// What a step answers: the frames that it sends, in order, the local id that it took, and its subject.
+/// The answer of a step: the frames to send, in order; the local id that it took; its subject.
 #[derive(Debug, Drop)]
 pub struct StepAnswer {
     pub outs: Frames,

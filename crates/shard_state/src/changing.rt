@@ -18,7 +18,7 @@ use msgarena::Parameter;
 use q773_comp::Component;
 use std::alloc::AllocError;
 
-/// Opens a dialogue beside the open ones, or in the place of one.
+/// Opens a dialogue beside the open ones, or in place of one.
 fn open(
     dialogues: &mut Dialogues,
     clock: u64,
@@ -40,7 +40,7 @@ fn open(
     }
 }
 
-/// Closes the dialogue that is named, if one is.
+/// Closes the named dialogue, if any.
 fn close(dialogues: &mut Dialogues, id: Option<Tid>)
     requires { IfSome id (λ id. dialogues_of dialogues.old id ≢ None) }
     ensures closed { dialogues_of dialogues.new ≡ named_stays id None (dialogues_of dialogues.old) }
@@ -51,7 +51,7 @@ fn close(dialogues: &mut Dialogues, id: Option<Tid>)
     }
 }
 
-/// The dialogue that is named, if one is, goes on as what was received leaves it.
+/// The named dialogue, if any, goes on as the received message leaves it.
 #[tactic(auto, using(machine_laws::proofs::Keys::put_again))]
 fn go_on(
     dialogues: &mut Dialogues,
@@ -75,7 +75,7 @@ fn go_on(
     }
 }
 
-/// An invocation is forgotten in the dialogue that is named, if one is. It is as it was.
+/// An invocation of the named dialogue, if any, becomes Idle. The rest of the dialogue stays the same.
 fn forget(dialogues: &mut Dialogues, named: Named, invoke: InvokeId)
     requires { IsForgetting named (Stays.Forgets invoke) }
     ensures forgotten { (clock : ℕ) (cs : List (component.Component parameter.Parameter)) → dialogues_of dialogues.new
@@ -87,8 +87,8 @@ fn forget(dialogues: &mut Dialogues, named: Named, invoke: InvokeId)
     }
 }
 
-/// The dialogue that is named, if one is, is then as a procedure leaves it, and the one that opens is open. Tells the id of that
-/// one.
+/// Applies the outcome of a procedure to the named dialogue, if any, and opens the dialogue that opens. Returns the id of the
+/// latter.
 pub(crate) fn change(
     dialogues: &mut Dialogues,
     clock: u64,

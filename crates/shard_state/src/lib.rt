@@ -1,13 +1,13 @@
-//! The state of one shard of the register, and how it changes by what a procedure leaves.
+//! The state of one shard of the register, and how the outcome of a procedure changes it.
 //!
-//! A plan says what an event comes to: whom it concerns, the open dialogue that it names, the id that a dialogue takes which
-//! opens, and what the procedure leaves. `Shard::settle` does it: what can fail comes first, and where a growth is refused nothing
-//! has changed.
+//! A plan holds what an event results in: the subscriber, the dialogue that it names, the id for a dialogue that opens, and the
+//! procedure's outcome. `Shard::settle` carries it out. What can fail comes first, so on error nothing changes.
 #![tactic(auto)]
 
 mod answer;
 mod changing;
 mod plan;
+mod same;
 mod sending;
 mod sent_frames;
 mod settle;

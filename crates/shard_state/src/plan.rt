@@ -1,4 +1,4 @@
-//! What an event comes to, before anything is done.
+//! What an event results in, before anything is done.
 
 ghost use Rattle.std.specs.Prelude.{◌≡◌, ◌↔◌, IsTrue, None};
 
@@ -8,11 +8,11 @@ use location::{Outcome, Stays};
 /// The open dialogue that an event names.
 #[derive(Clone, Copy, Debug)]
 pub enum Named {
-    /// It names none.
+    /// None.
     Nothing,
-    /// It is as it was.
+    /// This one; it stays as it was until the plan is carried out.
     Open(Tid),
-    /// A Continue came for it, which leaves it Active with this peer and the peer's id.
+    /// This one, which a Continue was received for: it is Active then, with this peer and this remote id (Q.774).
     Continued {
         id: Tid,
         peer: Peer,
@@ -20,8 +20,8 @@ pub enum Named {
     },
 }
 
-/// What an event comes to: whom it concerns, and the subject of its step; the open dialogue that it names; the id that a
-/// dialogue takes which opens; the codes that an operator's change names; and what the procedure leaves.
+/// What an event results in: the IMSI that it concerns, and the subject of its step; the open dialogue that it names; the id for
+/// a dialogue that opens; the codes of an operator's change; and the procedure's outcome.
 #[derive(Debug, Drop)]
 pub struct Plan {
     pub imsi: Option<Imsi>,

@@ -1,4 +1,4 @@
-//! The frames of what a procedure sends.
+//! The frames that a procedure sends.
 
 ghost use Rattle.std.specs.Prelude.{◌≡◌, ◌++◌, IfOk, OnOk, map};
 ghost use Rattle.frames.specs.Octets.{spelled_out};
@@ -11,7 +11,7 @@ use crate::sent_frames::Frames;
 use outgoing::{Out as Sent, octets_of};
 use std::alloc::{AllocError, Global};
 
-/// A message as it goes out.
+/// A message as a frame.
 fn spelled(alloc: Global, sent: &Sent) -> Result<Out, AllocError>
     ensures { IfOk result (λ frame. raw_out frame ≡ spelled_out (out sent.now)) }
 {
@@ -24,7 +24,7 @@ fn spelled(alloc: Global, sent: &Sent) -> Result<Out, AllocError>
     })
 }
 
-/// One more message, if there is one.
+/// Appends the frame of a message, if there is one.
 fn push(outs: &mut Vec<Out>, alloc: Global, sent: &Option<Sent>) -> Result<(), AllocError>
     ensures { OnOk result (map raw_out outs.new.items ≡ map raw_out outs.old.items ++ map spelled_out (one sent.now)) }
 {
@@ -34,7 +34,7 @@ fn push(outs: &mut Vec<Out>, alloc: Global, sent: &Option<Sent>) -> Result<(), A
     Ok(())
 }
 
-/// The messages in order, as they go out.
+/// The messages as frames, in order.
 pub(crate) fn outs_of(
     alloc: Global,
     first: &Option<Sent>,

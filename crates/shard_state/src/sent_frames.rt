@@ -7,8 +7,8 @@ use crate::answer::Out;
 use std::alloc::{AllocError, Global};
 use std::marker::Model;
 
-/// The frames that a step sends, in order. They are there twice, for a journal and for who sends them: a step that was taken
-/// can fail no more, so the second copy is made before anything changes.
+/// The frames that a step sends, in order. There are two copies, one to send and one for the journal. Both are made before
+/// anything changes, since a step cannot fail once it has begun to change the state.
 #[derive(Debug, Drop)]
 pub struct Frames {
     sent: Vec<Out>,
@@ -56,7 +56,7 @@ impl Frames {
         &self.sent
     }
 
-    /// The frames, and once more.
+    /// Both copies of the frames.
     pub fn into_both(self) -> (Vec<Out>, Vec<Out>)
         ensures sent { map raw_out result.0.items ≡ self }
         ensures kept { map raw_out result.1.items ≡ self }
@@ -66,7 +66,7 @@ impl Frames {
 }
 
 impl Out {
-    /// An equal frame to the same address.
+    /// An equal copy.
     pub fn try_copy(&self, alloc: Global) -> Result<Out, AllocError>
         ensures { IfOk result (λ copy. raw_out copy ≡ raw_out self.now) }
     {

@@ -1,4 +1,4 @@
-//! Doing what a procedure leaves.
+//! Carrying out a plan.
 
 ghost use Rattle.std.specs.Prelude.{◌≡◌, ◌↔◌, IfOk, OnOk, OnErr, IsTrue, false};
 ghost use Rattle.machine.specs.Step.{taken};
@@ -17,8 +17,8 @@ use q773_comp::Component;
 use std::alloc::AllocError;
 
 impl Shard {
-    /// Whether there is room for what a plan opens. There is none exactly where a dialogue would open beside the open ones,
-    /// of which there are as many as may be.
+    /// Whether there is room for what a plan opens. There is none exactly if a dialogue would open beside the open ones and the
+    /// shard is full.
     pub fn has_room(&self, plan: &Plan) -> bool
         ensures room { IsTrue result ↔ HasRoom self.now plan.now }
         ensures full { (result ≡ false) ↔ Overflows self.now plan.now }
@@ -29,8 +29,8 @@ impl Shard {
         !self.dialogues().is_full()
     }
 
-    /// Does what a plan leaves: the record, the dialogue that is named and the one that opens are then as the procedure leaves
-    /// them. `components` are those of the Continue that came, if one came. Where a growth is refused nothing has changed.
+    /// Carries out a plan: afterwards the record, the named dialogue and the one that opens are as the outcome says. `components`
+    /// are those of the received Continue, if any. On error nothing changes.
     pub fn settle(
         &mut self,
         plan: Plan,
@@ -41,7 +41,7 @@ impl Shard {
         ensures settled { OnOk result (state_of self.new ≡ settled self.old components.now plan) }
         ensures says { IfOk result (λ a. Says a (taken plan.new (left self.old components.now plan).opens) plan.subject
             (left self.old components.now plan).sent) }
-        // The ids of its dialogues are those of its number.
+        // Its dialogues have ids of its own number.
         ensures own { self.old.dialogues.shard ≡ self.old.shard }
         ensures err { OnErr result (self.new ≡ self.old) }
         ensures same_shard { IsSameShard self.old self.new }

@@ -19,7 +19,7 @@ use std::sync::Arc;
 const LATEST_CLOCK: u64 = 1 << 62;
 
 /// The state of one shard: its records, its open dialogues and its clock, with the directory, which all shards share, and the
-/// number of the register.
+/// HLR number.
 #[derive(Drop)]
 pub struct Shard {
     pub(crate) alloc: Global,
@@ -45,7 +45,7 @@ impl Model for Shard {
 }
 
 impl Shard {
-    /// A shard that begins with these records, which are its part already. It has no open dialogue, and its clock is at 0.
+    /// A shard that begins with these records, which are already its part. It has no open dialogue, and its clock is 0.
     #[tactic(auto, using(crate::proofs::OpeningLemmas::opens_part))]
     pub fn of_part(
         alloc: Global,
@@ -108,14 +108,14 @@ impl Shard {
         &self.directory
     }
 
-    /// The number of the register.
+    /// The HLR number.
     pub fn hlr(&self) -> IsdnAddress
         ensures { result ≡ self.now.hlr }
     {
         self.hlr
     }
 
-    /// An equal state.
+    /// An equal copy.
     pub fn try_copy(&self) -> Result<Shard, AllocError>
         ensures { IfOk result (λ copy. copy ≡ self.now) }
     {
@@ -130,7 +130,7 @@ impl Shard {
         })
     }
 
-    /// Takes a clock value. The clock never goes back.
+    /// Sets the clock to `now`, if that is later. It never goes back (profile).
     pub fn tick(&mut self, now: u64)
         ensures { self.new ≡ record self.old { clock = max self.old.clock (min now latest_clock) } }
     {

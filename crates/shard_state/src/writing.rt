@@ -13,7 +13,7 @@ use hlr_types::Imsi;
 use location::After;
 use records::Records;
 
-/// The serving register has purged the subscriber.
+/// Sets the purged flag (Purge MS).
 fn purge(records: &mut Records, imsi: &Imsi)
     requires { CanBeWritten After.Purged (finite.get records.old imsi.now) }
     ensures { records_of records.new
@@ -27,7 +27,7 @@ fn purge(records: &mut Records, imsi: &Imsi)
     records.set(imsi, register, true, current);
 }
 
-/// The operator has named these codes, and no update counts any more.
+/// Sets the operator's new codes, and clears the current mark.
 fn recode(records: &mut Records, imsi: &Imsi, codes: Vec<u8>)
     requires known { IsSome (finite.get records.old imsi.now) }
     requires codes { AreAllowed codes.items }
@@ -44,7 +44,7 @@ fn recode(records: &mut Records, imsi: &Imsi, codes: Vec<u8>)
     records.set(imsi, register, purged, None);
 }
 
-/// Writes the record of a subscriber, if any, as a procedure leaves it. Takes no memory.
+/// Writes the change of a subscriber's record, if any. Does not allocate.
 pub(crate) fn write(records: &mut Records, imsi: Option<Imsi>, after: After, codes: Vec<u8>)
     requires writable { CanBeWritten after (record_at records.old imsi) }
     requires codes { after ≡ After.NewCodes → AreAllowed codes.items }

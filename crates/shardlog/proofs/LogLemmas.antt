@@ -1,4 +1,4 @@
--- What a journal keeps, how it begins, and how it grows.
+-- The invariant of a journal, how it begins, and how it grows.
 use Rattle.std.proofs.Common.{◌≡◌, ◌<◌, ◌≤◌, ◌+◌, ℕ, List, [], ◌∷◌, ◌++◌, length, length-append, map, Vec, Global, Option, Some, refl, sym, ap, ◌∙◌, subst, arith}
 use Rattle.std.proofs.lemmas.List.{length-map, map-append}
 use Rattle.machine.specs.Events.{Event}
@@ -34,13 +34,13 @@ keeps_of n base entries state legal = record {
 }
 
 pub log_keeps : (l : Log) → IsLog l → LogKeeps l
-log_keeps l is = keeps_of l.base.shard (state_of l.base) l.entries (state_of l.state) is.legal
+log_keeps l is = record { journal = keeps_of l.base.shard (state_of l.base) l.entries (state_of l.state) is.legal; same = is.same; few = is.few }
 
 pub joined_keep : JoinedKeep
 joined_keep n epochs base state entries chain legal =
     keeps_of n (first_raw_base epochs base) (joined_raws epochs ++ entries) state (chain_joined n epochs base state entries chain legal)
 
--- a shard begins with no entry
+-- a shard begins without an entry
 pub begun : (s : ShardState) → IsSoundShard s → IsLog (log s [] s)
 begun s is = record {
   legal = record {
@@ -56,7 +56,7 @@ directory_is : (s : ShardState) → (state_of s).directory ≡ directory_of s.di
 unfolding state_of
 directory_is s = refl
 
--- a step puts its entry last
+-- a step appends its entry
 pub grown : (base s t : ShardState) (entries : List RawEntry) (entry : RawEntry) → IsLog (log base entries s) → IsRouted (directory_of s.directory) entry.event s.shard
     → StepOctets (state_of s) entry (state_of t) → IsSameShard s t → length entries < 65536 → IsLog (log base (entries ++ entry ∷ []) t)
 grown base s t entries entry is routed step same lt = record {
@@ -66,7 +66,7 @@ grown base s t entries entry is routed step same lt = record {
   few = let count = length-append entries (entry ∷ []) in omega (arith, count);
 }
 
--- what a step leaves
+-- the state after a step
 pub leaves_unnamed : (S T : State) (entry : RawEntry) → StepOctets S entry T → LeavesUnnamed S entry.event T
 leaves_unnamed S T entry (j, spells, step) = λ e i d is open_at not_named.
     let same : j.event ≡ e = event_one entry.event j.event e spells.event is in

@@ -1,4 +1,4 @@
--- Journals that were cut off, one after another.
+-- Journals that were cut off one after another.
 use Rattle.std.specs.Prelude.{List, ◌++◌, ℕ}
 use Rattle.machine.specs.State.{State}
 use Rattle.frames.specs.Octets.{RawEntry}
@@ -15,8 +15,8 @@ raw_epoch e = record { base = state_of e.base; entries = raw_entries e.entries.i
 abbrev pub LeadTo : List RawEpoch → Log → Type 0
 LeadTo epochs l = ChainOctets l.base.shard epochs (state_of l.base)
 
--- The journals of epochs that lead to a base, and a journal from there, are one journal from the first base, and it keeps what
--- every journal keeps.
+-- The journals of epochs that lead to a base, and a journal from there, are one journal from the first base, with the invariant
+-- of every journal.
 abbrev pub JoinedKeep : Type 0
 JoinedKeep = (n : ℕ) (epochs : List RawEpoch) (base state : State) (entries : List RawEntry)
     → ChainOctets n epochs base → LegalOctets n base entries state → Keeps n (first_raw_base epochs base) (joined_raws epochs ++ entries) state

@@ -1,4 +1,4 @@
--- Codes, by which entries are told apart.
+-- Codes that distinguish entries.
 use Rattle.std.specs.Prelude.{◌≡◌, ◌⊎◌, ℕ, List, Option, Some, None, refl}
 use Rattle.std.specs.Coded.{Coded, code_by, coded×, coded⊎, coded_list, coded_option, coded_ℕ}
 use mathlib.Core.Logic.{inl, inr}
@@ -9,7 +9,7 @@ use Rattle.shard_state.specs.Frames.{raw_out_code}
 abbrev pub coded_octets : Coded (List ℕ)
 coded_octets = coded_list coded_ℕ
 
--- the codes, none where the subscription ends
+-- the codes, none for a withdrawal
 abbrev pub split_change : Change → Option (List ℕ)
 split_change (Codes codes) = Some codes
 split_change Withdraw = None

@@ -1,4 +1,4 @@
--- The entries of the code as those of the definitions.
+-- Entries of the code as entries of the definitions.
 use Rattle.std.specs.Prelude.{List, map}
 use Rattle.frames.specs.Octets.{RawEntry}
 use Rattle.shard_state.specs.Frames.{raw_out}

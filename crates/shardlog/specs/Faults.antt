@@ -1,4 +1,4 @@
--- Why a shard did not handle an event, where its state did not take it.
+-- Why a shard did not handle an event that its state refused.
 use Rattle.hlrcore.specs.declared.answer.StepFault.{StepFault}
 use Rattle.hlrcore.specs.declared.answer.StepFault.TheVariants as step
 use Rattle.shardlog.specs.declared.fault.ShardFault.{ShardFault}

@@ -1,4 +1,4 @@
--- What handling an event does to a shard.
+-- How handling an event changes a shard.
 use Rattle.std.specs.Prelude.{◌≡◌, ℕ, List, [], ◌∷◌, ◌++◌, length, map, Option, Some}
 use Rattle.machine.specs.Events.{Event}
 use Rattle.machine.specs.Holders.{IsNamed}
@@ -9,13 +9,13 @@ use Rattle.shard_state.specs.Shards.{state_of}
 use Rattle.shardlog.specs.declared.entry.Handled.{Handled}
 use Rattle.shardlog.specs.Log.{Log}
 
--- An open dialogue that the event does not name is as it was.
+-- An open dialogue that the event does not name is unchanged.
 abbrev pub LeavesUnnamed : State → RawEvent → State → Type 0
 LeavesUnnamed S raw T =
     (e : Event) (i : List ℕ) (d : Dialogue) → IsEvent raw e → S.dialogues i ≡ Some d → (IsNamed S e i → ⊥) → T.dialogues i ≡ Some d
 
--- One entry more, at the end of the journal: it has the event, what is sent, and the rest of a step from the state before to
--- the state after.
+-- One entry is appended to the journal: it has the event, what is sent, and the rest of a step from the state before to the
+-- state after.
 pub record Handles (old : Log) (raw : RawEvent) (handled : Handled) (new : Log) : Type 0 where
   pub entry : RawEntry
   pub added : new.entries ≡ old.entries ++ entry ∷ []

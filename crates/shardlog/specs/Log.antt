@@ -1,4 +1,4 @@
--- A shard with its journal, and what such a journal keeps.
+-- A shard with its journal, and the invariant of such a journal.
 use Rattle.std.specs.Prelude.{◌≡◌, ◌≤◌, ℕ, List, [], length, refl}
 use Rattle.std.specs.Coded.{Coded, code_by, coded×, coded_list}
 use Rattle.machine.specs.Holders.{serving}
@@ -9,7 +9,7 @@ use Rattle.frames.specs.OctetJournals.{AreHolders, LegalOctets, NoRawTurnedAway,
 use Rattle.shard_state.specs.Shards.{ShardState, shard_state_code, IsSameShard, records_of, state_of}
 use Rattle.shardlog.specs.Codes.{entry_code}
 
--- The state that the journal begins in, its entries, and the state that the shard is in.
+-- The state in which the journal begins, its entries, and the current state of the shard.
 pub record Log : Type 0 where
   pub base : ShardState
   pub entries : List RawEntry
@@ -23,21 +23,23 @@ log_code =
     code_by (ShardState × (List RawEntry × ShardState)) (coded× shard_state_code (coded× (coded_list entry_code) shard_state_code))
     (λ l. (l.base, (l.entries, l.state))) (λ p. log p.0 p.1.0 p.1.1) (λ _. refl)
 
--- A legal journal of octets between the two states, which are of one shard, with no more entries than there may be.
+-- A legal journal of octets between the two states, which are of one shard, with at most 65,536 entries.
 pub record IsLog (l : Log) : Type 0 where
   pub legal : LegalOctets l.base.shard (state_of l.base) l.entries (state_of l.state)
   pub same : IsSameShard l.base l.state
   pub few : length l.entries ≤ 65536
 
--- What holds of a journal from one state to another, and can be told from the octets of its entries alone: exactly the serving
--- register, or none, holds each subscriber; and the entries of one subscriber by themselves are a legal journal, to the same
--- record and the same dialogues of that subscriber, unless an update of this subscriber met a full shard.
+-- What holds for a journal from one state to another, by the octets of its entries alone: exactly the serving register, or
+-- none, holds each subscriber; and the entries of one subscriber by themselves are a legal journal, to the same record and the
+-- same dialogues of that subscriber, unless an update of this subscriber met a full shard.
 pub record Keeps (n : ℕ) (base : State) (entries : List RawEntry) (state : State) : Type 0 where
   pub legal : LegalOctets n base entries state
   pub holders : (imsi : List ℕ) → AreHolders n base entries state imsi (serving (state.records imsi))
   pub alone : (imsi : List ℕ) → NoRawTurnedAway entries imsi
       → (T : State) × LegalOctets n (own base imsi) (only_raw_of entries imsi) T × SameOf imsi state T
 
--- The same of a shard.
-abbrev pub LogKeeps : Log → Type 0
-LogKeeps l = Keeps l.base.shard (state_of l.base) l.entries (state_of l.state)
+-- The invariant of a shard: that of its journal; and number, directory and HLR number are those that the journal began with.
+pub record LogKeeps (l : Log) : Type 0 where
+  pub journal : Keeps l.base.shard (state_of l.base) l.entries (state_of l.state)
+  pub same : IsSameShard l.base l.state
+  pub few : length l.entries ≤ 65536

@@ -1,9 +1,9 @@
-//! What a journal is made of.
+//! The entries of a journal.
 
 use hlr_types::{Imsi, Tid};
 use hlrcore::{Out, RawEvent, State};
 
-/// A handled event: as it came, with the local id that its step took, its subject, and the frames that were sent, in order.
+/// A handled event: the event as received, the local id that its step took, its subject, and the frames sent, in order.
 #[derive(Debug, Drop)]
 pub struct Entry {
     pub event: RawEvent,
@@ -12,14 +12,14 @@ pub struct Entry {
     pub outs: Vec<Out>,
 }
 
-/// Where the entry of an event stands in the journal, counted from 0, and the frames to send, in order.
+/// The position of an event's entry in the journal, counted from 0, and the frames to send, in order.
 #[derive(Debug, Drop)]
 pub struct Handled {
     pub position: usize,
     pub outs: Vec<Out>,
 }
 
-/// A journal that was cut off, with the state that it begins in.
+/// A journal that was cut off, with the state that it begins in (its base).
 #[derive(Drop)]
 pub struct Epoch {
     pub base: State,

@@ -10,13 +10,13 @@ pub enum ShardFault {
     /// The event is for another shard.
     #[error("the event is for another shard")]
     NotMine,
-    /// The journal has as many entries as it may have.
+    /// The journal is full: it has 65,536 entries.
     #[error("the journal is full")]
     JournalFull,
-    /// An operator's change would open a dialogue, and as many are open as may be.
+    /// An operator's change would open a dialogue, and the shard is full: 4,096 dialogues are open.
     #[error("as many dialogues are open as may be")]
     NoRoom,
-    /// A growth was refused.
+    /// Out of memory.
     #[error("out of memory")]
     Memory,
 }

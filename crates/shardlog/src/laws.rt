@@ -1,8 +1,8 @@
-//! What holds of journals.
+//! Laws about journals.
 
 ghost use Rattle.shardlog.specs.Chains.{JoinedKeep};
 
-/// The journals of epochs that follow each other, and the shard's own, are one journal, which keeps what every journal keeps.
+/// Law: the journals of successive epochs and the shard's own are together one journal, with the invariant of every journal.
 pub fn joined_journals_keep()
     ensures { JoinedKeep }
 {}

@@ -1,5 +1,5 @@
-//! A shard with its journal. Its type keeps that the journal is legal: its entries lead, by steps of the machine over octets,
-//! from the state that the journal begins in to the state that the shard is in.
+//! A shard with its journal. The type guarantees that the journal is legal: its entries lead, by steps of the machine over
+//! octets, from the base, in which the journal begins, to the shard's state.
 #![tactic(auto)]
 
 mod entry;

@@ -18,7 +18,7 @@ use std::alloc::{AllocError, Global};
 use std::marker::Model;
 use std::mem;
 
-/// The most entries of a journal (profile).
+/// How many entries a journal may have (profile).
 pub const MOST_ENTRIES: usize = 65_536;
 
 /// A shard with its journal, which is legal: its entries lead from the base to the state.
@@ -44,7 +44,7 @@ impl Model for Shard {
 }
 
 impl Shard {
-    /// A shard that begins in a state, with no entry. Where a growth is refused the state is handed back.
+    /// A shard that begins in this state, without an entry. On error the state is returned.
     pub fn new(alloc: Global, state: State) -> Result<Shard, (State, AllocError)>
         ensures begins { IfOk result (λ shard. shard ≡ log state [] state) }
         ensures keeps { IfOk result LogKeeps }
@@ -61,12 +61,12 @@ impl Shard {
         }
     }
 
-    /// Handles an event, and puts it at the end of the journal. Where it is for another shard the answer is `NotMine`; where the
-    /// journal is full, `JournalFull`; where it is an operator's change that would open a dialogue, and as many are open as may
-    /// be, `NoRoom`; where a growth was refused, `Memory`. Then nothing has changed.
+    /// Handles an event, and appends it to the journal. `NotMine` if it is for another shard; `JournalFull` if the journal is full;
+    /// `NoRoom` if it is an operator's change that would open a dialogue in a full shard; `Memory` if an allocation fails. On
+    /// error nothing changes.
     pub fn handle(&mut self, event: &Event) -> Result<Handled, ShardFault>
         ensures handles { IfOk result (λ handled. Handles self.old (raw_of event.now) handled self.new) }
-        // What every journal keeps, of this one too.
+        // The invariant of every journal.
         ensures keeps { LogKeeps self.new }
         ensures not_mine { result ≡ Err ShardFault.NotMine → route (directory_of self.old.state.directory) (event_of event.now) ≢ self.old.state.shard }
         ensures mine { route (directory_of self.old.state.directory) (event_of event.now) ≢ self.old.state.shard
@@ -95,7 +95,7 @@ impl Shard {
         Ok(Handled { position, outs })
     }
 
-    /// Why a shard whose journal is full does not handle an event.
+    /// The error for an event when the journal is full.
     fn refusal(&self, event: &Event) -> ShardFault
         ensures { (result ≡ ShardFault.NotMine) × (route (directory_of self.now.state.directory) (event_of event.now) ≢ self.now.state.shard)
             ⊎ (result ≡ ShardFault.JournalFull) × (route (directory_of self.now.state.directory) (event_of event.now) ≡ self.now.state.shard) }
@@ -107,9 +107,10 @@ impl Shard {
         }
     }
 
-    /// The state that the journal begins in.
+    /// The base: the state in which the journal begins.
     pub fn base(&self) -> &State
-        ensures { result.now ≡ self.now.base }
+        ensures base { result.now ≡ self.now.base }
+        ensures keeps { LogKeeps self.now }
     {
         &self.base
     }
@@ -122,20 +123,19 @@ impl Shard {
         &self.entries
     }
 
-    /// The state that the shard is in.
+    /// The current state of the shard.
     pub fn state(&self) -> &State
         ensures { result.now ≡ self.now.state }
     {
         &self.state
     }
 
-    /// Cuts the journal off, and hands it out with its base. The next one begins, with no entry, in the state that the shard is
-    /// in.
+    /// Cuts the journal off, and returns it with its base. The next journal is empty and begins in the current state.
     pub fn cut(&mut self) -> Result<Epoch, AllocError>
         ensures epoch { IfOk result (λ epoch. (epoch.base ≡ self.old.base) × (raw_entries epoch.entries.items ≡ self.old.entries)) }
         ensures next { OnOk result (self.new ≡ log self.old.state [] self.old.state) }
         ensures keeps { LogKeeps self.old × LogKeeps self.new }
-        // Epochs that lead to the shard lead to it also with this one behind them.
+        // If epochs lead to the shard, they also do with this one appended.
         ensures leads { IfOk result (λ epoch. (epochs : List RawEpoch) → LeadTo epochs self.old → LeadTo (epochs ++ raw_epoch epoch ∷ []) self.new) }
         ensures err { OnErr result (self.new ≡ self.old) }
     {

@@ -11,7 +11,7 @@ use Rattle.smroute.specs.declared.answer.RouteAnswer.TheVariants.{NoRoute, Route
 abbrev pub machine_register : Register → received.Register
 machine_register r = record { vlr = r.vlr; msc = r.msc; lmsi = r.lmsi }
 
--- The machine keeps a subscriber by IMSI, so the IMSI is none of the fields.
+-- The machine keeps subscribers by IMSI, so the IMSI is not one of the fields.
 abbrev pub machine_subscriber : Subscriber → machine.Subscriber
 machine_subscriber s = record {
   msisdn = s.msisdn;

@@ -24,11 +24,11 @@ const SHORT_MESSAGE_SERVICES: u8 = 0x20;
 /// Short message to a mobile station (TS 29.002, TeleserviceCode).
 const SHORT_MESSAGE_TO_MOBILE: u8 = 0x21;
 
-/// The SM route of a subscriber, or of nobody. It takes no memory.
+/// The SM route of a subscriber (TS 29.002, 12.1). Does not allocate.
 ///
-/// The errors come in this order: unknownSubscriber where there is no record, or a withdrawn one;
-/// teleserviceNotProvisioned where no code is one of short messages to the subscriber; absentSubscriberSM where no
-/// register serves the subscriber, or it has purged the subscriber (profile).
+/// Errors in this order (profile): unknownSubscriber if there is no record or it is withdrawn; teleserviceNotProvisioned if no
+/// code is for short messages to the subscriber; absentSubscriberSM if there is no serving register, or it has purged the
+/// subscriber.
 pub fn route_sm(subscriber: Option<&Record>) -> RouteAnswer
     ensures { (imsi : List ℕ) → IfSome subscriber.entry (λ s. s.now.imsi ≡ imsi)
         → machine_answer result ≡ sm_route imsi (option_map (λ s. machine_subscriber s.now) subscriber.entry) }
@@ -51,14 +51,14 @@ fn route_of(subscriber: &Record) -> RouteAnswer
     route_by(subscriber.imsi, subscriber.purged, subscriber.register)
 }
 
-/// Whether short messages to the subscriber are provided.
+/// Whether short messages to the subscriber are provisioned.
 fn has_short_messages(codes: &[u8]) -> bool
     ensures { result ≡ has_short_messages codes.now }
 {
     codes.iter().any(|code| *code == SHORT_MESSAGE_SERVICES || *code == SHORT_MESSAGE_TO_MOBILE)
 }
 
-/// The route by the serving register, if one serves.
+/// The route through the serving register, if there is one.
 fn route_by(imsi: Imsi, purged: bool, register: Option<Register>) -> RouteAnswer
     ensures { machine_answer result ≡ route_by imsi purged (option_map machine_register register) }
 {

@@ -13,7 +13,7 @@ slot_of-id_at shard n g h = ap (λ m. m % 4096) (number_of-id_of shard (g * 4096
 pub generation_of-id_at : (shard n g : ℕ) → n < 4096 → generation_of (id_at shard n g) ≡ g
 generation_of-id_at shard n g h = ap (λ m. m / 4096) (number_of-id_of shard (g * 4096 + n)) ∙ omega arith
 
--- two generations of a slot have two ids
+-- two generations of a slot have different ids
 pub id_at-generation : (shard n g h : ℕ) → id_at shard n g ≡ id_at shard n h → g ≡ h
 id_at-generation shard n g h e =
     let same : g * 4096 + n ≡ h * 4096 + n = sym (number_of-id_of shard (g * 4096 + n)) ∙ ap number_of e ∙ number_of-id_of shard (h * 4096 + n) in
@@ -27,7 +27,7 @@ IsIdOf-id_at shard n g in_range small some few = record {
   not_zero = λ z. let none = number_of-id_of shard (g * 4096 + n) in omega (arith, none, z.0, z.1, z.2);
 }
 
--- the next generation is another, from 1 to 4,095
+-- the next generation differs, and is 1 to 4,095
 pub next_generation-is : (g : ℕ) → g < 4096 → (0 < next_generation g) × (next_generation g < 4096) × (next_generation g ≡ g → ⊥)
 next_generation-is g small = facts (g == 4095) refl
   where

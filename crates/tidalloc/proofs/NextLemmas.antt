@@ -34,7 +34,7 @@ unfolding is_unused
 none_at_unused shard q None e = refl
 none_at_unused shard q (Some s) e = elim s.is_live as (λ b. cond b false true ≡ true → (b && eq_by_cmp octets_cmp q (id_at shard (slot_of q) s.generation)) ≡ false) [ true ↦ λ e. cc | false ↦ λ e. refl ] e
 
--- an unused slot whose id was given back last has that id's generation
+-- an unused slot whose id was freed last has that id's generation
 own_unused : (shard k : ℕ) (id : List ℕ) (o : Option Slot) → is_unused o ≡ true → was_at shard id o ≡ true → slot_of id ≡ k → id ≡ id_at shard k (generation_in o)
 unfolding is_unused
 own_unused shard k id None free was here = cc
@@ -88,7 +88,7 @@ unused_next shard slots (f ∷ fs) freed room a =
     ap (λ n. is_unused (slice_get slots n)) (get_or-default (f ∷ fs) (length (f ∷ fs) - 1) (length slots) 0 last)
     ∙ unused_free _ (a.free_ones (length (f ∷ fs) - 1) last)
 
--- there is a slot to be used next where not all are live, and then alone
+-- there is a slot to be used next exactly if not all are live
 pub next_small : (shard : ℕ) (slots : List Slot) (free : List ℕ) (freed : Option (List ℕ)) (room : ℕ) → AreSlots shard slots free freed room
     → ((next_slot slots free < 4096) × (set.len (live_of shard slots) ≡ 4096 → ⊥)) ⊎ ((next_slot slots free ≡ 4096) × (set.len (live_of shard slots) ≡ 4096))
 next_small shard slots [] freed room a = by_room (ltb (length slots) 4096) refl

@@ -1,4 +1,4 @@
--- The live ids of a table of slots, after a slot is taken or given back.
+-- The live ids of a table of slots, after a slot is taken or freed.
 use Rattle.std.proofs.Common.{◌≡◌, ℕ, zero, suc, ◌+◌, ◌<◌, ◌≤◌, Bool, true, false, cond, not, ◌&&◌, ◌||◌, List, [], ◌∷◌, ◌++◌, length, Option, Some, None, refl, sym, ap, ◌∙◌, arith, inl, inr}
 use Rattle.std.proofs.Math.ListN.{set, length-set, length-append}
 use Rattle.std.proofs.lemmas.Bool.{cases_eq}

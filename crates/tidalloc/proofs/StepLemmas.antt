@@ -1,4 +1,4 @@
--- The table of slots, after room is made, an id is taken or one is given back.
+-- The table of slots, after memory is reserved, an id is taken or one is freed.
 use Rattle.std.proofs.Common.{◌≡◌, ℕ, zero, suc, ◌+◌, ◌-◌, ◌<◌, ◌≤◌, true, false, cond, ◌&&◌, List, [], ◌∷◌, ◌++◌, length, Option, Some, None, refl, sym, ap, ◌∙◌, subst, arith, inl, inr, get_or}
 use Rattle.std.proofs.Math.ListN.{set, length-set, length-append, get_or-append}
 use Rattle.std.proofs.Math.Seq.{get_or-append_seam}
@@ -82,7 +82,7 @@ module _ (shard : ℕ) (slots : List Slot) (freed : Option (List ℕ)) (room : �
 
 -- ---- the slot on top of the free ones is taken
 
--- what was given back last stays so when another id is taken
+-- the id freed last stays so when another id is taken
 kept_freed : (shard : ℕ) (old new : List Slot) (number g : ℕ) (id : List ℕ) → Puts old new number (record { generation = g; is_live = true })
     → (id ≡ id_at shard number g → ⊥) → WasFreed shard old id → WasFreed shard new id
 kept_freed shard old new number g id puts another w =
@@ -273,7 +273,7 @@ module _ (shard : ℕ) (slots : List Slot) (free : List ℕ) (freed : Option (Li
           → ◌≡◌ {A = LiveIds} (record { shard = shard; live = l; freed_last = Some id; next = x; room = r }) (record { shard = shard; live = m; freed_last = Some id; next = y; room = t })
       same l m x y r t e f h = cc
 
-  -- after it is given back, its slot's next id may be taken
+  -- after it is freed, its slot's next id may be taken
   pub next_use-may : MayBeTaken (given_back (ids_of shard slots free freed) id) (next_use id)
   next_use-may =
       let new = set slots (slot_of id) (record { generation = s.generation; is_live = false }) in
@@ -309,7 +309,7 @@ own_slots shard slots few p q live_p live_q same =
     one None e f = cc
     one (Some s) e f = (live_slot shard p s e).1 ∙ ap (λ n. id_at shard n s.generation) same ∙ sym (live_slot shard q s f).1
 
--- whether an id is live, by what stands at its slot
+-- whether an id is live, by the content of its slot
 pub live_here : (shard : ℕ) (slots : List Slot) (id : List ℕ) (n : ℕ) (s : Slot) → length slots ≤ 4096 → n ≡ slot_of id → slice_get slots n ≡ Some s
     → set.contains (live_of shard slots) id ≡ (s.is_live && eq_by_cmp octets_cmp id (id_at shard n s.generation))
 live_here shard slots id n s few here stands =
@@ -320,7 +320,7 @@ live_here shard slots id n s few here stands =
 pub slot_of_live : (shard : ℕ) (slots : List Slot) (id : List ℕ) → length slots ≤ 4096 → set.contains (live_of shard slots) id ≡ true → is_at shard id (slice_get slots (slot_of id)) ≡ true
 slot_of_live shard slots id few live = sym (contains-live_of shard id slots few) ∙ live
 
--- the id that is taken after room was made is that of before
+-- the id taken after memory was reserved is the one that was next before
 pub takes_reserved : (old between : LiveIds) (id : List ℕ) (new : LiveIds) → between ≡ record old { room = between.room } → Takes between id new → Takes old id new
 takes_reserved old between id new same t =
     let next : between.next ≡ old.next = ap (λ (v : LiveIds). v.next) same in

@@ -1,5 +1,5 @@
--- The local transaction ids of a shard that are live, and which is the next. An id is the number of the shard, and then in
--- three octets a generation times 4,096 and a slot (profile): a slot's generation goes on by one at each use.
+-- The local transaction ids of a shard (Q.773): which are live, and which is next. An id is the number of the shard, then in
+-- three octets a generation times 4,096 plus a slot (profile). A slot's generation rises by one at each use.
 use Rattle.std.specs.Prelude.{◌≡◌, ◌≢◌, ℕ, ◌+◌, ◌*◌, ◌/◌, ◌%◌, ◌==◌, List, Bool, true, false, Option, Some, None, slice_index, refl, if◌then◌else◌}
 use Rattle.std.specs.Coded.{Coded, code_by, coded×, coded_ℕ, coded_list, coded_option}
 use Rattle.std.specs.FinSet as set
@@ -20,18 +20,18 @@ slot_of id = number_of id % 4096
 abbrev pub generation_of : List ℕ → ℕ
 generation_of id = number_of id / 4096
 
--- From 4,095 a generation goes back to 1, so an id's last three octets are never all zero.
+-- After 4,095 a generation goes back to 1, so an id's last three octets are never all zero.
 abbrev pub next_generation : ℕ → ℕ
 next_generation generation = if generation == 4095 then 1 else generation + 1
 
--- The id that its slot has at the use after this one.
+-- The id that this one's slot has at its next use.
 abbrev pub next_use : List ℕ → List ℕ
 next_use id = id_at (slice_index id 0) (slot_of id) (next_generation (generation_of id))
 
 -- ---- what is live
 
--- The ids of a shard. `freed_last` is the id given back last, `next` the one that is taken next, if there is room for one;
--- `room` says how many can be taken without memory.
+-- The ids of a shard. `freed_last` is the id freed last, `next` the one taken next, if there is room for one; `room` is how
+-- many can be taken without allocating.
 pub record LiveIds : Type 0 where
   pub shard : ℕ
   pub live : set.FinSet octets_cmp
@@ -51,7 +51,7 @@ live_ids_code =
 abbrev pub is_live : LiveIds → List ℕ → Bool
 is_live ids id = set.contains ids.live id
 
--- No id of the shard is live, and none was ever given back.
+-- No id of the shard is live, and none was ever freed.
 abbrev pub no_ids : ℕ → LiveIds
 no_ids shard = record {
   shard = shard;
@@ -61,19 +61,19 @@ no_ids shard = record {
   room = 0;
 }
 
--- An id of the shard that is neither live nor the one given back last.
+-- An id of the shard that is neither live nor the one freed last.
 pub record MayBeTaken (ids : LiveIds) (id : List ℕ) : Type 0 where
   pub of_shard : IsIdOf ids.shard id
   pub not_live : is_live ids id ≡ false
   pub not_freed_last : ids.freed_last ≢ Some id
 
--- The id that was the next, and that may be taken, is live now too.
+-- The next id, which may be taken, is now live too.
 pub record Takes (old : LiveIds) (id : List ℕ) (new : LiveIds) : Type 0 where
   pub was_next : old.next ≡ Some id
   pub may : MayBeTaken old id
   pub after : new ≡ record old { live = set.insert old.live id; next = new.next; room = new.room }
 
--- The id is live no more. Its slot is the one that is used next.
+-- The id is no longer live. Its slot is used next.
 abbrev pub given_back : LiveIds → List ℕ → LiveIds
 given_back ids id = record ids {
   live = set.remove ids.live id;
@@ -86,6 +86,6 @@ given_back ids id = record ids {
 abbrev pub slot_if_live : LiveIds → List ℕ → Option ℕ
 slot_if_live ids id = if is_live ids id then Some (slot_of id) else None
 
--- No two live ids have one slot.
+-- No two live ids share a slot.
 abbrev pub HaveOwnSlots : LiveIds → Type 0
 HaveOwnSlots ids = (p q : List ℕ) → is_live ids p ≡ true → is_live ids q ≡ true → slot_of p ≡ slot_of q → p ≡ q

@@ -6,7 +6,7 @@ use Rattle.hlr_types.specs.Orders.{octets_cmp}
 use Rattle.tidalloc.specs.declared.slot.Slot.{Slot}
 use Rattle.tidalloc.specs.LiveIds.{LiveIds, id_at, slot_of, next_generation}
 
--- The live ids of these slots, the first of which has this number.
+-- The live ids of these slots, numbered from this number on.
 abbrev pub ids_from : ℕ → ℕ → List Slot → List (List ℕ)
 ids_from shard number [] = []
 ids_from shard number (s ∷ slots) = cond s.is_live (id_at shard number s.generation ∷ ids_from shard (number + 1) slots) (ids_from shard (number + 1) slots)
@@ -15,12 +15,12 @@ ids_from shard number (s ∷ slots) = cond s.is_live (id_at shard number s.gener
 abbrev pub live_of : ℕ → List Slot → set.FinSet octets_cmp
 live_of shard slots = set.from_list (ids_from shard 0 slots)
 
--- The generation of a slot, 0 where it was never used.
+-- The generation of a slot, 0 if it was never used.
 abbrev pub generation_in : Option Slot → ℕ
 generation_in None = 0
 generation_in (Some s) = s.generation
 
--- The slot that is used next: the one that was freed last, else a new one.
+-- The slot used next: the one freed last, else a new one.
 abbrev pub next_slot : List Slot → List ℕ → ℕ
 next_slot slots free = slice_index_or free (length free - 1) (length slots)
 
@@ -52,12 +52,12 @@ abbrev pub is_free : Option Slot → Bool
 is_free None = false
 is_free (Some s) = cond s.is_live false true
 
--- The id given back last is not live, and where its slot was not used again it is that slot's id.
+-- The id freed last is not live. If its slot was not used again, it is that slot's id.
 pub record WasFreed (shard : ℕ) (slots : List Slot) (id : List ℕ) : Type 0 where
   pub not_live : is_at shard id (slice_get slots (slot_of id)) ≡ false
   pub own : was_at shard id (slice_get slots (slot_of id)) ≡ true
 
--- The slots, the numbers of those that are free, the id given back last, and the room for free numbers.
+-- The slots, the numbers of the free ones, the id freed last, and the room for free numbers.
 pub record AreSlots (shard : ℕ) (slots : List Slot) (free : List ℕ) (freed_last : Option (List ℕ)) (room : ℕ) : Type 0 where
   pub in_range : shard < 16
   pub few : length slots ≤ 4096

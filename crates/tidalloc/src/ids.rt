@@ -16,7 +16,7 @@ pub enum IdFault {
     /// 4,096 ids are live.
     #[error("4,096 ids are live")]
     NoRoom,
-    /// A growth was refused.
+    /// Out of memory.
     #[error("out of memory")]
     Memory,
 }
@@ -32,7 +32,7 @@ impl<T: Drop> From<AllocFailed<T>> for IdFault {
     }
 }
 
-/// The ids of a shard, of which at most 4,096 are live. Which is taken next is known before.
+/// The ids of a shard, of which at most 4,096 are live. The next id is known before it is taken.
 #[derive(Drop)]
 pub struct Ids {
     shard: u8,
@@ -57,10 +57,10 @@ impl Model for Ids {
 }
 
 impl Ids {
-    /// The most ids that are live at once, and the number of slots.
+    /// How many ids can be live at once; also the number of slots.
     pub const ROOM: usize = 4096;
 
-    /// The ids of a shard, none of which is live. Makes the room that `give_back` needs.
+    /// The ids of a shard, none of which is live. Allocates what `give_back` needs.
     pub fn new(alloc: Global, shard: u8) -> Result<Self, AllocError>
         requires { shard < 16 }
         ensures { IfOk result (λ ids. ids ≡ no_ids shard) }
@@ -73,7 +73,7 @@ impl Ids {
         })
     }
 
-    /// Takes the next id. `NoRoom` where 4,096 are live, `Memory` where a growth was refused; then nothing has changed.
+    /// Takes the next id. `NoRoom` if 4,096 are live, `Memory` if an allocation fails; on error nothing changes.
     pub fn take(&mut self) -> Result<Tid, IdFault>
         ensures taken { IfOk result (λ id. Takes self.old id self.new) }
         ensures no_room { result ≡ Err IdFault.NoRoom ↔ (set.len self.old.live ≡ 4096) }
@@ -83,8 +83,8 @@ impl Ids {
         Ok(self.take_reserved())
     }
 
-    /// Makes room to take an id without memory, unless there is room already. Refused as `take` is, and then nothing has
-    /// changed; which id is the next stays as it was.
+    /// Reserves memory, so that the next id can be taken without allocating. Fails as `take` does, and then nothing changes.
+    /// The next id stays the same.
     pub fn reserve(&mut self) -> Result<(), IdFault>
         ensures ok { OnOk result (self.new ≡ record self.old { room = self.new.room }) }
         ensures room { OnOk result (0 < self.new.room) }
@@ -106,7 +106,7 @@ impl Ids {
         Ok(())
     }
 
-    /// Takes the next id, where `reserve` or `give_back` made room for it. Takes no memory.
+    /// Takes the next id, after `reserve` or `give_back` made room for it. Does not allocate.
     pub fn take_reserved(&mut self) -> Tid
         requires { 0 < self.old.room }
         ensures taken { Takes self.old result self.new }
@@ -121,8 +121,7 @@ impl Ids {
         id_at(self.shard, slot, generation)
     }
 
-    /// The id that `take` gives next, which is neither live nor the one given back last. There is none exactly where 4,096
-    /// are live.
+    /// The id that `take` returns next. It is neither live nor the one freed last. `None` exactly if 4,096 are live.
     pub fn next_id(&self) -> Option<Tid>
         ensures value { result ≡ self.now.next }
         ensures may { IfSome result (MayBeTaken self.now) }
@@ -147,7 +146,7 @@ impl Ids {
         Some(id_at(self.shard, slot, next_generation(generation)))
     }
 
-    /// The id that `take` gives next once this live one is given back: that of its slot at the next generation.
+    /// The id that `take` returns next once this live one is freed: its slot at the next generation.
     pub fn next_after(&self, id: Tid) -> Tid
         requires { is_live self.now id ≡ true }
         ensures value { result ≡ next_use id }
@@ -157,7 +156,7 @@ impl Ids {
         next_use(id)
     }
 
-    /// Frees a live id, whose slot is used next. Takes no memory, and there is room to take another.
+    /// Frees a live id; its slot is used next. Does not allocate, and the next id can be taken without allocating.
     pub fn give_back(&mut self, id: Tid)
         requires { is_live self.old id ≡ true }
         ensures { self.new ≡ given_back self.old id }
@@ -204,7 +203,7 @@ impl Ids {
         self.slots.len() - self.free.len()
     }
 
-    /// An equal value, with room of its own.
+    /// An equal copy.
     pub fn try_copy(&self) -> Result<Self, AllocError>
         ensures { IfOk result (λ ids. ids ≡ self.now) }
     {

@@ -5,7 +5,7 @@ ghost use Rattle.tidalloc.specs.LiveIds.{id_at, slot_of, generation_of, next_gen
 
 use hlr_types::Tid;
 
-/// A place for one id at a time. A slot that was never used has generation 0.
+/// Holds one id at a time. A slot that was never used has generation 0.
 #[derive(Clone, Copy)]
 pub(crate) struct Slot {
     pub(crate) generation: u16,
@@ -45,7 +45,7 @@ pub(crate) fn slot_of(id: Tid) -> usize
     (id.number() % 4096) as usize
 }
 
-/// The id that the slot of this one has at the use after it.
+/// The id that this one's slot has at its next use.
 pub(crate) fn next_use(id: Tid) -> Tid
     ensures { result ≡ next_use id }
 {

@@ -1,4 +1,4 @@
--- What stays and what changes, when room is made and when a transaction begins, becomes Active or closes.
+-- What stays and what changes when memory is reserved and when a transaction begins, becomes Active or closes.
 use Rattle.std.proofs.Common.{◌≡◌, ◌≢◌, ℕ, ◌+◌, ◌-◌, ◌<◌, ◌≤◌, Bool, true, false, cond, not, ◌&&◌, ◌||◌, List, length, Option, Some, None, refl, sym, ap, ◌∙◌, subst, arith, inl, inr, get_or, zero, suc, [], ◌∷◌}
 use Rattle.std.specs.Option.{option_map, is_some, IfSome}
 use Rattle.std.specs.List.{slice_index_or}

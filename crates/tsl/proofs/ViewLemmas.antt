@@ -118,7 +118,7 @@ module _ (ids : LiveIds) (keys : List ℕ) (slab : Slab Entry) (room : ℕ) (a :
       look None e = e
       look (Some x) e = refl
 
-  -- a transaction is open where the id is live
+  -- a transaction is open if the id is live
   pub is_some-at : (id : List ℕ) → is_some (at (open_of ids keys slab room) id) ≡ is_live ids id
   is_some-at id = look (is_live ids id) refl
     where

@@ -1,4 +1,4 @@
--- For whom a received message is (Q.774). No source address is compared (profile).
+-- Which open transaction a received message is for (Q.774, transaction sublayer). Source addresses are not compared (profile).
 use Rattle.std.specs.Prelude.{◌≡◌, ◌≢◌, ℕ, List, Bool, true, Option, Some, None, if◌then◌else◌}
 use Rattle.machine.specs.Keys.{same}
 use Rattle.machine.specs.Transactions.{Primitive, ContinueComes, CloseComes, Fate, ForIt, Unassigned, Row, transact}
@@ -15,17 +15,17 @@ destination_of (Continue origin destination) = destination
 destination_of (End destination) = destination
 destination_of (Abort destination) = destination
 
--- What comes, where it comes from this address.
+-- The message as an input of the transaction table, received from this address.
 abbrev pub primitive_of : List ℕ → Head → Primitive
 primitive_of from (Continue origin destination) = ContinueComes from origin
 primitive_of from (End destination) = CloseComes
 primitive_of from (Abort destination) = CloseComes
 
--- The row of the table that what comes is.
+-- The row of the transaction table for the message.
 abbrev pub row_of : OpenTransactions → List ℕ → Head → Option Row
 row_of t from head = transact (at t (destination_of head)) (primitive_of from head)
 
--- What is told of a row: only a Continue is ever unassigned.
+-- What `receive` returns for a row: only a Continue is ever unassigned.
 abbrev pub told : Head → Fate → Received
 told head ForIt = For (destination_of head)
 told (Continue origin destination) Unassigned = NotAssigned origin
@@ -35,11 +35,11 @@ abbrev pub told_of : Head → Option Row → Received
 told_of head None = Nothing
 told_of head (Some row) = told head row.fate
 
--- For whom it is.
+-- The transaction that it is for.
 abbrev pub received : OpenTransactions → List ℕ → Head → Received
 received t from head = told_of head (row_of t from head)
 
--- What stands at this id after a row that takes nothing away.
+-- The table after a row that removes nothing: this id has this transaction, if any.
 abbrev pub left_at : OpenTransactions → List ℕ → Option Transaction → OpenTransactions
 left_at t id None = t
 left_at t id (Some transaction) = with_transaction t id transaction
@@ -54,9 +54,9 @@ after t from (Continue origin destination) = put_back t destination (row_of t fr
 after t from (End destination) = t
 after t from (Abort destination) = t
 
--- ---- the same, by what is open at the destination id
+-- ---- the same, by what is open under the destination id
 
--- Whether a Continue of this originating id is for a transaction with this id of the peer's.
+-- Whether a Continue with this originating id is for a transaction with this remote id.
 abbrev pub takes : Option (List ℕ) → List ℕ → Bool
 takes None origin = true
 takes (Some known) origin = same known origin
@@ -69,7 +69,7 @@ abbrev pub told_close : List ℕ → Option Transaction → Received
 told_close destination None = Nothing
 told_close destination (Some t) = For destination
 
--- The transaction at this id, Active where it was in Initiation Sent.
+-- The transaction with this id, Active if it was in Initiation Sent.
 abbrev pub activated_from : OpenTransactions → (id peer remote : List ℕ) → Option (List ℕ) → OpenTransactions
 activated_from t id peer remote None = with_transaction t id (active peer remote)
 activated_from t id peer remote (Some known) = t
@@ -80,13 +80,13 @@ activated t id peer remote (Some s) = activated_from t id peer remote s.remote
 
 -- ---- the rows, one by one
 
--- What comes is for whom the answer says, and then this is open.
+-- The message is for the transaction that the answer names, and afterwards this is open.
 pub record IsReceived (t : OpenTransactions) (from : List ℕ) (head : Head) (answer : Received) (new : OpenTransactions) : Type 0 where
   pub told : received t from head ≡ answer
   pub left : after t from head ≡ new
 
--- A Continue is for a transaction in Initiation Sent always, and makes it Active; for one that is Active where the peer has
--- the originating id; otherwise for none. An End or an Abort is for the transaction that is open at its destination id.
+-- A Continue is for a transaction in Initiation Sent always, and makes it Active; for an Active one if its remote id is the
+-- originating id; otherwise for none. An End or an Abort is for the open transaction with its destination id.
 pub record AreReceivedRows : Type 0 where
   pub continue_at_sent : (t : OpenTransactions) (peer from origin id : List ℕ) → at t id ≡ Some (initiated peer)
       → IsReceived t from (Continue origin id) (For id) (with_transaction t id (active from origin))

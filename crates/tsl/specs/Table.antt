@@ -10,7 +10,7 @@ use Rattle.tidalloc.specs.LiveIds.{LiveIds, is_live, slot_of}
 use Rattle.tsl.specs.declared.transactions.Entry.{Entry}
 use Rattle.tsl.specs.Transactions.{OpenTransactions, transaction_of}
 
--- The entry to which the key of an id's slot leads.
+-- The entry that the key of an id's slot leads to.
 abbrev pub entry_at : List ℕ → Slab Entry → List ℕ → Option Entry
 entry_at keys slab id = get slab (slice_index keys (slot_of id))
 
@@ -23,7 +23,7 @@ abbrev pub transactions_of : List ℕ → Slab Entry → List (List ℕ) → Lis
 transactions_of keys slab [] = []
 transactions_of keys slab (id ∷ ids) = with_entry id (entry_at keys slab id) (transactions_of keys slab ids)
 
--- What the entries of the live ids stand for.
+-- The transactions of the entries of the live ids.
 abbrev pub open_of : LiveIds → List ℕ → Slab Entry → ℕ → OpenTransactions
 open_of ids keys slab room = record {
   shard = ids.shard;
@@ -33,7 +33,7 @@ open_of ids keys slab room = record {
   room = room;
 }
 
--- The entry stands for an id that is live, and the key of that id's slot leads to it.
+-- The entry has a live id, and the key of that id's slot leads to it.
 pub record IsOwn (ids : LiveIds) (keys : List ℕ) (key : ℕ) (e : Entry) : Type 0 where
   pub live : is_live ids e.id ≡ true
   pub found : slice_index keys (slot_of e.id) ≡ key

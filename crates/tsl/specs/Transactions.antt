@@ -1,5 +1,5 @@
--- The transactions of a shard that are open, as a finite map from local ids, and how they begin, go on and close by the
--- transaction table (Q.774).
+-- The open transactions of a shard, as a finite map from local ids, and how they begin, go on and close by the transaction
+-- table (Q.774).
 use Rattle.std.specs.Prelude.{◌≡◌, ◌≢◌, ℕ, ◌+◌, List, Option, Some, None, is_some, IsSome, refl, if◌then◌else◌}
 use Rattle.std.specs.Coded.{Coded, code_by, coded×, coded_ℕ, coded_list, coded_option}
 use Rattle.std.specs.FinMap as map
@@ -11,11 +11,11 @@ use Rattle.tsl.specs.declared.transaction.Transaction as seen
 
 -- ---- one transaction
 
--- What the code keeps of a transaction, as the machine has it.
+-- A transaction of the code, as the machine has it.
 abbrev pub transaction_of : seen.Transaction → Transaction
 transaction_of t = record { peer = t.peer; remote = t.remote }
 
--- With this peer, whose id is known or not.
+-- With this peer, whose id may be known.
 abbrev pub known_as : List ℕ → Option (List ℕ) → Transaction
 known_as peer remote = record { peer = peer; remote = remote }
 
@@ -29,8 +29,8 @@ active peer remote = record { peer = peer; remote = Some remote }
 
 -- ---- all that are open
 
--- The open transactions of a shard by local id. `freed_last` is the id of the one that closed last, `next` the id of the
--- one that begins next, if there is room for one; `room` says how many can begin without memory.
+-- The open transactions of a shard by local id. `freed_last` is the id of the one that closed last, `next` the id of the one
+-- that begins next, if there is room for one; `room` is how many can begin without allocating.
 pub record OpenTransactions : Type 0 where
   pub shard : ℕ
   pub open_ones : map.FinMap octets_cmp Transaction
@@ -51,7 +51,7 @@ open_transactions_code =
     (λ p. record { shard = p.0; open_ones = p.1.0; freed_last = p.1.1.0; next = p.1.1.1.0; room = p.1.1.1.1 })
     (λ _. refl)
 
--- What is open at these octets: the transaction whose local id they are, if there is one.
+-- The open transaction with these octets as its local id, if there is one.
 abbrev pub at : OpenTransactions → List ℕ → Option Transaction
 at t id = map.get t.open_ones id
 
@@ -59,7 +59,7 @@ at t id = map.get t.open_ones id
 abbrev pub count : OpenTransactions → ℕ
 count t = map.len t.open_ones
 
--- Nothing is open, and nothing ever was.
+-- No transaction is open, and none ever was.
 abbrev pub none_open : ℕ → OpenTransactions
 none_open shard = record {
   shard = shard;
@@ -69,23 +69,23 @@ none_open shard = record {
   room = 0;
 }
 
--- An id of the shard at which nothing is open, and which is not that of the transaction that closed last.
+-- An id of the shard that names no open transaction, and is not that of the transaction that closed last.
 pub record MayBegin (t : OpenTransactions) (id : List ℕ) : Type 0 where
   pub of_shard : IsIdOf t.shard id
   pub not_open : at t id ≡ None
   pub not_freed_last : t.freed_last ≢ Some id
 
--- At the id that was the next, and may begin, this transaction is open now too.
+-- This transaction is now open too, under the id that was next and may begin.
 pub record Begins (old : OpenTransactions) (id : List ℕ) (transaction : Transaction) (new : OpenTransactions) : Type 0 where
   pub was_next : old.next ≡ Some id
   pub may : MayBegin old id
   pub after : new ≡ record old { open_ones = map.insert old.open_ones id transaction; next = new.next; room = new.room }
 
--- The open transaction at this id is this one now.
+-- The open transaction with this id is now this one.
 abbrev pub with_transaction : OpenTransactions → List ℕ → Transaction → OpenTransactions
 with_transaction t id transaction = record t { open_ones = map.insert t.open_ones id transaction }
 
--- What was open at this id is no more. Its slot is the one that is used next, at its next generation.
+-- The transaction with this id is closed. Its slot is used next, at its next generation.
 abbrev pub closed : OpenTransactions → List ℕ → OpenTransactions
 closed t id = record t {
   open_ones = map.remove t.open_ones id;
@@ -108,10 +108,10 @@ IsInitiated (Some t) = t.remote ≡ None
 abbrev pub HaveIdsOfShard : OpenTransactions → Type 0
 HaveIdsOfShard t = (id : List ℕ) → at t id ≢ None → IsIdOf t.shard id
 
--- The slot of the id, where a transaction is open at it.
+-- The slot of the id of an open transaction.
 abbrev pub slot_if_open : OpenTransactions → List ℕ → Option ℕ
 slot_if_open t id = if is_some (at t id) then Some (slot_of id) else None
 
--- No two open transactions have one slot.
+-- No two open transactions share a slot.
 abbrev pub HaveOwnSlots : OpenTransactions → Type 0
 HaveOwnSlots t = (p q : List ℕ) → at t p ≢ None → at t q ≢ None → slot_of p ≡ slot_of q → p ≡ q

@@ -1,14 +1,12 @@
-//! The transaction table of a shard (Q.774): which dialogues are open under which local transaction ids, with whom, and
-//! for which of them a message is.
+//! The transaction table of a shard (Q.774, transaction sublayer): which transactions are open under which local ids, with
+//! which peer, and which of them a received message belongs to.
 //!
-//! A transaction is in Initiation Sent, where an own Begin was sent and the peer's id is not known yet, or Active.
+//! A transaction is in Initiation Sent (an own Begin was sent, the peer's id is not known yet) or Active.
 //!
 //! Limitation: source addresses are not compared (profile).
 #![tactic(auto)]
 
 mod received;
-#[cfg(test)]
-mod tests;
 mod transaction;
 mod transactions;
 

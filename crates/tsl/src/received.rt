@@ -1,11 +1,10 @@
-//! What is received for a transaction, and for which one it is.
+//! Received messages of open transactions (Q.774), and the transaction that each is for.
 
 ghost use Rattle.tsl.specs.Received.{AreReceivedRows};
 
 use hlr_types::{RemoteId, Tid};
 
-/// The transaction ids of a message that is for an open transaction, if it is for any (Q.773). The destination is as it
-/// was received, 1 to 4 octets.
+/// The transaction ids of a received Continue, End or Abort (Q.773). The destination id is as received, 1 to 4 octets.
 #[derive(Clone, Copy, Debug, PartialEq, Eq)]
 pub enum Head {
     Continue {
@@ -20,18 +19,18 @@ pub enum Head {
     },
 }
 
-/// For whom a message is.
+/// The transaction that a message is for (Q.774).
 #[derive(Clone, Copy, Debug, PartialEq, Eq)]
 pub enum Received {
-    /// For the open transaction of this id.
+    /// The open transaction with this id.
     For(Tid),
-    /// A Continue for none. It is answered with an Abort to this id, cause unrecognizedTransactionID.
+    /// A Continue for no open transaction. It is answered with an Abort to this id, P-Abort cause unrecognizedTransactionID.
     NotAssigned(RemoteId),
-    /// An End or an Abort for none. It is discarded.
+    /// An End or an Abort for no open transaction. It is discarded.
     Nothing,
 }
 
-/// Law: for whom a message is, and what is open then, row by row of the transaction table.
+/// Law: which transaction a message is for, and what is open afterwards, row by row of the transaction table.
 #[tactic(auto, using(crate::proofs::RowLemmas::received_rows))]
 pub fn law_received_rows()
     ensures { AreReceivedRows }

@@ -5,7 +5,7 @@ ghost use Rattle.tsl.specs.Received.{takes};
 
 use hlr_types::{Peer, RemoteId};
 
-/// An open transaction: in Initiation Sent where the peer's id is not known, otherwise Active. Frames go to the peer.
+/// An open transaction (Q.774): in Initiation Sent while the peer's id is not known, otherwise Active. Frames go to the peer.
 #[derive(Clone, Copy, Debug, PartialEq, Eq)]
 pub struct Transaction {
     pub peer: Peer,
@@ -13,7 +13,7 @@ pub struct Transaction {
 }
 
 impl Transaction {
-    /// Whether a Continue of this originating id is for it: in Initiation Sent always, in Active where the peer has that id.
+    /// Whether a Continue with this originating id is for it: in Initiation Sent always, in Active if it is the peer's id.
     pub(crate) fn takes(&self, origin: RemoteId) -> bool
         ensures { result ≡ takes self.now.remote origin }
     {

@@ -1,4 +1,4 @@
-//! The open transactions of a shard.
+//! The open transactions of a shard (Q.774, transaction sublayer).
 
 ghost use Rattle.std.specs.Prelude.{◌≡◌, ◌≢◌, ◌+◌, ◌<◌, ◌≤◌, ◌↔◌, List, ℕ, IsTrue, Some, None, Err, IsOk, IfOk, IfSome, OnOk, OnErr, IsNone, option_map};
 ghost use Rattle.std.specs.FinMap as map;
@@ -20,7 +20,7 @@ pub enum TslFault {
     /// 4,096 transactions are open.
     #[error("4,096 transactions are open")]
     NoRoom,
-    /// A growth was refused.
+    /// Out of memory.
     #[error("out of memory")]
     Memory,
 }
@@ -57,14 +57,14 @@ struct Entry {
     transaction: Transaction,
 }
 
-/// The open transactions of a shard, at most 4,096. The id under which the next begins is known before.
+/// The open transactions of a shard, at most 4,096. The id of the next one is known before it begins.
 #[derive(Drop)]
 pub struct Transactions {
     ids: Ids,
-    /// The key of the entry by the slot of its id.
+    /// The key of each entry, indexed by the slot of its id.
     keys: Vec<usize>,
     entries: Slab<Entry>,
-    /// How many can begin without memory.
+    /// How many can begin without allocating.
     room: usize,
 }
 
@@ -87,7 +87,7 @@ impl Transactions {
     ghost use Rattle.tsl.specs.Transactions.{MayBegin, Begins, IsActive, IsInitiated, HaveIdsOfShard, transaction_of, known_as, initiated, active, at, count, none_open, with_transaction, closed, slot_if_open, HaveOwnSlots};
     ghost use Rattle.tsl.specs.Received.{received, after, told_continue, told_close, activated};
 
-    /// The most transactions that are open at once.
+    /// How many transactions can be open at once.
     pub const ROOM: usize = Ids::ROOM;
 
     /// No transaction is open.
@@ -103,8 +103,8 @@ impl Transactions {
         })
     }
 
-    /// Opens a transaction for an own Begin, in Initiation Sent. `NoRoom` where 4,096 are open, `Memory` where a growth was
-    /// refused; then nothing has changed.
+    /// Opens a transaction for an own Begin (TR-BEGIN), in Initiation Sent. `NoRoom` if 4,096 are open, `Memory` if an
+    /// allocation fails; on error nothing changes.
     pub fn begin(&mut self, to: Peer) -> Result<Tid, TslFault>
         ensures begun { IfOk result (λ id. Begins self.old id (initiated to) self.new) }
         ensures table { IfOk result (λ id. transact (at self.old id) (OwnBegin to) ≡ row (at self.new id) IsSent) }
@@ -117,7 +117,7 @@ impl Transactions {
         Ok(self.begin_reserved(to))
     }
 
-    /// Opens an Active transaction for a Begin that is answered by a Continue. Refused as `begin` is.
+    /// Opens an Active transaction for a received Begin that is answered with a Continue (TR-CONTINUE). Fails as `begin` does.
     pub fn continue_(&mut self, from: Peer, origin: RemoteId) -> Result<Tid, TslFault>
         ensures begun { IfOk result (λ id. Begins self.old id (active from origin) self.new) }
         ensures table { IfOk result (λ id. transact (at self.old id) (Answered from origin) ≡ row (at self.new id) IsSent) }
@@ -130,7 +130,7 @@ impl Transactions {
         Ok(self.continue_reserved(from, origin))
     }
 
-    /// Makes room to open a transaction without memory, unless there is room already. Refused as `begin` is.
+    /// Reserves memory, so that the next transaction can be opened without allocating. Fails as `begin` does.
     pub fn reserve(&mut self) -> Result<(), TslFault>
         ensures ok { OnOk result (self.new ≡ record self.old { room = self.new.room }) }
         ensures room { OnOk result (0 < self.new.room) }
@@ -147,7 +147,7 @@ impl Transactions {
         Ok(())
     }
 
-    /// The same as `begin`, where `reserve` or a close made room. Takes no memory.
+    /// Like `begin`, after `reserve` or a close made room. Does not allocate.
     pub fn begin_reserved(&mut self, to: Peer) -> Tid
         requires { 0 < self.old.room }
         ensures begun { Begins self.old result (initiated to) self.new }
@@ -157,7 +157,7 @@ impl Transactions {
         self.open(to, None)
     }
 
-    /// The same as `continue_`, where `reserve` or a close made room. Takes no memory.
+    /// Like `continue_`, after `reserve` or a close made room. Does not allocate.
     pub fn continue_reserved(&mut self, from: Peer, origin: RemoteId) -> Tid
         requires { 0 < self.old.room }
         ensures begun { Begins self.old result (active from origin) self.new }
@@ -182,7 +182,7 @@ impl Transactions {
         id
     }
 
-    /// The id under which the next transaction begins. There is none exactly where 4,096 are open.
+    /// The id under which the next transaction begins. `None` exactly if 4,096 are open.
     pub fn next_id(&self) -> Option<Tid>
         ensures value { result ≡ self.now.next }
         ensures may { IfSome result (MayBegin self.now) }
@@ -200,9 +200,9 @@ impl Transactions {
         self.ids.next_after(id)
     }
 
-    /// For whom a message is, wherever it comes from: a Continue for the open transaction of its destination id, where that
-    /// is in Initiation Sent or the peer has the Continue's originating id there; an End or an Abort for the open
-    /// transaction of its destination id. Ids are compared as octets.
+    /// Which transaction a message is for, from whatever source. A Continue is for the open transaction with its destination id,
+    /// if that is in Initiation Sent or its remote id is the Continue's originating id. An End or an Abort is for the open
+    /// transaction with its destination id. Ids are compared as octets.
     pub fn look(&self, head: &Head) -> Received
         ensures { (from : List ℕ) → result ≡ received self.now from head.now }
     {
@@ -238,8 +238,8 @@ impl Transactions {
         }
     }
 
-    /// The same as `look`, and done: a Continue makes a transaction in Initiation Sent an Active one, with the source as its
-    /// peer and the originating id. A transaction that is closed by an End or an Abort stays open until `abort`.
+    /// Like `look`, and also updates the table: a Continue turns Initiation Sent into Active, with the source as peer and the
+    /// originating id as remote id. A transaction that an End or an Abort closes stays open until `abort`.
     pub fn receive(&mut self, from: Peer, head: &Head) -> Received
         ensures answer { result ≡ received self.old from head.now }
         ensures after { self.new ≡ after self.old from head.now }
@@ -271,7 +271,7 @@ impl Transactions {
         Received::For(id)
     }
 
-    /// The transaction at this id, if one is open. Where it is Active, an own Continue goes to its peer.
+    /// The transaction with this id, if one is open. If it is Active, an own Continue goes to its peer.
     pub fn get(&self, id: Tid) -> Option<Transaction>
         ensures value { option_map transaction_of result ≡ at self.now id }
         ensures table { IsActive (at self.now id) → transact (at self.now id) OwnContinue ≡ row (at self.now id) IsSent }
@@ -290,7 +290,7 @@ impl Transactions {
         Some(self.entries[self.keys[slot]])
     }
 
-    /// The entry of the open transaction whose local id these octets are.
+    /// The entry of the open transaction with this local id.
     fn find(&self, destination: RemoteId) -> Option<Entry>
         ensures value { option_map (λ e. transaction_of e.transaction) result ≡ at self.now destination }
         ensures id { IfSome result (λ e. e.id ≡ destination) }
@@ -302,7 +302,7 @@ impl Transactions {
         self.entry(id)
     }
 
-    /// An open transaction becomes Active, with this peer and the peer's id.
+    /// An open transaction becomes Active, with this peer and this remote id.
     pub fn set(&mut self, id: Tid, peer: Peer, remote: RemoteId)
         requires { at self.old id ≢ None }
         ensures { self.new ≡ with_transaction self.old id (active peer remote) }
@@ -315,7 +315,7 @@ impl Transactions {
         self.entries[self.keys[slot]] = Entry { id, transaction };
     }
 
-    /// Closes an Active transaction by an own End, and gives the peer to which that goes and the peer's id.
+    /// Closes an Active transaction by an own End (TR-END), and returns the peer that the End goes to and the remote id.
     pub fn end(&mut self, id: Tid) -> (Peer, RemoteId)
         requires { IsActive (at self.old id) }
         ensures to { at self.old id ≡ Some (active result.0 result.1) }
@@ -326,8 +326,7 @@ impl Transactions {
         (transaction.peer, transaction.remote.unwrap())
     }
 
-    /// Closes a transaction without a frame: where an End or an Abort came for it, and where it is given up in Initiation
-    /// Sent.
+    /// Closes a transaction without sending a frame: after a received End or Abort, or when it is abandoned in Initiation Sent.
     pub fn abort(&mut self, id: Tid)
         requires { at self.old id ≢ None }
         ensures closed { self.new ≡ closed self.old id }
@@ -349,7 +348,7 @@ impl Transactions {
         entry.transaction
     }
 
-    /// The ids of the open transactions, in their order.
+    /// The ids of the open transactions, in ascending order.
     pub fn list(&self) -> Result<Vec<Tid>, AllocError>
         ensures { IfOk result (λ ids. ids.items ≡ map.keys self.now.open_ones) }
     {
@@ -358,7 +357,7 @@ impl Transactions {
         Ok(ids)
     }
 
-    /// The slot of an open transaction, below `ROOM`. No two have one slot.
+    /// The slot of an open transaction, below `ROOM`. No two share a slot.
     pub fn slot(&self, id: Tid) -> Option<usize>
         ensures slot { result ≡ slot_if_open self.now id }
         ensures small { IfSome result (λ slot. slot < 4096) }
@@ -390,7 +389,7 @@ impl Transactions {
         self.len() == Self::ROOM
     }
 
-    /// An equal value, with room of its own.
+    /// An equal copy.
     pub fn try_copy(&self) -> Result<Self, AllocError>
         ensures { IfOk result (λ t. t ≡ self.now) }
     {

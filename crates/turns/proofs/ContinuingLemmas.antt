@@ -89,7 +89,7 @@ module _ (s : ShardState) (o : Opened) (after : Transaction) (origin : List ℕ)
       forgets GoesOn h = tt
       forgets (Forgets invoke) h = h
 
--- A Continue that is for an open dialogue turns to what is planned for the transaction after it.
+-- The turn of a Continue for an open dialogue is what is planned for the transaction after it.
 pub continue_planned : (s : ShardState) (from origin destination : List ℕ) (o : Opened) (cs : List (Component Parameter)) (plan : Plan)
     → IsForIt s.dialogues (Continue origin destination) o
     → ((t : machine.Transaction) → for_it (transact (Some (transaction_of o.dialogue.transaction)) (ContinueComes from origin)) ≡ Some t

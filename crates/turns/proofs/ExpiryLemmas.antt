@@ -36,7 +36,7 @@ has_dialogues s own = record {
   clock = ap (λ b. cond b s.clock 0) (eq-eqb s.dialogues.shard s.shard own);
 }
 
--- An expiry as it was told is one of the shard.
+-- The expiry returned is one of the shard.
 pub expiry_here : (s : ShardState) (told_in : OpenDialogues) (now : ℕ) (due : Option Due) → told_in ≡ s.dialogues → now ≡ s.clock
     → s.dialogues.shard ≡ s.shard
     → ((S : State) → HasDialogues S told_in now → Expiry S told_in.shard (expiry_turn told_in due))
@@ -52,7 +52,7 @@ expiry_here s told_in now due same clock own told =
 pub nothing_expires : (s : ShardState) → Expiry (state_of s) s.shard (Dismissed []) → IsExpiry s None
 nothing_expires s none = record { turn = Dismissed []; expiry = none; planned = refl }
 
--- The register of the current update, by what is open at its id.
+-- The register of the current update, by the dialogue that is open under its id.
 pub current_is : (s : ShardState) (imsi current : List ℕ) (told_in : OpenDialogues) (d : Option Dialogue) (r : Option Register)
     → told_in ≡ s.dialogues
     → option_map (dialogue_with (invocations_in (dialogues_of told_in current))) d ≡ dialogues_of told_in current

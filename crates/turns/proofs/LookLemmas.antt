@@ -1,4 +1,4 @@
--- For which open dialogue a received message is.
+-- Which open dialogue a received message is for.
 use Rattle.std.proofs.Common.{◌≡◌, ◌≢◌, ℕ, List, [], Option, Some, None, refl, sym, ap, ◌∙◌}
 use Rattle.machine.specs.Numbers.{unrecognized_transaction_id}
 use Rattle.machine.specs.Outcome.{send}
@@ -16,7 +16,7 @@ use Rattle.dialogues.specs.Looking.{looked, told_of}
 use Rattle.turns.specs.declared.opened.Opened.{Opened}
 use Rattle.turns.specs.OpenOnes.{IsFor, IsOpenAt}
 
--- It is for the one at its destination id, where one is open.
+-- It is for the one with its destination id, if one is open.
 pub for_destination : (from id : List ℕ) (head : Head) (o : Option Dialogue) → looked from head o ≡ For id → id ≡ destination_of head
 for_destination from id (Continue origin destination) None e = absurd cc
 for_destination from id (Continue origin destination) (Some d) e = told (for_it (transact (Some d.transaction) (ContinueComes from origin))) e
@@ -34,7 +34,7 @@ for_none from id (Continue origin destination) e = absurd cc
 for_none from id (End destination) e = absurd cc
 for_none from id (Abort destination) e = absurd cc
 
--- What is open at the id that was told is what the message is for.
+-- The dialogue that is open under the id returned is the one that the message is for.
 pub found_for : (told_in d : OpenDialogues) (head : Head) (id : List ℕ) (found : Option Opened) → told_in ≡ d
     → ((from : List ℕ) → For id ≡ looked from head (dialogues_of told_in (destination_of head))) → IsOpenAt d id found → IsFor d head found
 found_for told_in d head id found same told open_at =

@@ -38,7 +38,7 @@ pub record_seen : (s : ShardState) (c : Option (List ℕ)) (found : Option (Bor 
     → (seen (state_of s) s.shard c).record_of ≡ known found
 record_seen s c found is = record_there s c ∙ ap (option_map machine_subscriber) (sym is) ∙ known_as found
 
--- no codes may be had
+-- no codes are allowed
 pub none_allowed : AreAllowed []
 unfolding IsDistinct
 none_allowed = record { most = omega arith; different = tt }

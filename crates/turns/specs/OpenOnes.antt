@@ -1,4 +1,4 @@
--- The open dialogue that an event is for, and what is planned for it.
+-- The open dialogue that an event is for (Q.774), and its plan.
 use Rattle.std.specs.Prelude.{◌≡◌, ◌≢◌, ℕ, List, [], Option, Some, None}
 use Rattle.machine.specs.State as machine
 use Rattle.tidalloc.specs.LiveIds.{next_use}
@@ -21,13 +21,13 @@ seen_as d o = dialogue_with (invocations_in (dialogues_of d o.id)) o.dialogue
 abbrev pub with_transaction : OpenDialogues → Opened → machine.Transaction → machine.Dialogue
 with_transaction d o t = record (seen_as d o) { transaction = t }
 
--- It is open at its id, and a dialogue that opens as it closes takes the new id.
+-- It is open under its id, and `new` is the id for a dialogue that opens as it closes.
 pub record IsOpened (d : OpenDialogues) (o : Opened) : Type 0 where
   pub is_open : dialogues_of d o.id ≡ Some (seen_as d o)
   pub next : o.new ≡ next_use o.id
   pub is_new : IsNew d o.new
 
--- What is open at an id, if anything is.
+-- The open dialogue with this id, if there is one.
 abbrev pub IsOpenAt : OpenDialogues → (id : List ℕ) → Option Opened → Type 0
 IsOpenAt d id None = dialogues_of d id ≡ None
 IsOpenAt d id (Some o) = (o.id ≡ id) × IsOpened d o
@@ -38,12 +38,12 @@ pub record IsForIt (d : OpenDialogues) (head : Head) (o : Opened) : Type 0 where
   pub opened : IsOpened d o
   pub told : (from : List ℕ) → looked from head (dialogues_of d (destination_of head)) ≡ For (destination_of head)
 
--- The same, or it is for none.
+-- The same, or the message is for none.
 abbrev pub IsFor : OpenDialogues → Head → Option Opened → Type 0
 IsFor d head None = (from : List ℕ) → looked from head (dialogues_of d (destination_of head)) ≢ For (destination_of head)
 IsFor d head (Some o) = IsForIt d head o
 
--- A plan for an open dialogue of this subscriber. It names no codes.
+-- A plan for an open dialogue of this subscriber, without codes.
 pub record IsPlanFor (subscriber : List ℕ) (named : Named) (new : List ℕ) (left : Outcome) (plan : Plan) : Type 0 where
   pub imsi_is : plan.imsi ≡ Some subscriber
   pub subject_is : plan.subject ≡ Some subscriber

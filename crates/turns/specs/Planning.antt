@@ -1,4 +1,4 @@
--- What is planned for an event, as a step of the machine has it.
+-- The plan of an event, as the machine's turn.
 use Rattle.std.specs.Prelude.{◌≡◌, ℕ, List, [], Option, Some, None}
 use Rattle.machine.specs.Sent.{Out}
 use Rattle.machine.specs.Turns.{Turn, Dismissed, Expiry, concern, named}
@@ -9,8 +9,8 @@ use Rattle.shard_state.specs.declared.plan.Plan.{Plan}
 use Rattle.shard_state.specs.Plans.{CanSettle, id_of, left}
 use Rattle.shard_state.specs.Shards.{ShardState, state_of, directory_of}
 
--- The plan is what the turn does: it concerns this subscriber, it is for this open dialogue, and its procedure leaves this,
--- where a dialogue that opens takes the plan's id. `components` are those of a Continue.
+-- The plan is what the turn does: the same subscriber, the same open dialogue, and the same outcome, with the plan's id for a
+-- dialogue that opens. `components` are those of a Continue.
 pub record IsPlan (s : ShardState) (turn : Turn) (components : List (Component Parameter)) (plan : Plan) : Type 0 where
   pub can : CanSettle s plan
   pub concern_is : concern (directory_of s.directory) turn ≡ plan.imsi
@@ -18,12 +18,12 @@ pub record IsPlan (s : ShardState) (turn : Turn) (components : List (Component P
   pub leaves : outcome_in (state_of s) s.shard turn plan.new ≡ left s components plan
   pub subject_is : plan.subject ≡ subject_of (state_of s) turn
 
--- The same, or there is no open dialogue that it could be for, and this is sent.
+-- The same, or the event is for no open dialogue, and this is sent.
 abbrev pub IsPlanOr : (s : ShardState) → (turn : Turn) → (components : List (Component Parameter)) → (sent : List Out) → Option Plan → Type 0
 IsPlanOr s turn components sent None = turn ≡ Dismissed sent
 IsPlanOr s turn components sent (Some plan) = IsPlan s turn components plan
 
--- What is planned for an expiry of a shard, if anything is due.
+-- The plan of an expiry of a shard, if anything is due.
 pub record IsExpiry (s : ShardState) (plan : Option Plan) : Type 0 where
   pub turn : Turn
   pub expiry : Expiry (state_of s) s.shard turn

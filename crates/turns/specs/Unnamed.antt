@@ -11,7 +11,7 @@ use Rattle.shard_state.specs.declared.plan.Named.TheVariants.{Nothing}
 abbrev pub known_imsi : Option (Bor Subscriber) → Option (List ℕ)
 known_imsi found = option_map (λ f. f.now.imsi) found
 
--- It concerns this subscriber, whose record was found or not.
+-- The plan for this subscriber, with or without a record.
 abbrev pub unnamed_plan : (imsi : Option (List ℕ)) → (found : Option (Bor Subscriber)) → (new : List ℕ) → Vec ℕ → Outcome → Plan
 unnamed_plan imsi found new codes left = record {
   imsi = imsi;

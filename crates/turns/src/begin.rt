@@ -1,4 +1,4 @@
-//! A received Begin.
+//! A received Begin (Q.774).
 
 ghost use Rattle.std.specs.Prelude.{◌≡◌, [], List, ℕ, Option, IfOk, map};
 ghost use Rattle.machine.specs.Received as machine;
@@ -19,7 +19,7 @@ use q773_comp::Component;
 use shard_state::{Plan, Shard};
 use std::alloc::{AllocError, Global};
 
-/// What a received Begin comes to.
+/// The plan of a received Begin.
 pub fn begins(
     alloc: Global,
     shard: &Shard,

@@ -13,7 +13,7 @@ use hlr_types::Imsi;
 use shard_state::{Plan, Shard};
 use std::alloc::{AllocError, Global};
 
-/// What new codes of a subscriber come to.
+/// The plan of an operator's new codes for a subscriber.
 pub fn new_codes(alloc: Global, shard: &Shard, imsi: Imsi, codes: &[u8]) -> Result<Plan, AllocError>
     requires { AreAllowed codes.now }
     ensures { IfOk result (λ plan. IsPlan shard.now (Changes imsi (events.Codes codes.now)) [] plan) }
@@ -25,7 +25,7 @@ pub fn new_codes(alloc: Global, shard: &Shard, imsi: Imsi, codes: &[u8]) -> Resu
     Ok(unnamed(Some(imsi), subscriber, new, kept, left))
 }
 
-/// What the end of a subscription comes to.
+/// The plan of an operator's withdrawal of a subscriber.
 pub fn withdraws(alloc: Global, shard: &Shard, imsi: Imsi) -> Plan
     ensures { IsPlan shard.now (Changes imsi events.Withdraw) [] result }
 {

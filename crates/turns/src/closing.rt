@@ -1,4 +1,4 @@
-//! A received End or Abort.
+//! A received End or Abort (Q.774).
 
 ghost use Rattle.std.specs.Prelude.{[]};
 ghost use Rattle.machine.specs.Turns.{close_at};
@@ -11,7 +11,7 @@ use shard_state::{Named, Plan, Shard};
 use std::alloc::Global;
 use tsl::Head;
 
-/// What a received End or Abort comes to: nothing is planned where it is for no open dialogue, and then it is discarded.
+/// The plan of a received End or Abort. `None` if it is for no open dialogue; it is then discarded.
 pub fn closes(alloc: Global, shard: &Shard, destination: RemoteId) -> Option<Plan>
     ensures { IsPlanOr shard.now (close_at destination (dialogues_of shard.now.dialogues destination)) [] [] result }
 {

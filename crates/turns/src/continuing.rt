@@ -1,4 +1,4 @@
-//! A received Continue.
+//! A received Continue (Q.774).
 
 ghost use Rattle.std.specs.Prelude.{◌≡◌, IfOk, Some, map};
 ghost use Rattle.machine.specs.Numbers.{unrecognized_transaction_id};
@@ -24,8 +24,8 @@ use shard_state::{Named, Plan, Shard};
 use std::alloc::{AllocError, Global};
 use tsl::{Head, Transaction};
 
-/// The transaction after a Continue that is for it (Q.774): in Initiation Sent it becomes Active, and its peer is where the
-/// Continue came from; in Active it stays.
+/// The transaction after a Continue that it accepts (Q.774): Initiation Sent becomes Active, with the Continue's source as peer;
+/// Active stays the same.
 fn heard_from(transaction: Transaction, from: Peer, origin: RemoteId) -> Transaction
     ensures row { (t : machine.Transaction)
         → for_it (transact (Some (transaction_of transaction)) (ContinueComes from origin)) ≡ Some t → transaction_of result ≡ t }
@@ -41,7 +41,7 @@ fn heard_from(transaction: Transaction, from: Peer, origin: RemoteId) -> Transac
     }
 }
 
-/// What a Continue that is for an open dialogue comes to.
+/// The plan of a Continue for an open dialogue.
 fn continued(
     alloc: Global,
     shard: &Shard,
@@ -76,8 +76,8 @@ fn continued(
     Ok(plan_for(alloc, &dialogue, named, new, left))
 }
 
-/// What a received Continue comes to: nothing is planned where it is for no open dialogue, and then it is answered with an Abort,
-/// cause unrecognizedTransactionID.
+/// The plan of a received Continue. `None` if it is for no open dialogue; it is then answered with an Abort, P-Abort cause
+/// unrecognizedTransactionID.
 pub fn continues(
     alloc: Global,
     shard: &Shard,

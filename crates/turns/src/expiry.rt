@@ -1,4 +1,4 @@
-//! An expiry of a shard's least timer that is due.
+//! The expiry of a shard's least timer that is due (Q.774).
 
 ghost use Rattle.std.specs.Prelude.{◌≡◌, IfSome, option_map};
 ghost use Rattle.machine.specs.State.{local_of};
@@ -23,7 +23,7 @@ fn current_register(shard: &Shard, imsi: &Imsi, subscriber: Option<&Record>) -> 
     register_of(*imsi, shard.dialogues().get(current))
 }
 
-/// What an expiry comes to: nothing is planned where nothing is due.
+/// The plan of an expiry. `None` if nothing is due.
 pub fn expires(alloc: Global, shard: &Shard) -> Option<Plan>
     ensures { IsExpiry shard.now result }
 {

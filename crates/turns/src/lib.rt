@@ -1,7 +1,7 @@
-//! What an event comes to in a shard, before anything is done: a plan, by the procedure that the event turns to (3GPP TS 29.002,
-//! ITU-T Q.774).
+//! What an event results in, before anything is done: a plan, made by the procedure that the event leads to (3GPP TS 29.002,
+//! TS 23.012; ITU-T Q.774).
 //!
-//! Nothing changes here. A plan is done by `shard_state::Shard::settle`.
+//! Nothing changes here. `shard_state::Shard::settle` carries out a plan.
 #![tactic(auto)]
 
 mod begin;

@@ -1,4 +1,4 @@
-//! The subscriber that a Begin asks about.
+//! The subscriber that a Begin is about.
 
 ghost use Rattle.std.specs.Prelude.{◌≡◌, map};
 ghost use Rattle.machine.specs.Routing.{asked};
@@ -12,8 +12,8 @@ use msgarena::{Argument, Parameter};
 use q773_comp::Component;
 use records::Directory;
 
-/// The subscriber that a Begin asks about, by its first component alone. An SM route is asked for by MSISDN (TS 29.002,
-/// sendRoutingInfoForSM).
+/// The subscriber that a Begin is about, by its first component only. sendRoutingInfoForSM names the subscriber by MSISDN
+/// (TS 29.002, 12.1).
 pub fn asked(directory: &Directory, components: &[Component<Parameter>]) -> Option<Imsi>
     ensures { result ≡ asked (directory_of directory.now) (map (component parameter) components.now) }
 {

@@ -1,4 +1,4 @@
-//! The open dialogue that an event is for, and what is planned for it.
+//! The open dialogue that an event is for, and its plan.
 
 ghost use Rattle.tsl.specs.Received.{destination_of};
 ghost use Rattle.turns.specs.OpenOnes.{IsFor, IsOpenAt, IsPlanFor};
@@ -10,7 +10,7 @@ use shard_state::{Named, Plan, Shard};
 use std::alloc::Global;
 use tsl::{Head, Received};
 
-/// An open dialogue, with its id, and the id that a dialogue takes which opens as this one closes.
+/// An open dialogue, its id, and the id for a dialogue that opens as this one closes.
 #[derive(Clone, Copy)]
 pub(crate) struct Opened {
     pub(crate) id: Tid,
@@ -18,7 +18,7 @@ pub(crate) struct Opened {
     pub(crate) new: Tid,
 }
 
-/// The dialogue that is open at an id, if one is.
+/// The open dialogue with this id, if there is one.
 pub(crate) fn opened_at(shard: &Shard, id: Tid) -> Option<Opened>
     ensures { IsOpenAt shard.now.dialogues id result }
 {
@@ -31,7 +31,7 @@ pub(crate) fn opened_at(shard: &Shard, id: Tid) -> Option<Opened>
     })
 }
 
-/// The open dialogue that a Continue, an End or an Abort is for, if it is for one (Q.774).
+/// The open dialogue that a Continue, an End or an Abort is for, if any (Q.774).
 pub(crate) fn opened_for(shard: &Shard, head: &Head) -> Option<Opened>
     ensures { IsFor shard.now.dialogues head.now result }
 {
@@ -41,7 +41,7 @@ pub(crate) fn opened_for(shard: &Shard, head: &Head) -> Option<Opened>
     }
 }
 
-/// A plan for an open dialogue: it is about the dialogue's subscriber.
+/// A plan for an open dialogue and its subscriber.
 pub(crate) fn plan_for(
     alloc: Global,
     dialogue: &Dialogue,

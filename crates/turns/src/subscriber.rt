@@ -1,4 +1,4 @@
-//! The record of the subscriber whom an event concerns.
+//! The record of an event's subscriber.
 
 ghost use Rattle.std.specs.Prelude.{◌≡◌, IfSome, Some, option_copied};
 ghost use Rattle.shard_state.specs.Shards.{record_at};

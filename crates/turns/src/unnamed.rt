@@ -18,7 +18,7 @@ fn known(subscriber: Option<&Record>) -> Option<Imsi>
     }
 }
 
-/// The plan of an event that names no open dialogue. Its subject is the subscriber, where there is a record.
+/// The plan of an event that names no open dialogue. Its subject is the subscriber, if there is a record.
 pub(crate) fn unnamed(
     imsi: Option<Imsi>,
     subscriber: Option<&Record>,
