@@ -1,4 +1,4 @@
-//! What the tests are given. A failure is a text here, since a `Fail` may not be let go where a growth is refused on purpose.
+//! Inputs of the tests. A failure is a text here, since a `Fail` must not be dropped when an allocation fails on purpose.
 
 use hlr_types::{Digits, Imsi, Peer, Tid};
 use records::read_records;
@@ -20,7 +20,7 @@ pub(crate) fn peer(text: &[u8]) -> Result<Peer, &'static str> {
     Ok(Peer::new(digits(text)?))
 }
 
-/// Shard 1 as it begins with this records file: no dialogue is open.
+/// Shard 1 as it begins with this records file, without open dialogues.
 pub(crate) fn shard(alloc: Global, records: &[u8]) -> Result<Shard, &'static str> {
     let loaded = read_records(alloc, records).ok().ok_or("records")?;
     let part = loaded.part(1).ok().ok_or("part")?;
@@ -29,7 +29,7 @@ pub(crate) fn shard(alloc: Global, records: &[u8]) -> Result<Shard, &'static str
     shard.ok_or("shard")
 }
 
-/// The octets of the frame at a place, none where there is no such frame.
+/// The octets of the frame at an index, none if there is no such frame.
 pub(crate) fn octets_at(outs: &[Out], place: usize) -> &[u8] {
     match outs.get(place) {
         Some(out) => &out.octets,

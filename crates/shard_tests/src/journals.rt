@@ -1,4 +1,4 @@
-//! Journals of a shard, and what is answered where one is full.
+//! Journals of a shard, and the answer when one is full.
 
 use crate::given::{octets_at, peer};
 use crate::octets::{RECORDS, ROUTE, ROUTE_ANSWER};
@@ -7,7 +7,29 @@ use hlrcore::{Event, RawEvent, ShardNumber, State};
 use records::read_records;
 use shardlog::{Entry, MOST_ENTRIES, Shard, ShardFault};
 use std::alloc::Global;
+use std::process::Abort;
 use std::test::Fail;
+
+/// An event: a sendRoutingInfoForSM for a subscriber of shard 1, or the clock value 5 of a shard.
+#[derive(Clone, Copy)]
+enum Given {
+    Route,
+    Clock(u8),
+}
+
+/// A call, and its expected answer.
+enum Step {
+    /// The position of the entry, and the octets of the first frame, if one is sent.
+    Handles(Given, usize, &'static [u8]),
+    Refuses(Given, ShardFault),
+    /// Handles clock values until the journal is full.
+    Fills,
+    /// The number of entries of the journal that is cut off.
+    Cuts(usize),
+    CountIs(usize),
+    /// The last entry is that of a route, with the frame sent.
+    LastIsRoute,
+}
 
 /// Shard 1 with an empty journal.
 fn shard(alloc: Global) -> Result<Shard, Fail> {
@@ -16,77 +38,116 @@ fn shard(alloc: Global) -> Result<Shard, Fail> {
     Ok(Shard::new(alloc, state).ok().ok_or("shard")?)
 }
 
-/// A sendRoutingInfoForSM for a subscriber of shard 1.
-fn route(alloc: Global) -> Result<Event, Fail> {
-    let raw = RawEvent::Frame {
-        from: peer(b"447700909999")?,
-        octets: ROUTE.to_vec(alloc)?,
-    };
-    let mut bump = Bump::new(alloc);
-    Ok(Event::of(alloc, &mut bump, &raw)?)
+fn raw_event(alloc: Global, given: Given) -> Option<RawEvent> {
+    match given {
+        Given::Route => Some(RawEvent::Frame {
+            from: peer(b"447700909999").ok()?,
+            octets: ROUTE.to_vec(alloc).ok()?,
+        }),
+        Given::Clock(shard) => Some(RawEvent::Clock {
+            shard: ShardNumber::new(shard)?,
+            now: 5,
+        }),
+    }
 }
 
-fn clock(shard: u8, now: u64) -> Result<Event, Fail> {
-    let shard = ShardNumber::new(shard).ok_or("shard number")?;
-    Ok(Event::Clock { shard, now })
+fn event(alloc: Global, given: Given) -> Option<Event> {
+    let raw = raw_event(alloc, given)?;
+    Event::of(alloc, &mut Bump::new(alloc), &raw).ok()
 }
+
+fn handles(
+    alloc: Global,
+    shard: &mut Shard,
+    given: Given,
+    place: usize,
+    said: &[u8],
+) -> Option<bool> {
+    let handled = shard.handle(&event(alloc, given)?).ok()?;
+    Some(handled.position == place && octets_at(&handled.outs, 0) == said)
+}
+
+fn refuses(alloc: Global, shard: &mut Shard, given: Given) -> Option<ShardFault> {
+    shard.handle(&event(alloc, given)?).err()
+}
+
+fn fills(alloc: Global, shard: &mut Shard) -> Option<bool> {
+    let tick = event(alloc, Given::Clock(1))?;
+    for _ in 0..MOST_ENTRIES {
+        if shard.handle(&tick).is_err() {
+            return None;
+        }
+    }
+    Some(true)
+}
+
+/// Whether the entry is that of an answered route.
+fn is_route(entry: &Entry) -> bool {
+    let said = octets_at(&entry.outs, 0);
+    said == ROUTE_ANSWER.as_slice() && entry.subject.is_some() && entry.id.is_none()
+}
+
+/// Whether a call answers as expected.
+fn is_so(alloc: Global, shard: &mut Shard, step: &Step) -> Option<bool> {
+    match step {
+        Step::Handles(given, place, said) => handles(alloc, shard, *given, *place, said),
+        Step::Refuses(given, fault) => Some(refuses(alloc, shard, *given)? == *fault),
+        Step::Fills => fills(alloc, shard),
+        Step::Cuts(count) => Some(shard.cut().ok()?.entries.len() == *count),
+        Step::CountIs(count) => Some(shard.entries().len() == *count),
+        Step::LastIsRoute => Some(is_route(shard.entries().last()?)),
+    }
+}
+
+fn play(rt: &impl Abort, alloc: Global, steps: &[Step]) -> Result<(), Fail> {
+    let mut shard = shard(alloc)?;
+    for (place, step) in steps.iter().enumerate() {
+        assert!(rt;
+            is_so(alloc, &mut shard, step) == Some(true),
+            "step {place}"
+        );
+    }
+    Ok(())
+}
+
+const OF_TWO_EVENTS: [Step; 7] = [
+    // An event of another shard leaves no entry.
+    Step::Refuses(Given::Clock(2), ShardFault::NotMine),
+    Step::CountIs(0),
+    Step::Handles(Given::Clock(1), 0, &[]),
+    Step::CountIs(1),
+    Step::Handles(Given::Route, 1, &ROUTE_ANSWER),
+    Step::CountIs(2),
+    Step::LastIsRoute,
+];
 
 #[test]
 fn an_event_is_journalled(rt: HostRuntime) -> Result<(), Fail> {
-    let mut shard = shard(rt.alloc())?;
-    shard.handle(&clock(1, 5)?)?;
-    let handled = shard.handle(&route(rt.alloc())?)?;
-    assert_eq!(rt; handled.position, 1);
-    assert_eq!(rt; octets_at(&handled.outs, 0), ROUTE_ANSWER.as_slice());
-    assert_eq!(rt; shard.entries().len(), 2);
-    Ok(())
+    play(&rt, rt.alloc(), &OF_TWO_EVENTS)
 }
 
-/// Whether the entry is of a route that was answered so.
-fn is_route(entry: &Entry, said: &[u8]) -> bool {
-    octets_at(&entry.outs, 0) == said && entry.subject.is_some() && entry.id.is_none()
-}
+const OF_ONE_ROUTE: [Step; 3] = [
+    Step::Handles(Given::Route, 0, &ROUTE_ANSWER),
+    Step::CountIs(1),
+    Step::LastIsRoute,
+];
 
 #[test]
 fn an_entry_has_what_was_sent(rt: HostRuntime) -> Result<(), Fail> {
-    let mut shard = shard(rt.alloc())?;
-    shard.handle(&route(rt.alloc())?)?;
-    assert_eq!(rt; shard.entries().len(), 1);
-    for entry in shard.entries() {
-        assert!(rt; is_route(entry, &ROUTE_ANSWER));
-    }
-    Ok(())
+    play(&rt, rt.alloc(), &OF_ONE_ROUTE)
 }
 
-#[test]
-fn an_event_of_another_shard(rt: HostRuntime) -> Result<(), Fail> {
-    let mut shard = shard(rt.alloc())?;
-    assert_eq!(rt;
-        shard.handle(&clock(2, 5)?).err(),
-        Some(ShardFault::NotMine)
-    );
-    assert!(rt; shard.entries().is_empty());
-    Ok(())
-}
+const OF_A_FULL_JOURNAL: [Step; 7] = [
+    Step::Fills,
+    Step::Refuses(Given::Clock(1), ShardFault::JournalFull),
+    Step::Refuses(Given::Clock(2), ShardFault::NotMine),
+    Step::CountIs(MOST_ENTRIES),
+    Step::Cuts(MOST_ENTRIES),
+    Step::CountIs(0),
+    Step::Handles(Given::Clock(1), 0, &[]),
+];
 
 #[test]
 fn a_full_journal_is_cut(rt: HostRuntime) -> Result<(), Fail> {
-    let mut shard = shard(rt.alloc())?;
-    let tick = clock(1, 5)?;
-    for _ in 0..MOST_ENTRIES {
-        shard.handle(&tick)?;
-    }
-    assert_eq!(rt; shard.handle(&tick).err(), Some(ShardFault::JournalFull));
-    assert_eq!(rt;
-        shard.handle(&clock(2, 5)?).err(),
-        Some(ShardFault::NotMine)
-    );
-    assert_eq!(rt; shard.entries().len(), MOST_ENTRIES);
-    let epoch = shard.cut()?;
-    assert_eq!(rt;
-        (epoch.entries.len(), shard.entries().len()),
-        (MOST_ENTRIES, 0)
-    );
-    assert_eq!(rt; shard.handle(&tick)?.position, 0);
-    Ok(())
+    play(&rt, rt.alloc(), &OF_A_FULL_JOURNAL)
 }

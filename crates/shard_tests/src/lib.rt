@@ -1,19 +1,25 @@
-//! Tests of the layers of a shard: the procedures (`location`), what an event comes to (`turns`), how a plan is done
-//! (`shard_state`), steps (`hlrcore`), and journals (`shardlog`).
+//! Tests of the layers of a shard: the procedures (`location`), the plan of an event (`turns`), carrying out a plan
+//! (`shard_state`), steps and runs (`hlrcore`), journals (`shardlog`), the whole register (`wholenode`), and listings (`audit`).
 //!
-//! They stand here because a crate with tests is proved twice.
+//! They are in a crate of their own because a crate with tests is proved twice.
 #![tactic(auto)]
 
 #[cfg(test)]
 mod given;
 #[cfg(test)]
+mod growths;
+#[cfg(test)]
 mod journals;
+#[cfg(test)]
+mod nodes;
 #[cfg(test)]
 mod octets;
 #[cfg(test)]
 mod plans;
 #[cfg(test)]
 mod procedures;
+#[cfg(test)]
+mod runs;
 #[cfg(test)]
 mod settling;
 #[cfg(test)]

@@ -1,4 +1,4 @@
-//! The records file that several tests read, and the frames with a dialogue portion that they take and compare with.
+//! The records file that several tests read, and their frames with a dialogue portion.
 
 /// A subscriber of shard 1 with a register.
 pub(crate) const RECORDS: &[u8] = b"HLR1 447700900100
@@ -24,7 +24,7 @@ pub(crate) const ROUTE_ANSWER: [u8; 87] = [
     0x91, 0x44, 0x77, 0x00, 0x09, 0x00, 0x10,
 ];
 
-/// The answer to ROUTE where the subscriber is purged: absentSubscriberSM.
+/// The answer to ROUTE if the subscriber is purged: absentSubscriberSM.
 pub(crate) const ABSENT: [u8; 62] = [
     0x64, 0x3C, 0x49, 0x04, 0x00, 0x00, 0x00, 0x01, 0x6B, 0x2A, 0x28, 0x28, 0x06, 0x07, 0x00, 0x11,
     0x86, 0x05, 0x01, 0x01, 0x01, 0xA0, 0x1D, 0x61, 0x1B, 0x80, 0x02, 0x07, 0x80, 0xA1, 0x09, 0x06,

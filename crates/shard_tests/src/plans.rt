@@ -3,12 +3,12 @@
 use crate::given::{FIRST, imsi, peer, shard};
 use crate::octets::{ROUTE, UNKNOWN, UPDATE};
 use bumpalo::Bump;
+use hlr_types::Imsi;
 use location::{After, Stays};
 use msgarena::{Message, Round, Verdict};
 use records::read_codes;
-use shard_state::Plan;
+use shard_state::{Plan, Shard};
 use std::alloc::Global;
-use std::test::Fail;
 use turns::{begins, new_codes, withdraws};
 
 /// Two subscribers of shard 1: one with a register, one without.
@@ -17,14 +17,90 @@ const RECORDS_OF_TWO: &[u8] = b"HLR1 447700900100
 234150000000017 447700900202 21 * -
 ";
 
-/// What a Begin of these octets comes to.
-fn begun(alloc: Global, octets: &[u8]) -> Result<Plan, Fail> {
-    let shard = shard(alloc, RECORDS_OF_TWO)?;
+/// An event; a change is of the row's subscriber.
+enum Given {
+    Begin(&'static [u8]),
+    NewCodes,
+    Withdrawal,
+}
+
+/// What happens to the record.
+enum Left {
+    Same,
+    Placed,
+    NewCodes,
+    Withdrawn,
+}
+
+/// An event, the IMSI that it concerns, whether that has a record, whether a dialogue opens, and what happens to the record.
+struct Row {
+    given: Given,
+    imsi: &'static [u8],
+    is_known: bool,
+    opens: bool,
+    left: Left,
+}
+
+const ROWS: [Row; 7] = [
+    Row {
+        given: Given::Begin(&UPDATE),
+        imsi: b"234150000000001",
+        is_known: true,
+        opens: true,
+        left: Left::Placed,
+    },
+    Row {
+        given: Given::Begin(&ROUTE),
+        imsi: b"234150000000001",
+        is_known: true,
+        opens: false,
+        left: Left::Same,
+    },
+    Row {
+        given: Given::Begin(&UNKNOWN),
+        imsi: b"234150000000033",
+        is_known: false,
+        opens: false,
+        left: Left::Same,
+    },
+    // New codes go to the register, if there is one.
+    Row {
+        given: Given::NewCodes,
+        imsi: b"234150000000001",
+        is_known: true,
+        opens: true,
+        left: Left::NewCodes,
+    },
+    Row {
+        given: Given::NewCodes,
+        imsi: b"234150000000017",
+        is_known: true,
+        opens: false,
+        left: Left::NewCodes,
+    },
+    Row {
+        given: Given::Withdrawal,
+        imsi: b"234150000000001",
+        is_known: true,
+        opens: true,
+        left: Left::Withdrawn,
+    },
+    Row {
+        given: Given::Withdrawal,
+        imsi: b"234150000000033",
+        is_known: false,
+        opens: false,
+        left: Left::Same,
+    },
+];
+
+/// The plan of a Begin of these octets.
+fn begun(alloc: Global, shard: &Shard, octets: &[u8]) -> Option<Plan> {
     let mut bump = Bump::new(alloc);
-    let from = peer(b"447700900012")?;
-    let indication = Round::take(alloc, &mut bump, from, octets)?;
+    let from = peer(b"447700900012").ok()?;
+    let indication = Round::take(alloc, &mut bump, from, octets).ok()?;
     let Verdict::Read(message) = indication.verdict() else {
-        return Err("no message")?;
+        return None;
     };
     let Message::Begin {
         origin,
@@ -32,66 +108,64 @@ fn begun(alloc: Global, octets: &[u8]) -> Result<Plan, Fail> {
         ..
     } = message
     else {
-        return Err("no Begin")?;
+        return None;
     };
-    Ok(begins(alloc, &shard, &indication, *origin, components)?)
+    begins(alloc, shard, &indication, *origin, components).ok()
+}
+
+/// The plan of new codes.
+fn changed(alloc: Global, shard: &Shard, imsi: Imsi) -> Option<Plan> {
+    let codes = read_codes(alloc, b"22").ok()??;
+    new_codes(alloc, shard, imsi, &codes).ok()
+}
+
+/// Whether a Begin is answered, and new codes are the given ones.
+fn has_answer(plan: &Plan, given: &Given) -> bool {
+    match given {
+        Given::Begin(_) => plan.left.first.is_some(),
+        Given::NewCodes => plan.codes.as_slice() == [0x22].as_slice(),
+        Given::Withdrawal => true,
+    }
+}
+
+fn is_left(after: &After, left: &Left) -> bool {
+    match left {
+        Left::Same => matches!(after, After::Same),
+        Left::Placed => matches!(after, After::Placed { .. }),
+        Left::NewCodes => matches!(after, After::NewCodes),
+        Left::Withdrawn => matches!(after, After::Withdrawn),
+    }
 }
 
 fn opens(plan: &Plan) -> bool {
     matches!(plan.left.stays, Stays::Gone { opens: Some(_) })
 }
 
-#[test]
-fn an_update_opens(rt: HostRuntime) -> Result<(), Fail> {
-    let plan = begun(rt.alloc(), &UPDATE)?;
-    let subscriber = Some(imsi(b"234150000000001")?);
-    assert!(rt; opens(&plan));
-    assert_eq!(rt; plan.new, FIRST);
-    assert_eq!(rt; plan.imsi, subscriber);
-    assert_eq!(rt; plan.subject, subscriber);
-    Ok(())
+/// Whether a plan is as the row has it. A dialogue that opens has the first id.
+fn is_plan(plan: &Plan, row: &Row, concerned: Imsi) -> bool {
+    let subject = if row.is_known { Some(concerned) } else { None };
+    plan.imsi == Some(concerned)
+        && plan.subject == subject
+        && opens(plan) == row.opens
+        && (plan.new == FIRST || !row.opens)
+        && is_left(&plan.left.after, &row.left)
+        && has_answer(plan, &row.given)
+}
+
+fn is_so(alloc: Global, row: &Row) -> Option<bool> {
+    let shard = shard(alloc, RECORDS_OF_TWO).ok()?;
+    let concerned = imsi(row.imsi).ok()?;
+    let plan = match row.given {
+        Given::Begin(octets) => begun(alloc, &shard, octets)?,
+        Given::NewCodes => changed(alloc, &shard, concerned)?,
+        Given::Withdrawal => withdraws(alloc, &shard, concerned),
+    };
+    Some(is_plan(&plan, row, concerned))
 }
 
 #[test]
-fn a_route_opens_nothing(rt: HostRuntime) -> Result<(), Fail> {
-    let plan = begun(rt.alloc(), &ROUTE)?;
-    assert!(rt; !opens(&plan));
-    assert!(rt; matches!(plan.left.after, After::Same));
-    assert!(rt; plan.left.first.is_some());
-    assert_eq!(rt; plan.imsi, Some(imsi(b"234150000000001")?));
-    Ok(())
-}
-
-#[test]
-fn an_unknown_subscriber_is_no_subject(rt: HostRuntime) -> Result<(), Fail> {
-    let plan = begun(rt.alloc(), &UNKNOWN)?;
-    assert!(rt; !opens(&plan));
-    assert_eq!(rt; plan.imsi, Some(imsi(b"234150000000033")?));
-    assert_eq!(rt; plan.subject, None);
-    Ok(())
-}
-
-#[test]
-fn new_codes_go_to_a_register(rt: HostRuntime) -> Result<(), Fail> {
-    let shard = shard(rt.alloc(), RECORDS_OF_TWO)?;
-    let codes = read_codes(rt.alloc(), b"22")?.ok_or("codes")?;
-    let served = new_codes(rt.alloc(), &shard, imsi(b"234150000000001")?, &codes)?;
-    assert!(rt; opens(&served));
-    assert_eq!(rt; served.codes.as_slice(), codes.as_slice());
-    let absent = new_codes(rt.alloc(), &shard, imsi(b"234150000000017")?, &codes)?;
-    assert!(rt; !opens(&absent));
-    assert!(rt; matches!(absent.left.after, After::NewCodes));
-    Ok(())
-}
-
-#[test]
-fn a_withdrawal_cancels(rt: HostRuntime) -> Result<(), Fail> {
-    let shard = shard(rt.alloc(), RECORDS_OF_TWO)?;
-    let plan = withdraws(rt.alloc(), &shard, imsi(b"234150000000001")?);
-    assert!(rt; opens(&plan));
-    assert!(rt; matches!(plan.left.after, After::Withdrawn));
-    let unknown = withdraws(rt.alloc(), &shard, imsi(b"234150000000033")?);
-    assert!(rt; matches!(unknown.left.after, After::Same));
-    assert_eq!(rt; unknown.subject, None);
-    Ok(())
+fn plans(rt: HostRuntime) {
+    for (place, row) in ROWS.iter().enumerate() {
+        assert!(rt; is_so(rt.alloc(), row) == Some(true), "row {place}");
+    }
 }

@@ -1,4 +1,4 @@
-//! Plans that are settled.
+//! Plans that are carried out.
 
 ghost use Rattle.std.specs.Prelude.{◌≡◌, IfSome};
 
@@ -11,7 +11,6 @@ use mapargs_loc::CancellationType;
 use outgoing::{Components, Out, SentMessage};
 use shard_state::{Named, Plan, Shard, StepAnswer};
 use std::alloc::Global;
-use std::process::Abort;
 use std::test::Fail;
 use tsl::Transaction;
 
@@ -55,7 +54,7 @@ fn end(alloc: Global) -> Option<Out> {
     })
 }
 
-/// What leaves the record alone, and sends an End and another.
+/// The outcome that leaves the record unchanged and sends an End twice.
 fn only(alloc: Global, stays: Stays) -> Option<Outcome>
     ensures { IfSome result (λ left. (left.after ≡ After.Same) × (left.stays ≡ stays)) }
 {
@@ -108,7 +107,7 @@ fn closes(alloc: Global, shard: &mut Shard, id: Tid) -> Option<StepAnswer> {
     shard.settle(plan, &[]).ok()
 }
 
-/// The subscription ends, and nothing is sent.
+/// The subscriber is withdrawn, and nothing is sent.
 fn withdraws(alloc: Global, shard: &mut Shard) -> Option<StepAnswer> {
     let subscriber = imsi()?;
     let new = shard.dialogues().next_id()?;
@@ -131,67 +130,76 @@ fn withdraws(alloc: Global, shard: &mut Shard) -> Option<StepAnswer> {
     shard.settle(plan, &[]).ok()
 }
 
+/// Whether the answer has the first id, the subscriber and both Ends.
+fn is_opened(answer: &StepAnswer) -> bool {
+    let outs = answer.outs.as_slice();
+    answer.id == Some(FIRST)
+        && answer.subject == imsi()
+        && outs.len() == 2
+        && octets_at(outs, 1) == END.as_slice()
+}
+
+/// Whether a cancel is open after it opened, and is not after it closed.
+fn opens_and_closes(alloc: Global, shard: &mut Shard) -> Option<bool> {
+    let opened = opens(alloc, shard)?;
+    let was_open = shard.dialogues().get(FIRST) == Some(cancel()?);
+    let closed = closes(alloc, shard, FIRST)?;
+    let is_gone = shard.dialogues().get(FIRST) == None;
+    Some(is_opened(&opened) && was_open && closed.id == None && is_gone)
+}
+
 #[test]
 fn a_cancel_opens_and_closes(rt: HostRuntime) -> Result<(), Fail> {
     let mut shard = shard(rt.alloc(), RECORDS)?;
-    let answer = opens(rt.alloc(), &mut shard).ok_or("opens")?;
-    assert_eq!(rt; answer.id, Some(FIRST));
-    assert_eq!(rt; answer.subject, imsi());
-    let outs = answer.outs.as_slice();
-    assert_eq!(rt; outs.len(), 2);
-    assert_eq!(rt; octets_at(outs, 1), END.as_slice());
-    assert_eq!(rt; shard.dialogues().get(FIRST), cancel());
-    let answer = closes(rt.alloc(), &mut shard, FIRST).ok_or("closes")?;
-    assert_eq!(rt; answer.id, None);
-    assert_eq!(rt; shard.dialogues().get(FIRST), None);
+    assert!(rt; opens_and_closes(rt.alloc(), &mut shard) == Some(true));
     Ok(())
+}
+
+/// Whether the record is withdrawn, and nothing was sent.
+fn ends(alloc: Global, shard: &mut Shard) -> Option<bool> {
+    let answer = withdraws(alloc, shard)?;
+    let found = shard.records().get(&imsi()?)?;
+    Some(answer.outs.as_slice().is_empty() && found.withdrawn && found.register == None)
 }
 
 #[test]
 fn a_subscription_ends(rt: HostRuntime) -> Result<(), Fail> {
     let mut shard = shard(rt.alloc(), RECORDS)?;
-    let answer = withdraws(rt.alloc(), &mut shard).ok_or("withdraws")?;
-    assert!(rt; answer.outs.as_slice().is_empty());
-    let subscriber = imsi().ok_or("digits")?;
-    let found = shard.records().get(&subscriber).ok_or("unknown")?;
-    assert!(rt; found.withdrawn);
-    assert_eq!(rt; found.register, None);
+    assert!(rt; ends(rt.alloc(), &mut shard) == Some(true));
     Ok(())
+}
+
+/// Whether a copy stays as it was, and the clock never goes back.
+fn is_of_its_own(alloc: Global, shard: &mut Shard) -> Option<bool> {
+    shard.tick(7);
+    let copy = shard.try_copy().ok()?;
+    let _answer = opens(alloc, shard)?;
+    shard.tick(5);
+    let is_same = (copy.number(), copy.clock(), copy.dialogues().len()) == (1, 7, 0);
+    Some(is_same && (shard.clock(), shard.dialogues().len()) == (7, 1))
 }
 
 #[test]
 fn a_copy_is_a_state_of_its_own(rt: HostRuntime) -> Result<(), Fail> {
     let mut shard = shard(rt.alloc(), RECORDS)?;
-    shard.tick(7);
-    let copy = shard.try_copy()?;
-    opens(rt.alloc(), &mut shard).ok_or("opens")?;
-    shard.tick(5);
-    assert_eq!(rt;
-        (copy.number(), copy.clock(), copy.dialogues().len()),
-        (1, 7, 0)
-    );
-    assert_eq!(rt; (shard.clock(), shard.dialogues().len()), (7, 1));
+    assert!(rt; is_of_its_own(rt.alloc(), &mut shard) == Some(true));
     Ok(())
 }
 
-/// Opens a cancel: where a growth is refused, nothing has changed.
-fn open_or_stay(rt: &impl Abort, alloc: Global, shard: &mut Shard) {
-    let (count, next) = (shard.dialogues().len(), shard.dialogues().next_id());
-    if opens(alloc, shard).is_none() {
-        assert_eq!(rt;
-            (shard.dialogues().len(), shard.dialogues().next_id()),
-            (count, next)
-        );
-    }
+/// Whether a cancel opens, or an allocation fails and nothing changes.
+fn opens_or_stays(alloc: Global, shard: &mut Shard) -> bool {
+    let before = (shard.dialogues().len(), shard.dialogues().next_id());
+    opens(alloc, shard).is_some()
+        || (shard.dialogues().len(), shard.dialogues().next_id()) == before
 }
 
-/// Each growth is refused in turn by `rt try --test --fail-alloc N`.
+/// Each allocation fails in turn by `rt try --test --fail-alloc N`.
 #[test]
 fn refused_growths(rt: HostRuntime) {
     let Ok(mut shard) = shard(rt.alloc(), RECORDS) else {
         return;
     };
     for _number in 0..4 {
-        open_or_stay(&rt, rt.alloc(), &mut shard);
+        assert!(rt; opens_or_stays(rt.alloc(), &mut shard));
     }
 }

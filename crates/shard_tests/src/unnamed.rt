@@ -1,44 +1,42 @@
-//! Messages for no open dialogue, and an expiry where nothing is due.
+//! Messages for no open dialogue, and an expiry when nothing is due.
 
 use crate::given::{peer, shard};
 use crate::octets::RECORDS;
 use hlr_types::RemoteId;
+use shard_state::Shard;
+use std::alloc::Global;
 use std::test::Fail;
 use turns::{closes, continues, expires};
 
-fn id(octets: &[u8]) -> Result<RemoteId, Fail> {
-    Ok(RemoteId::read(octets).ok_or("octets")?)
+/// A destination id of no open dialogue, in four octets and in one.
+const DESTINATIONS: [&[u8]; 2] = [&[1, 0, 0x10, 0], &[1]];
+
+/// Whether neither a Continue nor an End for this id is for a dialogue.
+fn is_for_none(alloc: Global, shard: &Shard, destination: &[u8]) -> Option<bool> {
+    let from = peer(b"447700900011").ok()?;
+    let origin = RemoteId::read(&[7])?;
+    let id = RemoteId::read(destination)?;
+    let continued = continues(alloc, shard, from, origin, id, &[]).ok()?;
+    Some(continued.is_none() && closes(alloc, shard, id).is_none())
 }
 
 #[test]
-fn a_continue_for_none(rt: HostRuntime) -> Result<(), Fail> {
+fn nothing_is_named(rt: HostRuntime) -> Result<(), Fail> {
     let shard = shard(rt.alloc(), RECORDS)?;
-    let from = peer(b"447700900011")?;
-    let plan = continues(
-        rt.alloc(),
-        &shard,
-        from,
-        id(&[7])?,
-        id(&[1, 0, 0x10, 0])?,
-        &[],
-    )?;
-    assert!(rt; plan.is_none());
-    Ok(())
-}
-
-#[test]
-fn an_end_for_none(rt: HostRuntime) -> Result<(), Fail> {
-    let shard = shard(rt.alloc(), RECORDS)?;
-    assert!(rt; closes(rt.alloc(), &shard, id(&[1, 0, 0x10, 0])?).is_none());
-    assert!(rt; closes(rt.alloc(), &shard, id(&[1])?).is_none());
+    for destination in DESTINATIONS {
+        assert!(rt;
+            is_for_none(rt.alloc(), &shard, destination) == Some(true),
+            "{destination:?}"
+        );
+    }
     Ok(())
 }
 
 #[test]
 fn nothing_is_due(rt: HostRuntime) -> Result<(), Fail> {
     let mut shard = shard(rt.alloc(), RECORDS)?;
-    assert!(rt; expires(rt.alloc(), &shard).is_none());
+    let was_due = expires(rt.alloc(), &shard).is_some();
     shard.tick(60);
-    assert!(rt; expires(rt.alloc(), &shard).is_none());
+    assert!(rt; !was_due && expires(rt.alloc(), &shard).is_none());
     Ok(())
 }

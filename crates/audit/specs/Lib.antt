@@ -1,0 +1,6 @@
+pub mod Lines
+pub mod Orders
+pub mod Listing
+pub mod Saving
+pub mod Examples
+pub mod Gathered

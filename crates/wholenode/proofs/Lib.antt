@@ -1,0 +1,6 @@
+pub mod Places
+pub mod WholeLemmas
+pub mod OpeningLemmas
+pub mod RunLemmas
+pub mod CutLemmas
+pub mod RoomLemmas

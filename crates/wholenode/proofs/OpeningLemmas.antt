@@ -1,0 +1,168 @@
+-- The shards at the beginning.
+use Rattle.std.proofs.Common.{◌≡◌, ℕ, ◌+◌, ◌<◌, zero, suc, List, [], ◌∷◌, ◌++◌, length, length-append, refl, sym, ap, subst, ◌∙◌, append_assoc, arith, inl, inr, eq-eqb, Bool, true, false, cond, ◌==◌}
+use Rattle.std.specs.Prelude.{Option, Some, None, slice_get, nat_lt}
+use Rattle.std.proofs.lemmas.Bool.{both_ways, ltb-true}
+use Rattle.std.proofs.lemmas.Option.{get_or_from_slice_get}
+use Rattle.std.proofs.Math.Seq.{get_or-append_seam}
+use Rattle.machine.specs.Keys.{shard_of, shard_of_id}
+use Rattle.machine.specs.Opening.{opening}
+use Rattle.machine.specs.Parts.{part, union}
+use Rattle.machine.specs.State.{Dialogue, State}
+use Rattle.machine_laws.proofs.Steps.{shard_small}
+use Rattle.records.specs.Loaded.{Subscribers}
+use Rattle.records.specs.Maps.{DirectoryMap, RecordMap, part_of}
+use Rattle.records.specs.Parts.{AreParts}
+use Rattle.shard_state.specs.Shards.{IsOpening, ShardState, directory_of, records_of, state_of}
+use Rattle.shardlog.specs.Log.{Log, LogKeeps, log}
+use Rattle.wholenode.specs.Keeping.{AreShards}
+use Rattle.wholenode.specs.Nodes.{node, state_at, states, whole}
+use Rattle.wholenode.specs.Opening.{AreOpening, BeginsWith, Opens, OpensWith}
+use Rattle.wholenode.proofs.Places.{below_or_last, there}
+
+-- ---- one by one
+
+-- no shard yet
+pub no_shard : (loaded : Subscribers) (shards : List Log) → shards ≡ [] → AreOpening loaded 0 shards
+no_shard loaded shards is = subst (AreOpening loaded 0) (sym is) (record { length_is = refl; each = none_at })
+  where
+    none_at : (n : ℕ) (l : Log) → slice_get [] n ≡ Some l → OpensWith loaded n l
+    none_at zero l e = absurd cc
+    none_at (suc n) l e = absurd cc
+
+-- one more shard
+pub one_shard_more : (loaded : Subscribers) (n : ℕ) (before after : List Log) (l : Log) → AreOpening loaded n before → OpensWith loaded n l
+    → after ≡ before ++ l ∷ []
+    → AreOpening loaded (n + 1) after
+one_shard_more loaded n before after l so_far is pushed = subst (AreOpening loaded (n + 1)) (sym pushed) (record {
+  length_is = length-append before (l ∷ []) ∙ ap (λ k. k + 1) so_far.length_is;
+  each = λ m k e. elim (below_or_last before l k m e) [
+    | inl h ↦ so_far.each m k h
+    | inr h ↦ subst (OpensWith loaded m) h.1 (subst (λ (p : ℕ). OpensWith loaded p l) (sym (h.0 ∙ so_far.length_is)) is)
+  ];
+})
+
+-- the records that come next are those of the shard with the next number
+next_part : (all : RecordMap) (taken rest : List RecordMap) (r : RecordMap) → AreParts all (taken ++ r ∷ rest)
+    → r ≡ part_of all (length taken)
+next_part all taken rest r parts =
+    let small : length taken < 16 = omega (arith, parts.sixteen, length-append taken (r ∷ rest)) in
+    sym (get_or-append_seam taken r rest r) ∙ get_or_from_slice_get (taken ++ r ∷ rest) (length taken) (part_of all (length taken)) r
+    (parts.own (length taken) small)
+
+-- the next records are those of the next shard
+pub next_own : (all : RecordMap) (yielded left rest : List RecordMap) (records : RecordMap) (shard : ℕ) → AreParts all (yielded ++ left)
+    → left ≡ records ∷ rest
+    → shard ≡ length yielded → records ≡ part_of all shard
+next_own all yielded left rest records shard parts is at =
+    next_part all yielded rest records (subst (λ (ps : List RecordMap). AreParts all (yielded ++ ps)) is parts) ∙ ap (part_of all) (sym at)
+
+-- and they are taken
+pub part_taken : (all : RecordMap) (taken rest : List RecordMap) (r : RecordMap) → AreParts all (taken ++ r ∷ rest)
+    → AreParts all ((taken ++ r ∷ []) ++ rest)
+part_taken all taken rest r parts = subst (AreParts all) (sym (append_assoc taken (r ∷ []) rest)) parts
+
+-- a shard that begins with its part
+pub opens_with : (loaded : Subscribers) (n : ℕ) (records : RecordMap) (directory : DirectoryMap) (hlr : List ℕ) (l : Log)
+    → records ≡ part_of loaded.records n
+    → directory ≡ loaded.directory → hlr ≡ loaded.hlr → Opens n records directory hlr l → OpensWith loaded n l
+opens_with loaded n records directory hlr l own shared number is =
+    subst (λ (r : RecordMap). Opens n r loaded.directory loaded.hlr l) own
+    (subst (λ (d : DirectoryMap). Opens n records d loaded.hlr l) shared (subst (λ (h : List ℕ). Opens n records directory h l) number is))
+
+-- ---- all of them
+
+pub open_shards : (loaded : Subscribers) (directory : DirectoryMap) (shards : List Log) → directory ≡ loaded.directory
+    → AreOpening loaded 16 shards → AreShards directory shards
+open_shards loaded directory shards same are = record {
+  hlr = loaded.hlr;
+  count = are.length_is;
+  each = λ n l e. let is = are.each n l e in record {
+    keeps = is.keeps;
+    shard_is = ap (λ (k : Log). k.state.shard) is.begins ∙ is.opens_as.shard_is;
+    directory_is = ap (λ (k : Log). k.state.directory) is.begins ∙ is.opens_as.directory_is ∙ sym same;
+    hlr_is = ap (λ (k : Log). k.state.hlr) is.begins ∙ is.opens_as.hlr_is;
+  };
+}
+
+-- the part of the state with which the register begins
+
+at_true : {X : Type 0} (b : Bool) (x z : X) → b ≡ true → cond b x z ≡ x
+at_true true x z e = refl
+at_true false x z e = absurd (both_ways false refl e)
+
+both_alike : {X : Type 0} (b : Bool) (x y : X) → (b ≡ true → y ≡ x) → cond b y x ≡ x
+both_alike true x y h = h refl
+both_alike false x y h = refl
+
+part_record : (S : State) (x : List ℕ) → (part S (shard_of x)).records x ≡ S.records x
+unfolding part
+part_record S x = at_true _ _ _ (eq-eqb (shard_of x) (shard_of x) refl)
+
+part_dialogue : (S : State) (n : ℕ) (i : List ℕ) → S.dialogues i ≡ None → (part S n).dialogues i ≡ None
+unfolding part
+part_dialogue S n i none = both_alike (shard_of_id i == n) None (S.dialogues i) (λ _. none)
+
+part_clock : (S : State) (n m : ℕ) → S.clocks m ≡ 0 → (part S n).clocks m ≡ 0
+unfolding part
+part_clock S n m none = both_alike (m == n) 0 (S.clocks m) (λ _. none)
+
+part_directory : (S : State) (n : ℕ) → (part S n).directory ≡ S.directory
+unfolding part
+part_directory S n = refl
+
+part_hlr : (S : State) (n : ℕ) → (part S n).hlr ≡ S.hlr
+unfolding part
+part_hlr S n = refl
+
+-- if each of sixteen states is the part of a state with no dialogue and each clock at 0, this state is their union
+union_fresh : (S : State) (parts : ℕ → State) → ((n : ℕ) → n < 16 → parts n ≡ part S n) → ((i : List ℕ) → S.dialogues i ≡ None)
+    → ((n : ℕ) → S.clocks n ≡ 0) → union parts ≡ S
+unfolding union
+union_fresh S parts are none zeros = λ k. record {
+  records = λ x. record_at x k;
+  dialogues = λ i. dialogue_at i k;
+  clocks = λ n. clock_at n k;
+  directory = (ap (λ (T : State). T.directory) (are 0 (omega arith)) ∙ part_directory S 0) k;
+  hlr = (ap (λ (T : State). T.hlr) (are 0 (omega arith)) ∙ part_hlr S 0) k;
+}
+  where
+    record_at : (x : List ℕ) → (parts (shard_of x)).records x ≡ S.records x
+    record_at x = ap (λ (T : State). T.records x) (are (shard_of x) (shard_small x)) ∙ part_record S x
+
+    dialogue_at : (i : List ℕ) → cond (nat_lt (shard_of_id i) 16) ((parts (shard_of_id i)).dialogues i) None ≡ S.dialogues i
+    dialogue_at i =
+        both_alike (nat_lt (shard_of_id i) 16) None _
+        (λ lt. ap (λ (T : State). T.dialogues i) (are (shard_of_id i) (ltb-true _ _ lt)) ∙ part_dialogue S (shard_of_id i) i (none i))
+        ∙ sym (none i)
+
+    clock_at : (n : ℕ) → cond (nat_lt n 16) ((parts n).clocks n) 0 ≡ S.clocks n
+    clock_at n =
+        both_alike (nat_lt n 16) 0 _ (λ lt. ap (λ (T : State). T.clocks n) (are n (ltb-true _ _ lt)) ∙ part_clock S n n (zeros n))
+        ∙ sym (zeros n)
+
+-- the state with which the register begins has no dialogue, and each clock at 0
+opening_none : (loaded : Subscribers) (i : List ℕ)
+    → (opening (records_of loaded.records) (directory_of loaded.directory) loaded.hlr).dialogues i ≡ None
+unfolding opening
+opening_none loaded i = refl
+
+opening_zero : (loaded : Subscribers) (n : ℕ)
+    → (opening (records_of loaded.records) (directory_of loaded.directory) loaded.hlr).clocks n ≡ 0
+unfolding opening
+opening_zero loaded n = refl
+
+begins_as_part : (loaded : Subscribers) (shards : List Log) → AreOpening loaded 16 shards → (n : ℕ) → n < 16
+    → states shards n ≡ part (opening (records_of loaded.records) (directory_of loaded.directory) loaded.hlr) n
+begins_as_part loaded shards are n lt =
+    let found = there shards n (omega (arith, are.length_is, lt)) in
+    let is = are.each n found.0 found.1 in
+    ap state_at found.1 ∙ ap (λ (k : Log). state_of k.state) is.begins ∙ is.part_is loaded.records refl
+
+pub begins_with : (loaded : Subscribers) (directory : DirectoryMap) (shards : List Log) → directory ≡ loaded.directory
+    → AreOpening loaded 16 shards
+    → BeginsWith loaded (node directory shards)
+begins_with loaded directory shards same are = record {
+  directory_is = same;
+  shards_are = are;
+  whole_is = union_fresh _ (states shards) (begins_as_part loaded shards are) (opening_none loaded) (opening_zero loaded);
+}

@@ -1,0 +1,136 @@
+//! The sixteen shards of a register, in one thread.
+
+ghost use Rattle.std.specs.Prelude.{◌≡◌, ◌<◌, map, IfOk, IfErr, OnErr};
+ghost use Rattle.hlrcore.specs.Events.{raw_event};
+ghost use Rattle.wholenode.specs.Nodes.{whole};
+ghost use Rattle.wholenode.specs.Opening.{BeginsWith};
+ghost use Rattle.wholenode.specs.Handling.{Cuts, IsRun, Refuses, Runs, Stops, Takes, sent_of};
+ghost use Rattle.wholenode.specs.Keeping.{NodeKeeps};
+
+use crate::fault::{Cause, NodeFault, refusal};
+use crate::opening::opening_shards;
+use bumpalo::Bump;
+use hlrcore::{Event, RawEvent, route};
+use records::{Directory, Loaded};
+use shardlog::{Epoch, Handled, Shard};
+use std::alloc::{AllocError, Global};
+use std::marker::Model;
+use std::sync::Arc;
+
+/// The sixteen shards of a register, each with its journal, and the directory that all of them share. Together the shards are
+/// one state of the machine.
+#[derive(Drop)]
+pub struct Node {
+    alloc: Global,
+    directory: Arc<Directory>,
+    shards: Vec<Shard>,
+}
+
+impl Model for Node {
+    ghost use Rattle.std.specs.Arc.{arc_value};
+    ghost use Rattle.wholenode.specs.Nodes.{NodeState, node, node_state_code};
+    ghost use Rattle.wholenode.specs.Keeping.{AreShards};
+
+    ghost Value = { NodeState };
+
+    ghost coded = { node_state_code };
+
+    ghost view = { λ n. node (arc_value n.directory) n.shards.items };
+
+    ghost invariant = { λ n. AreShards (arc_value n.directory) n.shards.items };
+}
+
+impl Node {
+    /// The register of a records file: its records, no open dialogue, each clock at 0, and empty journals. On error the loaded
+    /// value is dropped.
+    pub fn new(alloc: Global, loaded: Loaded) -> Result<Node, AllocError>
+        ensures begins { IfOk result (BeginsWith loaded) }
+        ensures keeps { IfOk result NodeKeeps }
+    {
+        let directory = loaded.shared_directory()?;
+        let shards = opening_shards(alloc, loaded)?;
+        Ok(Node {
+            alloc,
+            directory,
+            shards,
+        })
+    }
+
+    /// The shards, indexed by their numbers.
+    pub fn shards(&self) -> &[Shard]
+        ensures shards { result.now ≡ self.now.shards }
+        ensures keeps { NodeKeeps self.now }
+    {
+        &self.shards
+    }
+
+    /// The shards, indexed by their numbers. Consumes the register, so that each shard can be moved, for example behind a lock.
+    pub fn into_shards(self) -> Vec<Shard>
+        ensures shards { result.items ≡ self.shards }
+        ensures keeps { NodeKeeps self }
+    {
+        let Node {
+            alloc: _,
+            directory: _,
+            shards,
+        } = self;
+        shards
+    }
+
+    /// Handles events in order, each in its own shard, and returns for each its position in that shard's journal and what is sent.
+    /// It stops at the first event that is not handled; the register is then as the events before it leave it.
+    ///
+    /// - `JournalFull`: the journal of its shard has 65,536 entries, until `cut`.
+    /// - `NoRoom`: it is an operator's change for which the machine has no step: it would open a dialogue beside 4,096.
+    /// - `Memory` and `ResetRefused`: out of memory.
+    ///
+    /// Limitation: after a fault the arena's contents are unspecified. Use a new one then.
+    pub fn run(&mut self, bump: &mut Bump, events: &[RawEvent]) -> Result<Vec<Handled>, NodeFault>
+        ensures handled { IfOk result (λ done. Runs self.old (map raw_event events.now) done.items self.new) }
+        // For the whole state they are a run of the machine over octets.
+        ensures run { IfOk result (λ done. IsRun (whole self.old.shards) (map raw_event events.now) (map sent_of done.items) (whole self.new.shards)) }
+        ensures stops { IfErr result (λ fault. Stops self.old (map raw_event events.now) fault.done.items fault.cause self.new) }
+        ensures keeps { NodeKeeps self.new }
+    {
+        let mut done = Vec::new(self.alloc);
+        for event in events {
+            if done.reserve(1).is_err() {
+                let cause = Cause::Memory;
+                return Err(NodeFault { done, cause });
+            }
+            match self.handle(bump, event) {
+                Ok(handled) => done.push_reserved(handled),
+                Err(cause) => return Err(NodeFault { done, cause }),
+            }
+        }
+        Ok(done)
+    }
+
+    /// Handles one event. On error nothing changes.
+    fn handle(&mut self, bump: &mut Bump, raw: &RawEvent) -> Result<Handled, Cause>
+        ensures takes { IfOk result (λ handled. Takes self.old (raw_event raw.now) handled self.new) }
+        ensures refused { IfErr result (λ cause. Refuses self.old (raw_event raw.now) cause) }
+        ensures err { OnErr result (self.new ≡ self.old) }
+        ensures keeps { NodeKeeps self.new }
+    {
+        let event = Event::of(self.alloc, bump, raw)?;
+        let place = usize::from(route(&self.directory, &event));
+        let shard = &mut self.shards[place];
+        match shard.handle(&event) {
+            Ok(handled) => Ok(handled),
+            Err(fault) => Err(refusal(fault)),
+        }
+    }
+
+    /// Cuts the journal of a shard off, and returns it with the state in which it begins. The states stay the same. The shard's
+    /// state is copied, as the base of the next journal. On error nothing changes.
+    pub fn cut(&mut self, shard: u8) -> Result<Epoch, AllocError>
+        requires { shard < 16 }
+        ensures cuts { IfOk result (λ epoch. Cuts self.old shard epoch self.new) }
+        ensures keeps { NodeKeeps self.new }
+        ensures err { OnErr result (self.new ≡ self.old) }
+    {
+        let place = usize::from(shard);
+        self.shards[place].cut()
+    }
+}
