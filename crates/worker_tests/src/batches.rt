@@ -1,0 +1,108 @@
+//! Batches that workers share.
+
+use crate::gates::{Open, UntilAll, UntilDone};
+use crate::given::{Register, clock, frame};
+use crate::octets::{DATA_TAKEN, OTHER_ROUTE, ROUTE, ROUTE_ANSWER, UPDATE};
+use std::alloc::Global;
+use std::process::Abort;
+use std::sync::Wait;
+use std::test::Fail;
+use std::thread::Threads;
+use workers::{Office, Unaccounted, reconcile};
+
+/// An update in shard 1 is held inside while a route is handled in shard 2. Then the update is done, and its subscriber has the new
+/// route. Jobs and receipts account for the journals, in whatever order the receipts are. Without its receipt the last job is
+/// unaccounted for; without the job too its entry is left over.
+fn update_beside_a_route<R: Threads + Wait + Sync + Abort>(
+    rt: &R,
+    alloc: Global,
+    workers: usize,
+) -> Result<(), Fail> {
+    let mut register = Register::new(alloc)?;
+    let gate = UntilDone::new();
+    let update = frame(alloc, b"447700900012", &UPDATE)?;
+    let other = frame(alloc, b"447700909999", &OTHER_ROUTE)?;
+    register.take(rt, &gate, workers, vec![in alloc; update, other]?)?;
+    let taken = frame(alloc, b"447700900012", &DATA_TAKEN)?;
+    register.take(rt, &gate, workers, vec![in alloc; taken]?)?;
+    let route = frame(alloc, b"447700909999", &ROUTE)?;
+    register.take(rt, &gate, workers, vec![in alloc; route]?)?;
+    assert_eq!(rt;
+        (gate.was_in_time(), register.sent_last()),
+        (true, ROUTE_ANSWER.as_slice())
+    );
+    let (shards, mut jobs, mut receipts) = register.close()?;
+    let whole = reconcile(&shards, &jobs, &receipts);
+    if receipts.len() != 4 {
+        return Err(Fail::from("receipts"));
+    }
+    receipts.swap(0, 1);
+    let exchanged = reconcile(&shards, &jobs, &receipts);
+    receipts.truncate(3);
+    let without_receipt = reconcile(&shards, &jobs, &receipts);
+    jobs.truncate(3);
+    let without_job = reconcile(&shards, &jobs, &receipts);
+    assert_eq!(rt;
+        (whole, exchanged, without_receipt, without_job),
+        (Ok(()), Ok(()), Err(Unaccounted(4)), Err(Unaccounted(0)))
+    );
+    Ok(())
+}
+
+#[test]
+fn two_at_once(rt: HostRuntime) -> Result<(), Fail> {
+    for workers in [2, 16] {
+        update_beside_a_route(&rt, rt.alloc(), workers)?;
+    }
+    Ok(())
+}
+
+/// Sixteen workers are inside sixteen shards at once.
+#[test]
+fn sixteen_at_once(rt: HostRuntime) -> Result<(), Fail> {
+    let mut register = Register::new(rt.alloc())?;
+    let gate = UntilAll::new(16);
+    let mut events = Vec::new(rt.alloc());
+    for shard in 0..16 {
+        events.push(clock(shard, 1)?)?;
+    }
+    register.take(&rt, &gate, 16, events)?;
+    let (shards, jobs, receipts) = register.close()?;
+    assert_eq!(rt;
+        (gate.in_time(), reconcile(&shards, &jobs, &receipts)),
+        (16, Ok(()))
+    );
+    Ok(())
+}
+
+/// A hundred batches of sixteen workers, each of more jobs than the channel holds, most of them for one shard. Jobs and receipts
+/// account for the journals; after the journals are cut, so they do for the next batch.
+#[test]
+fn a_hundred_batches(rt: HostRuntime) -> Result<(), Fail> {
+    let alloc = rt.alloc();
+    let mut register = Register::new(alloc)?;
+    for batch in 0..100 {
+        let mut events = Vec::new(alloc);
+        for shard in 0..16 {
+            events.push(clock(shard, batch)?)?;
+            for _ in 0..4 {
+                events.push(frame(alloc, b"447700909999", &ROUTE)?)?;
+            }
+        }
+        register.take(&rt, &Open, 16, events)?;
+    }
+    let (mut shards, jobs, receipts) = register.close()?;
+    let whole = reconcile(&shards, &jobs, &receipts);
+    for shard in shards.iter_mut() {
+        let _epoch = shard.cut()?;
+    }
+    assert_eq!(rt; (receipts.len(), shards.len()), (8_000, 16));
+    let mut next = Register::of_office(alloc, Office::from_shards(alloc, shards)?);
+    next.take(&rt, &Open, 3, vec![in alloc; clock(3, 7)?, clock(3, 8)?]?)?;
+    let (shards, jobs, receipts) = next.close()?;
+    assert_eq!(rt;
+        (whole, reconcile(&shards, &jobs, &receipts)),
+        (Ok(()), Ok(()))
+    );
+    Ok(())
+}

@@ -1,0 +1,20 @@
+//! Tests of the workers: batches of jobs that threads share, over sixteen locked shards, and whether jobs and receipts account for
+//! the journals.
+//!
+//! They are in a crate of their own because a crate with tests is proved twice.
+#![tactic(auto)]
+
+#[cfg(test)]
+mod batches;
+#[cfg(test)]
+mod gates;
+#[cfg(test)]
+mod given;
+#[cfg(test)]
+mod growths;
+#[cfg(test)]
+mod octets;
+#[cfg(test)]
+mod places;
+#[cfg(test)]
+mod shared;

@@ -1,0 +1,16 @@
+use Rattle.std.proofs.Common.{◌≡◌, List, [], rules, sym, subst}
+use Rattle.frames.specs.Account.{Job, Receipt}
+use Rattle.machine.specs.Opening.{opening}
+use Rattle.shard_state.specs.Shards.{directory_of, records_of}
+use Rattle.workers.specs.Shared.{StandsBehind, shared_state}
+use Rattle.workers.proofs.Standing.{stands_at_first}
+use Rattle.workers.proofs.shared.SharedRegister.new.Goals as goal
+
+pub returns : goal.returns
+returns c =
+    let no_jobs : c.new-2.result.items ≡ [] = search rules in
+    let no_receipts : c.new-3.result.items ≡ [] = search rules in
+    record {
+      begins = subst (λ (p : List Job × List Receipt). StandsBehind (opening (records_of c.args.loaded.records) (directory_of c.args.loaded.directory) c.args.loaded.hlr) [] [] (shared_state c.in_ok-office.office p.0 p.1))
+          (λ i. ((sym no_jobs) i, (sym no_receipts) i)) (stands_at_first c.args.loaded c.in_ok-office.office c.in_ok-office.ensures.begins c.in_ok-office.ensures.one_register);
+    }

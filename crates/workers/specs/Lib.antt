@@ -1,0 +1,14 @@
+pub mod Jobs
+pub mod Receipts
+pub mod Refusals
+pub mod Hands
+pub mod Batch
+pub mod Journals
+pub mod Only
+pub mod Least
+pub mod Pairs
+pub mod Marks
+pub mod Offices
+pub mod Merged
+pub mod Shared
+pub mod SharedFaults

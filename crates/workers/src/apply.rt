@@ -1,0 +1,44 @@
+//! A job in its shard, once the event is read and the shard is locked.
+
+ghost use Rattle.std.specs.Prelude.{◌≡◌, IfOk, OnErr};
+ghost use Rattle.frames.specs.Octets.{IsEvent};
+ghost use Rattle.hlrcore.specs.Events.{event_of, raw_event, raw_of};
+ghost use Rattle.workers.specs.Receipts.{IsPlaced};
+
+use crate::placed::Placed;
+use crate::refusal::Refusal;
+use bumpalo::Bump;
+use hlrcore::{Event, RawEvent, ShardNumber};
+use shardlog::Shard;
+use std::alloc::Global;
+
+/// Reads an event in a worker's arena. If that fails, or the arena cannot be reset, the worker gets a new arena.
+pub(crate) fn read(alloc: Global, bump: &mut Bump, raw: &RawEvent) -> Result<Event, Refusal>
+    ensures same { IfOk result (λ event. raw_of event ≡ raw_event raw.now) }
+    ensures read { IfOk result (λ event. IsEvent (raw_event raw.now) (event_of event)) }
+{
+    match Event::of(alloc, bump, raw) {
+        Ok(event) => Ok(event),
+        Err(fault) => {
+            *bump = Bump::new(alloc);
+            Err(Refusal::from(fault))
+        }
+    }
+}
+
+/// Handles an event in its locked shard. The receipt says where its entry stands.
+pub(crate) fn apply(
+    shard: &mut Shard,
+    number: ShardNumber,
+    event: &Event,
+) -> Result<Placed, Refusal>
+    ensures ok { IfOk result (λ placed. IsPlaced number shard.old (raw_of event.now) placed shard.new) }
+    ensures err { OnErr result (shard.new ≡ shard.old) }
+{
+    let handled = shard.handle(event)?;
+    Ok(Placed {
+        shard: number,
+        position: handled.position,
+        outs: handled.outs,
+    })
+}

@@ -1,0 +1,224 @@
+//! A batch of jobs that workers share.
+
+ghost use Rattle.std.specs.Prelude.{◌≡◌, ◌+◌, ◌<◌, ◌≤◌, ◌++◌, ◌∷◌, [], List, length, map, replicate, true, false, IfOk, OnOk, IsOkAnd, IsTrue, ◌↔◌};
+ghost use Rattle.std.specs.List.Sorted.{IsPermutation, IsStrictlyIncreasing};
+ghost use Rattle.crossbeam_channel.specs.Claims.{view, IsSeatAt};
+ghost use Rattle.crossbeam_channel.specs.Ends.{sends_on, receives_on};
+ghost use Rattle.workers.specs.declared.rule.Work.TheVariants.{Do, Stop};
+ghost use Rattle.frames.specs.Account.{Job};
+ghost use Rattle.workers.specs.Hands.{hand, IsBatch};
+ghost use Rattle.workers.specs.Batch.{HasTaken, HasGathered, AreApart};
+
+use crate::gate::Gate;
+use crate::job::Job;
+use crate::office::Office;
+use crate::receipt::Receipt;
+use crate::rule::{Hires, Receiver, Seat, Sender, Sends, Totals, Work};
+use crate::worker::{Served, serve};
+use crossbeam_channel::bounded_with;
+use std::alloc::{AllocError, Global};
+use std::sync::Wait;
+use std::thread::{self, Promise, Scope, Threads};
+
+/// How many messages the channel holds.
+const CAPACITY: usize = 64;
+
+/// Sends one message. A reported disconnect proves nothing, so it tries again.
+fn put<R: Wait>(rt: &R, channel: &Sender, mut seat: Seat, work: Work) -> Seat
+    requires seat { IsSeatAt (sends_on channel.now) seat }
+    requires sends { (view seat).sends ≡ true }
+    requires batch { IsBatch ((view seat).sent ++ work ∷ []) }
+    ensures seat { IsSeatAt (sends_on channel.now) result }
+    ensures sent { view result ≡ hand true (view seat).shares ((view seat).sent ++ work ∷ []) (view seat).taken }
+{
+    let mut work = work;
+    for _ in rt.forever() {
+        match channel.send_as::<Sends, R>(rt, &mut seat, work) {
+            Ok(()) => return seat,
+            Err(refused) => work = refused.into_inner(),
+        }
+    }
+    unreachable!()
+}
+
+/// Sends copies of the jobs, until a copy fails.
+fn put_jobs<R: Wait>(
+    rt: &R,
+    alloc: Global,
+    channel: &Sender,
+    mut seat: Seat,
+    jobs: &[Job],
+) -> (Seat, Result<(), AllocError>)
+    requires seat { IsSeatAt (sends_on channel.now) seat }
+    requires new { (view seat ≡ hand true (view seat).shares [] []) }
+    ensures seat { IsSeatAt (sends_on channel.now) result.0 }
+    ensures sent { (sent : List Job) × (view result.0 ≡ hand true (view seat).shares (map Do sent) []) × OnOk result.1 (sent ≡ jobs.now) }
+{
+    for job in jobs {
+        match job.try_copy(alloc) {
+            Ok(copy) => seat = put(rt, channel, seat, Work::Do(copy)),
+            Err(refused) => return (seat, Err(refused)),
+        }
+    }
+    (seat, Ok(()))
+}
+
+/// Sends `Stop` `count` times.
+fn put_stops<R: Wait>(rt: &R, channel: &Sender, mut seat: Seat, count: usize) -> Seat
+    requires seat { IsSeatAt (sends_on channel.now) seat }
+    requires sends { (view seat).sends ≡ true }
+    requires batch { IsBatch (view seat).sent }
+    ensures seat { IsSeatAt (sends_on channel.now) result }
+    ensures sent { view result ≡ hand true (view seat).shares ((view seat).sent ++ replicate count Stop) (view seat).taken }
+{
+    for _ in 0..count {
+        seat = put(rt, channel, seat, Work::Stop);
+    }
+    seat
+}
+
+/// The promise of a worker's thread.
+#[derive(Clone, Copy)]
+struct Serving<'a>(&'a Receiver);
+
+impl<'a> Promise<Served> for Serving<'a> {
+    ghost kept_by = { λ p r. IsSeatAt (receives_on p.0.now) r.seat × HasTaken 1 (view r.seat) (map (λ x. x.job) r.receipts.items) r.refused };
+}
+
+/// Starts `left` more workers, sends the jobs and one `Stop` for each of all `workers`, and joins those `left`.
+fn team<'s, E, R: Threads + Wait + Sync, G: Gate + Sync>(
+    scope: &Scope<'s, E>,
+    rt: &'s R,
+    alloc: Global,
+    to: &Sender,
+    from: &'s Receiver,
+    office: &'s Office,
+    gate: &'s G,
+    jobs: &[Job],
+    workers: usize,
+    left: usize,
+    mut seat: Seat,
+) -> (Seat, Result<Vec<Receipt>, AllocError>)
+    requires ends { receives_on from.now ≡ sends_on to.now }
+    requires seat { IsSeatAt (sends_on to.now) seat }
+    requires new { view seat ≡ hand true (view seat).shares [] [] }
+    requires shares { left < (view seat).shares }
+    requires left { left ≤ workers }
+    ensures seat { IsSeatAt (sends_on to.now) result.0 }
+    ensures ok { IfOk result.1 (λ r. HasGathered (view seat).shares left jobs.now workers (map (λ x. x.job) r.items) (view result.0)) }
+{
+    if left == 0 {
+        let (seat, sent) = put_jobs(rt, alloc, to, seat, jobs);
+        let seat = put_stops(rt, to, seat, workers);
+        return (seat, sent.map(|()| Vec::new(alloc)));
+    }
+    let theirs = to.another::<Hires>(&mut seat);
+    let Ok(worker) = scope.spawn_with(Serving(from), move || {
+        serve(rt, alloc, from, theirs, office, gate)
+    }) else {
+        let seat = put_stops(rt, to, seat, workers - left);
+        return (seat, Err(AllocError));
+    };
+    let (seat, others) = team(
+        scope,
+        rt,
+        alloc,
+        to,
+        from,
+        office,
+        gate,
+        jobs,
+        workers,
+        left - 1,
+        seat,
+    );
+    gather(to, seat, others, worker.join(rt))
+}
+
+/// Joins a worker's pass, and appends its receipts to the others.
+fn gather(
+    to: &Sender,
+    mut seat: Seat,
+    others: Result<Vec<Receipt>, AllocError>,
+    served: Served,
+) -> (Seat, Result<Vec<Receipt>, AllocError>)
+    requires seat { IsSeatAt (sends_on to.now) seat × IsSeatAt (sends_on to.now) served.seat }
+    ensures seat { IsSeatAt (sends_on to.now) result.0 }
+    ensures view { view result.0 ≡ hand (view seat).sends ((view seat).shares + (view served.seat).shares) (view seat).sent ((view seat).taken ++ (view served.seat).taken) }
+    ensures all { IfOk result.1 (λ all. IsOkAnd others (λ o. (all.items ≡ o.items ++ served.receipts.items) × (served.refused ≡ false))) }
+{
+    let Served {
+        seat: theirs,
+        mut receipts,
+        refused,
+    } = served;
+    to.absorb::<Hires>(&mut seat, theirs);
+    if refused {
+        return (seat, Err(AllocError));
+    }
+    let Ok(mut all) = others else {
+        return (seat, Err(AllocError));
+    };
+    match all.append(&mut receipts) {
+        Ok(()) => (seat, Ok(all)),
+        Err(refused) => (seat, Err(refused)),
+    }
+}
+
+/// Whether the jobs' numbers are strictly ascending, so that none occurs twice.
+pub fn numbers_rise(jobs: &[Job]) -> bool
+    ensures rising { IsTrue result ↔ IsStrictlyIncreasing (map (λ j. j.number) jobs.now) }
+    ensures apart { IsTrue result → AreApart (map (λ j. j.number) jobs.now) }
+{
+    for next in 1..jobs.len() {
+        let before = &jobs[next - 1];
+        let after = &jobs[next];
+        if before.number.get() >= after.number.get() {
+            return false;
+        }
+    }
+    true
+}
+
+/// Has 1 to 16 workers, each in its own thread, handle copies of the jobs. There is one receipt for each job, by ascending
+/// number. If a worker could not be started, or there is no memory for a job's copy or the receipts, it returns an error after
+/// all started workers have stopped: some jobs may then have been handled without a receipt.
+///
+/// Limitation: no contract says which worker takes a job, in which order the jobs of a batch reach their shard, or that the call
+/// returns. That a receipt has its entry is known only from `reconcile`.
+pub fn run_batch<R: Threads + Wait + Sync, G: Gate + Sync>(
+    rt: &R,
+    alloc: Global,
+    office: &Office,
+    jobs: &[Job],
+    gate: &G,
+    workers: usize,
+) -> Result<Vec<Receipt>, AllocError>
+    requires workers { (1 ≤ workers) × (workers ≤ 16) }
+    requires distinct { AreApart (map (λ j. j.number) jobs.now) }
+    ensures one_each { IfOk result (λ rs. IsPermutation (map (λ j. j.number) jobs.now) (map (λ r. r.job) rs.items)) }
+    ensures rising { IfOk result (λ rs. IsStrictlyIncreasing (map (λ r. r.job) rs.items)) }
+{
+    let (to, from, seat) = bounded_with(alloc, CAPACITY)?;
+    let (sender, receiver) = (&to, &from);
+    let (mut seat, gathered) = thread::scope(
+        thread::scope_env(),
+        rt,
+        |scope| -> (Seat, Result<Vec<Receipt>, AllocError>)
+            requires ends { receives_on receiver.now ≡ sends_on sender.now }
+            requires seat { IsSeatAt (sends_on sender.now) seat }
+            requires view { view seat ≡ hand true 17 [] [] }
+            requires workers { workers ≤ 16 }
+            ensures seat { IsSeatAt (sends_on sender.entry.now) result.0 }
+            ensures ok { IfOk result.1 (λ r. HasGathered 17 workers jobs.entry.now workers (map (λ x. x.job) r.items) (view result.0)) }
+        {
+            team(
+                scope, rt, alloc, sender, receiver, office, gate, jobs, workers, workers, seat,
+            )
+        },
+    );
+    let mut receipts = gathered?;
+    to.learn_as::<Totals>(&mut seat);
+    receipts.sort_unstable_by_key(|r| r.job);
+    Ok(receipts)
+}

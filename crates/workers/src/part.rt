@@ -1,0 +1,118 @@
+//! A part of a batch: its events under numbers, and what is sent for them.
+
+ghost use Rattle.std.specs.Prelude.{◌≡◌, ◌++◌, map, max, flat_map, fold, Contains, IfOk, IfSome, OnOk, None};
+ghost use Rattle.frames.specs.Account.{Receipt};
+ghost use Rattle.hlrcore.specs.Events.{raw_event};
+ghost use Rattle.shard_state.specs.Frames.{raw_out};
+ghost use Rattle.workers.specs.Shared.{CountsFrom, end_at, events_of_jobs, numbers_of_jobs, sent_at, sent_for};
+ghost use Rattle.workers.specs.SharedFaults.{fault_in};
+
+use crate::job::{Job, JobNumber};
+use crate::placed::Placed;
+use crate::receipt::Receipt;
+use crate::refusal::Refusal;
+use crate::shared_fault::SharedFault;
+use hlrcore::{Out, RawEvent};
+use std::alloc::{AllocError, Global};
+
+/// How many entries a journal may have (profile).
+pub(crate) const MOST_ENTRIES: usize = 65_536;
+
+/// The events as jobs, numbered from `first` on.
+pub(crate) fn number_jobs(
+    alloc: Global,
+    first: u64,
+    events: Vec<RawEvent>,
+) -> Result<Vec<Job>, SharedFault>
+    ensures numbers { IfOk result (λ jobs. CountsFrom first (numbers_of_jobs jobs.items)) }
+    ensures events { IfOk result (λ jobs. events_of_jobs jobs.items ≡ map raw_event events.items) }
+{
+    let mut jobs = Vec::with_capacity(alloc, events.len())?;
+    let mut next = first;
+    for event in events {
+        let number = JobNumber::new(next).ok_or(SharedFault::Memory)?;
+        jobs.push(Job { number, event })?;
+        next = next.checked_add(1).ok_or(SharedFault::Memory)?;
+    }
+    Ok(jobs)
+}
+
+/// The fault that stops a part, if this is the answer to one of its jobs.
+fn fault_of(answer: &Result<Placed, Refusal>) -> Option<SharedFault>
+    ensures { result ≡ fault_in answer.now }
+{
+    match answer {
+        Ok(_) => None,
+        Err(refusal) => match refusal {
+            Refusal::NotMine | Refusal::JournalFull => None,
+            Refusal::NoRoom => Some(SharedFault::NoRoom),
+            Refusal::Memory | Refusal::ResetRefused => Some(SharedFault::Memory),
+        },
+    }
+}
+
+/// The fault of the first receipt that has one; the receipts are by ascending number.
+pub(crate) fn first_fault(receipts: &[Receipt]) -> Option<SharedFault>
+    ensures { IfSome result (λ _. (r : Receipt) × Contains receipts.now r × (r.place ≡ None)) }
+{
+    for receipt in receipts {
+        let fault = fault_of(&receipt.answer);
+        if fault.is_some() {
+            return fault;
+        }
+    }
+    None
+}
+
+/// Appends copies of the frames to those to be sent.
+fn copy_outs(alloc: Global, outs: &[Out], sent: &mut Vec<Out>) -> Result<(), AllocError>
+    ensures { OnOk result (map raw_out sent.new.items ≡ map raw_out sent.old.items ++ map raw_out outs.now) }
+{
+    for out in outs {
+        sent.push(out.try_copy(alloc)?)?;
+    }
+    Ok(())
+}
+
+/// Appends copies of the frames sent for a job.
+fn copy_answer(alloc: Global, receipt: &Receipt, sent: &mut Vec<Out>) -> Result<(), AllocError>
+    ensures { OnOk result (map raw_out sent.new.items ≡ map raw_out sent.old.items ++ sent_at receipt.now.place) }
+{
+    match &receipt.answer {
+        Ok(placed) => copy_outs(alloc, &placed.outs, sent),
+        Err(_) => Ok(()),
+    }
+}
+
+/// Appends copies of the frames sent for jobs, in the order of the receipts.
+pub(crate) fn copy_sent(
+    alloc: Global,
+    receipts: &[Receipt],
+    sent: &mut Vec<Out>,
+) -> Result<(), AllocError>
+    ensures { OnOk result (map raw_out sent.new.items ≡ map raw_out sent.old.items ++ flat_map (λ outs. outs) (sent_for receipts.now)) }
+{
+    for receipt in receipts {
+        copy_answer(alloc, receipt, sent)?;
+    }
+    Ok(())
+}
+
+/// The position after the entry of a receipt, if it has an entry at a position below the limit of a journal; else 0.
+fn end_of(receipt: &Receipt) -> usize
+    ensures { result ≡ end_at receipt.now.place }
+{
+    match &receipt.answer {
+        Ok(placed) if placed.position < MOST_ENTRIES => placed.position + 1,
+        _ => 0,
+    }
+}
+
+/// The least position, at least `before`, that is after the entry of every receipt.
+pub(crate) fn longest_with(before: usize, receipts: &[Receipt]) -> usize
+    ensures { result ≡ fold (λ n r. max n (end_at r.place)) before receipts.now }
+{
+    receipts
+        .iter()
+        .fold(before, |longest, receipt| longest.max(end_of(receipt)))
+}

@@ -1,0 +1,188 @@
+//! A register that workers share.
+
+use crate::batch::run_batch;
+use crate::gate::OpenGate;
+use crate::job::Job;
+use crate::office::Office;
+use crate::part::{MOST_ENTRIES, copy_sent, first_fault, longest_with, number_jobs};
+use crate::receipt::Receipt;
+use crate::settle::{cut_all, settle};
+use crate::shared_fault::SharedFault;
+use hlrcore::{Out, RawEvent};
+use records::Loaded;
+use shardlog::Shard;
+use std::alloc::{AllocError, Global};
+use std::marker::Model;
+use std::mem;
+use std::sync::Wait;
+use std::thread::Threads;
+
+/// A register that worker threads share: sixteen locked shards, and the jobs and receipts since their journals were last cut.
+/// Contracts see the bases of the shards, the jobs and the receipts.
+#[derive(Drop)]
+pub struct SharedRegister {
+    alloc: Global,
+    office: Option<Office>,
+    jobs: Vec<Job>,
+    receipts: Vec<Receipt>,
+    /// The number of the next job.
+    next: u64,
+    /// Each entry that the receipts name stands before this position: no journal is longer.
+    longest: usize,
+}
+
+impl Model for SharedRegister {
+    ghost use Rattle.workers.specs.Shared.{SharedState, bases_in, shared_state, shared_state_code};
+
+    ghost Value = { SharedState };
+
+    ghost coded = { shared_state_code };
+
+    ghost view = { λ s. shared_state (bases_in s.office) s.jobs.items s.receipts.items };
+}
+
+impl SharedRegister {
+    ghost use Rattle.std.specs.Prelude.{◌≡◌, ◌≤◌, ◌++◌, [], List, length, map, flat_map, vec_len, IfOk, OnOk};
+    ghost use Rattle.std.specs.List.Sorted.{IsStrictlyIncreasing};
+    ghost use Rattle.frames.specs.Octets as octets;
+    ghost use Rattle.hlrcore.specs.Events.{raw_event};
+    ghost use Rattle.machine.specs.Opening.{opening};
+    ghost use Rattle.machine.specs.State.{State};
+    ghost use Rattle.shard_state.specs.Frames.{raw_out};
+    ghost use Rattle.shard_state.specs.Shards.{directory_of, records_of};
+    ghost use Rattle.workers.specs.Shared.{GoesOn, HandsOut, StandsBehind, events_of_jobs, jobs_of_receipts, numbers_of_jobs, shared_state};
+
+    /// The register of a records file: its records, no open dialogue, and no job. On error the loaded value is dropped.
+    pub fn new(alloc: Global, loaded: Loaded) -> Result<SharedRegister, AllocError>
+        ensures begins { IfOk result (StandsBehind (opening (records_of loaded.records) (directory_of loaded.directory) loaded.hlr) [] []) }
+    {
+        let office = Office::new(alloc, loaded)?;
+        Ok(SharedRegister {
+            alloc,
+            office: Some(office),
+            jobs: Vec::new(alloc),
+            receipts: Vec::new(alloc),
+            next: 1,
+            longest: 0,
+        })
+    }
+
+    /// Has 1 to 16 workers handle a part of a batch. What it sends is appended to `sent`, event by event in the order of the part.
+    ///
+    /// If by the receipts some journal has no room for that many more entries, all journals are cut first, once jobs and receipts
+    /// account for them. The epochs are dropped.
+    ///
+    /// The part fails with the first of its jobs that is refused for lack of memory or of room, or if journals to be cut are not
+    /// accounted for. The register must not be used after that.
+    pub fn run_part<R: Threads + Wait + Sync>(
+        &mut self,
+        rt: &R,
+        workers: usize,
+        part: Vec<RawEvent>,
+        sent: &mut Vec<Out>,
+    ) -> Result<(), SharedFault>
+        requires workers { (1 ≤ workers) × (workers ≤ 16) }
+        requires few { length part.items ≤ 65536 }
+        ensures handles { OnOk result ((outs : List (List octets.RawOut)) × GoesOn self.old (map raw_event part.items) outs self.new × (map raw_out sent.new.items ≡ map raw_out sent.old.items ++ flat_map (λ o. o) outs)) }
+    {
+        self.make_room(part.len())?;
+        let jobs = self.number(part)?;
+        let receipts = self.handle(rt, workers, &jobs)?;
+        copy_sent(self.alloc, &receipts, sent)?;
+        self.keep(jobs, receipts)?;
+        Ok(())
+    }
+
+    /// Takes the shards out of their locks, if jobs and receipts since the last cut account for their journals. On error the shards
+    /// are dropped.
+    pub fn close(self) -> Result<Vec<Shard>, SharedFault>
+        ensures hands_out { IfOk result (λ shards. (begin : State) (events : List octets.RawEvent) (sent : List (List octets.RawOut)) → StandsBehind begin events sent self → HandsOut begin events sent shards.items) }
+    {
+        let SharedRegister {
+            alloc: _,
+            office,
+            jobs,
+            receipts,
+            next: _,
+            longest: _,
+        } = self;
+        match office {
+            Some(office) => settle(office, &jobs, &receipts),
+            None => Err(SharedFault::Unaccounted(0)),
+        }
+    }
+
+    /// Cuts all journals, if one of them has no room for `count` more entries.
+    fn make_room(&mut self, count: usize) -> Result<(), SharedFault>
+        requires { count ≤ 65536 }
+        ensures { OnOk result (GoesOn self.old [] [] self.new) }
+    {
+        if self.longest > MOST_ENTRIES - count {
+            return self.cut();
+        }
+        Ok(())
+    }
+
+    /// Cuts all journals, if jobs and receipts account for them.
+    fn cut(&mut self) -> Result<(), SharedFault>
+        ensures { OnOk result (GoesOn self.old [] [] self.new) }
+    {
+        let Some(office) = self.office.take() else {
+            return Err(SharedFault::Unaccounted(0));
+        };
+        let jobs = mem::replace(&mut self.jobs, Vec::new(self.alloc));
+        let receipts = mem::replace(&mut self.receipts, Vec::new(self.alloc));
+        let shards = settle(office, &jobs, &receipts)?;
+        let cut = cut_all(self.alloc, shards)?;
+        self.office = Some(Office::from_shards(self.alloc, cut)?);
+        self.longest = 0;
+        Ok(())
+    }
+
+    /// The events as jobs, with the next numbers.
+    fn number(&mut self, part: Vec<RawEvent>) -> Result<Vec<Job>, SharedFault>
+        ensures same { self.new ≡ self.old }
+        ensures rising { IfOk result (λ jobs. IsStrictlyIncreasing (numbers_of_jobs jobs.items)) }
+        ensures events { IfOk result (λ jobs. events_of_jobs jobs.items ≡ map raw_event part.items) }
+    {
+        let first = self.next;
+        let Some(next) = first.checked_add(part.len() as u64) else {
+            return Err(SharedFault::Memory);
+        };
+        self.next = next;
+        number_jobs(self.alloc, first, part)
+    }
+
+    /// Has workers handle the jobs. There is one receipt for each job, in the order of the jobs.
+    fn handle<R: Threads + Wait + Sync>(
+        &self,
+        rt: &R,
+        workers: usize,
+        jobs: &[Job],
+    ) -> Result<Vec<Receipt>, SharedFault>
+        requires workers { (1 ≤ workers) × (workers ≤ 16) }
+        requires rising { IsStrictlyIncreasing (numbers_of_jobs jobs.now) }
+        ensures pairs { IfOk result (λ receipts. jobs_of_receipts receipts.items ≡ numbers_of_jobs jobs.now) }
+    {
+        let Some(office) = &self.office else {
+            return Err(SharedFault::Unaccounted(0));
+        };
+        let receipts = run_batch(rt, self.alloc, office, jobs, &OpenGate, workers)?;
+        match first_fault(&receipts) {
+            Some(fault) => Err(fault),
+            None => Ok(receipts),
+        }
+    }
+
+    /// Appends the jobs and their receipts to those since the last cut.
+    fn keep(&mut self, jobs: Vec<Job>, receipts: Vec<Receipt>) -> Result<(), AllocError>
+        ensures { OnOk result (self.new ≡ shared_state self.old.bases (self.old.jobs ++ jobs.items) (self.old.receipts ++ receipts.items)) }
+    {
+        let mut jobs = jobs;
+        let mut receipts = receipts;
+        self.longest = longest_with(self.longest, &receipts);
+        self.jobs.append(&mut jobs)?;
+        self.receipts.append(&mut receipts)?;
+        Ok(())
+    }
+}
