@@ -50,7 +50,7 @@ fn accepted(alloc: Global) -> Result<OwnTree, Memory> {
     OwnTree::around(alloc, tag(Application, true, 11), external)
 }
 
-/// The component that gives the route.
+/// The component with the route.
 fn routed(alloc: Global) -> Result<OwnTree, Memory> {
     use Class::{ContextSpecific, Universal};
     let imsi = [0x32, 0x14, 0x05, 0x00, 0x00, 0x00, 0x00, 0xf1];

@@ -6,7 +6,7 @@ use hlr_types::{Digits, Peer};
 use msgarena::{Message, Round, Verdict};
 use std::alloc::Global;
 
-/// Takes the octets in each round, all in one arena; counts the components of what they read to.
+/// Reads the octets in each round, all in one arena; counts the components.
 pub fn run(alloc: Global, octets: &[u8], rounds: u64) -> Result<u64> {
     let Some(digits) = Digits::from_text(b"447700909999") else {
         bail!("no digits");

@@ -1,10 +1,12 @@
 //! How long the layers take.
 //!
-//! Without words one round of each is run, and what it did is counted. With a name and a number, as in `read 1000000`, so
-//! many rounds of that one are run, and the time of one is printed, in nanoseconds.
+//! Without words one round of each is run, and what it did is counted. With a name and a number, as in `read 1000000`, that
+//! many rounds of it are run, and the time of one is printed, in nanoseconds. `batches 65536` times a batch of that many
+//! routes in one thread and with 1 to 16 workers.
 #![tactic(auto)]
 
 mod answer;
+mod batches;
 mod judging;
 mod reading;
 mod request;
@@ -15,6 +17,8 @@ mod writing;
 use anyhow::{Context, Result, bail};
 use std::alloc::Global;
 use std::env;
+use std::sync::Wait;
+use std::thread::Threads;
 use std::time::Instant;
 
 /// What can be run.
@@ -42,8 +46,8 @@ fn layer_of(name: &str) -> Option<Layer> {
     }
 }
 
-/// Runs so many rounds, and counts what they did: elements that were read, components that were heard, octets that were
-/// sent or written, ids that were taken, or deadlines that were found.
+/// Runs this number of rounds, and counts what they did: elements read, components read, octets sent or written, ids taken, or
+/// deadlines found.
 fn run(alloc: Global, layer: Layer, rounds: u64) -> Result<u64> {
     match layer {
         Layer::Read => reading::run(alloc, &request::FIRST_ROUTE, rounds),
@@ -76,7 +80,15 @@ fn count(rt: &HostRuntime) -> Result<()> {
     Ok(())
 }
 
-fn time(rt: &HostRuntime, name: &str, rounds: u64) -> Result<()> {
+fn time<R: Threads + Wait + Sync>(
+    rt: &HostRuntime,
+    threads: &R,
+    name: &str,
+    rounds: u64,
+) -> Result<()> {
+    if name == "batches" {
+        return batches::time(rt, threads, rounds);
+    }
     let layer = layer_of(name).context("no such layer")?;
     let start = Instant::now(rt)?;
     let done = run(rt.alloc(), layer, rounds)?;
@@ -86,11 +98,15 @@ fn time(rt: &HostRuntime, name: &str, rounds: u64) -> Result<()> {
     Ok(())
 }
 
-fn main(rt: HostRuntime) -> Result<()> {
-    let mut words = env::args(&rt)?.skip(1);
+fn serve<R: Threads + Wait + Sync>(rt: &HostRuntime, threads: &R) -> Result<()> {
+    let mut words = env::args(rt)?.skip(1);
     match (words.next(), words.next()) {
-        (None, _) => count(&rt),
-        (Some(name), Some(rounds)) => time(&rt, &name, rounds.parse::<u64>()?),
+        (None, _) => count(rt),
+        (Some(name), Some(rounds)) => time(rt, threads, &name, rounds.parse::<u64>()?),
         (Some(_), None) => bail!("a layer and a number of rounds"),
     }
+}
+
+fn main(rt: HostRuntime) -> Result<()> {
+    serve(&rt, &rt)
 }

@@ -1,4 +1,4 @@
-//! Reading a frame into an arena, and giving the arena back.
+//! Reading a frame into an arena, and resetting the arena.
 
 use anyhow::Result;
 use bertree::{MAX_LEVELS, Node, read_tree};
@@ -18,7 +18,7 @@ pub fn run(alloc: Global, octets: &[u8], rounds: u64) -> Result<u64> {
     Ok(elements)
 }
 
-/// How many elements stand in so many levels of a tree.
+/// The number of elements in the first `levels` levels of a tree.
 fn count(node: &Node<'_>, levels: usize) -> u64 {
     if levels == 0 {
         return 0;

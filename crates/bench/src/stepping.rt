@@ -12,7 +12,7 @@ const RECORDS: &[u8] = b"HLR1 447700900100
 234150000000001 447700900000 11,21 * 447700900011,447700900001,-,s
 ";
 
-/// Takes the octets in each round, all in one arena and one shard; counts the octets that are sent.
+/// Handles the octets in each round, all in one arena and one shard; counts the octets that are sent.
 pub fn run(alloc: Global, octets: &[u8], rounds: u64) -> Result<u64> {
     let Some(digits) = Digits::from_text(b"447700909999") else {
         bail!("no digits");

@@ -6,7 +6,7 @@ use hlr_types::Tid;
 use std::alloc::Global;
 use tidalloc::{IdFault, Ids};
 
-/// Takes an id and gives it back in each round, 4,095 others being live; counts the ids that were taken.
+/// Takes an id and frees it in each round, with 4,095 others live; counts the ids taken.
 pub fn take_ids(alloc: Global, rounds: u64) -> Result<u64> {
     let mut ids = Ids::new(alloc, 0)?;
     for _ in 1..Ids::ROOM {
@@ -26,7 +26,7 @@ fn take_and_give_back(ids: &mut Ids) -> Result<(), IdFault> {
     Ok(())
 }
 
-/// Finds the least of 4,096 deadlines in each round and sets it to be the last; counts those that were found.
+/// Finds the least of 4,096 deadlines in each round and makes it the last; counts those found.
 pub fn move_deadlines(alloc: Global, rounds: u64) -> Result<u64> {
     let mut deadlines = Deadlines::new(alloc);
     for number in 0..4096u32 {

@@ -1,4 +1,11 @@
+pub mod InputLaws
 pub mod OctetLaws
 pub mod LineLaws
 pub mod TickLaws
 pub mod LetterLemmas
+pub mod CommandRows
+pub mod CommandOptions
+pub mod CommandTurns
+pub mod CommandWalk
+pub mod CommandEnd
+pub mod CommandLaws

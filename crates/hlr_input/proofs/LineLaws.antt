@@ -55,7 +55,7 @@ imsi_only text r digits e is = e ∙ imsi_again text digits is
 o_is_not_f : codes "O" ≡ codes "F" → ⊥
 o_is_not_f e = false≢true (ap (λ (t : List ℕ). is_text t (codes "F")) e)
 
--- what is read of a field that stands for codes
+-- what is read from a field that stands for codes
 pub some_read : (r : Option (List ℕ)) (x others : List ℕ) → r ≡ Some x → r ≡ Some others → x ≡ others
 some_read None x others is e = absurd cc
 some_read (Some y) x others is e = cc

@@ -1,4 +1,4 @@
--- What the octets of a frame read to is what they stand for, and what they stand for is read.
+-- The octets of a frame read to exactly what they stand for.
 use Rattle.std.proofs.Common.{◌≡◌, ℕ, zero, suc, ◌+◌, ◌-◌, ◌<◌, ◌≤◌, Bool, true, false, cond, List, [], ◌∷◌, ◌++◌, length, take, drop, refl, sym, ap, subst, ◌∙◌, arith, append_assoc, inl, inr}
 use Rattle.std.specs.Prelude.{◌&&◌, ◌==◌, nat_le, nat_lt, IsTrue, ◌↔◌, Option, Some, None, option_map, option_and_then, slice_index, slice_index_or, slice_get, codes, IfSome}
 use Rattle.std.specs.List.{list_any}
@@ -296,7 +296,7 @@ octets_in_found ids text octets e =
           ]
     ]
 
--- the octets that were read stand in the text
+-- the octets that were read are those of the text
 pub octets_found : {A : Type 0} (items : A → List ℕ) (ids : List (List ℕ)) (text : List ℕ) (read : Option A) → option_map items read ≡ octets_in ids text
     → IfSome read (λ octets. (groups : List Group) × IsOctets text groups × (octets_of ids groups ≡ Some (items octets)))
 octets_found items ids text None e = tt

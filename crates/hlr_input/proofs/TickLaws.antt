@@ -14,7 +14,7 @@ use Rattle.hlr_input.specs.Reading.{is_plain}
 own : IsNumeralModel (AllDigits 10) (digits_value 10)
 own = numerals_by_value (AllDigits 10) tells_digits
 
--- a plain text has no plus sign, is not empty, and begins with 0 only where it stands alone
+-- a plain text has no plus sign, is not empty, and begins with 0 only if it is `0`
 pub plain_facts : (text : List ℕ) → is_plain text ≡ true → (0 < length text) × (get_or text 0 0 ≢ 43) × (get_or text 0 0 ≡ 48 → length text ≡ 1)
 plain_facts [] e = absurd (false≢true e)
 plain_facts (first ∷ more) e =

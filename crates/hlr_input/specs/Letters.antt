@@ -13,13 +13,13 @@ noted ids None = ids
 noted ids (Some id) =
     if list_any (λ i. is_same i id) ids then ids else if nat_lt (length ids) 26 then ids ++ id ∷ [] else ids
 
--- The originating transaction id at the front of a message's contents, if it has four octets: `48 04` and the id.
+-- The originating transaction id at the front of a message's contents (Q.773), if it has four octets: `48 04` and the id.
 abbrev pub id_in : List ℕ → Option (List ℕ)
 id_in contents =
     if nat_le 6 (length contents) && (slice_index contents 0 == 0x48) && (slice_index contents 1 == 4)
     then Some (take 4 (drop 2 contents)) else None
 
--- The length octets behind the first one (X.690, 8.1.3).
+-- The number of length octets after the first one (X.690, 8.1.3).
 abbrev pub further_length_octets : ℕ → ℕ
 further_length_octets first = if nat_lt first 128 then 0 else first - 128
 

@@ -2,3 +2,6 @@ pub mod Octets
 pub mod Script
 pub mod Letters
 pub mod Reading
+pub mod CommandLine
+pub mod Command
+pub mod Seen

@@ -48,7 +48,7 @@ is_plain (first ∷ more) = if first == 48 then length more == 0 else nat_le 49 
 
 -- ---- lines
 
--- What a call answers for a line: what it says and nothing else, that it says nothing, or want of memory.
+-- The result of a call for a line: what the line says and nothing else, that it says nothing, or out of memory.
 abbrev pub Reads : (Line → Type 0) → Result Item LineFault → Type 0
 Reads Says (Ok item) = Says (line_of item) × ((said : Line) → Says said → line_of item ≡ said)
 Reads Says (Err Bad) = (said : Line) → Says said → ⊥

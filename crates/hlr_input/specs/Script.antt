@@ -1,4 +1,4 @@
--- The script: the lines that say what comes to the register (profile).
+-- The script: lines that say what the register receives (profile).
 use Rattle.std.specs.Prelude.{◌≡◌, ℕ, ◌≤◌, ◌^◌, List, [], ◌∷◌, codes as text}
 use Rattle.std.specs.Fmt.{decimal}
 use Rattle.records.specs.Spelling.{IsNumber, IsImsiNumber, IsCodes}
@@ -8,8 +8,8 @@ use Rattle.hlr_input.specs.declared.item.Item.{Item}
 use Rattle.hlr_input.specs.declared.item.Item.TheVariants as item
 use Rattle.hlr_input.specs.Octets.{IsOctets}
 
--- What a line says: a frame from this address with these octets, as they are written; a clock value of each shard; an
--- expiry of each shard; the end of a batch; other teleservice codes for a subscriber; the end of a subscription.
+-- What a line says: a frame from this address with these octets, as written; a clock value for each shard; an expiry of each
+-- shard; the end of a batch; new teleservice codes for a subscriber; the end of a subscription.
 pub data Line : Type 0 where
   Frame : (from octets : List ℕ) → Line
   Clock : (now : ℕ) → Line
@@ -38,12 +38,12 @@ Say _ _ = ⊥
 abbrev pub IsLine : List ℕ → Line → Type 0
 IsLine line said = Say (parts 32 line) said
 
--- The octets of a frame are of their form.
+-- The octets of a frame have their form.
 abbrev pub HasOctets : Line → Type 0
 HasOctets (Frame from field) = (groups : List Group) × IsOctets field groups
 HasOctets _ = Unit {0}
 
--- The line says this, and its octets are of their form.
+-- The line says this, and its octets have their form.
 abbrev pub IsGoodLine : List ℕ → Line → Type 0
 IsGoodLine line said = IsLine line said × HasOctets said
 

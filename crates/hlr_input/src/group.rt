@@ -1,7 +1,7 @@
 //! Two characters of a frame's octets.
 
-/// What two characters stand for: an octet in hexadecimal digits, or `$` and one of the letters A to Z, by its place
-/// from 0 on. A letter stands for the four octets of a local id.
+/// What two characters stand for: an octet in hexadecimal digits, or `$` and a letter A to Z, numbered from 0. A letter stands
+/// for the four octets of a local id (profile).
 #[derive(Clone, Copy, PartialEq, Eq, Debug)]
 pub enum Group {
     Octet(u8),

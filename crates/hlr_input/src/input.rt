@@ -3,42 +3,29 @@
 ghost use Rattle.std.specs.Prelude.{◌≡◌, ◌≤◌, vec_len, IfOk, IfSome};
 
 use std::alloc::Global;
-use std::io::Read;
+use std::io::{ErrorKind, Read};
 
-/// The most octets of a file (profile).
+/// How many octets a file may have (profile).
 pub const MOST_OCTETS: usize = 16_777_216;
-
-/// The most reads of one file (profile).
-pub const MOST_READS: u32 = 33_554_432;
 
 /// Why a file was not read.
 #[derive(Clone, Copy, PartialEq, Eq, Debug, Drop)]
 pub enum InputFault {
-    /// A read failed, or the file has more octets or took more reads than the limits allow.
+    /// A read failed, or the file is longer than the limit.
     Unreadable,
+    /// Out of memory.
     Memory,
 }
 
-/// All that a reader gives, to its end.
+/// Reads a reader to its end. A read that a signal interrupts is repeated.
 pub fn read_all<R: Read>(alloc: Global, reader: &mut R) -> Result<Vec<u8>, InputFault>
     ensures most { IfOk result (λ text. vec_len text ≤ MOST_OCTETS) }
     ensures whole { IfOk result (λ text. IfSome (R.remaining reader.old) (λ all. text.items ≡ all)) }
 {
-    let mut buffer = [0u8; 8192];
     let mut text = Vec::new(alloc);
-    for _ in 0..MOST_READS {
-        let Ok(count) = reader.read(&mut buffer) else {
-            return Err(InputFault::Unreadable);
-        };
-        if count == 0 {
-            return Ok(text);
-        }
-        if MOST_OCTETS - text.len() < count {
-            return Err(InputFault::Unreadable);
-        }
-        if text.extend_from_slice(&buffer[..count]).is_err() {
-            return Err(InputFault::Memory);
-        }
+    match reader.take(MOST_OCTETS as u64 + 1).read_to_end(&mut text) {
+        Ok(_) if text.len() <= MOST_OCTETS => Ok(text),
+        Err(error) if error.kind() == ErrorKind::OutOfMemory => Err(InputFault::Memory),
+        _ => Err(InputFault::Unreadable),
     }
-    Err(InputFault::Unreadable)
 }

@@ -6,7 +6,7 @@ use records::Codes;
 /// One line of a script.
 #[derive(Drop)]
 pub enum Item<'a> {
-    /// A frame: where it comes from, and its octets as they stand in the script.
+    /// A frame: its source address, and its octets as written in the script.
     Frame { from: Peer, octets: &'a [u8] },
     /// A clock value for each shard.
     Clock(u64),
@@ -14,7 +14,7 @@ pub enum Item<'a> {
     Expire,
     /// The end of a batch.
     Batch,
-    /// Other teleservice codes for a subscriber.
+    /// New teleservice codes for a subscriber.
     Codes { imsi: Imsi, codes: Codes },
     /// The end of a subscription.
     Withdraw { imsi: Imsi },
@@ -23,7 +23,7 @@ pub enum Item<'a> {
 /// Why a line was not read.
 #[derive(Clone, Copy, PartialEq, Eq, Debug, Drop)]
 pub enum LineFault {
-    /// The line is of no form.
+    /// The line has none of the forms.
     Bad,
     Memory,
 }

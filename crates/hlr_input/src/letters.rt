@@ -6,7 +6,7 @@ use hlr_types::Tid;
 use std::alloc::{AllocError, Global};
 use std::marker::Model;
 
-/// The most letters, A to Z.
+/// The number of letters, A to Z.
 pub const MOST_LETTERS: usize = 26;
 
 /// The tag of a Begin (Q.773).
@@ -15,7 +15,7 @@ const BEGIN: u8 = 0x62;
 /// The tag of a Continue (Q.773).
 const CONTINUE: u8 = 0x65;
 
-/// The local ids that the letters stand for: the first 26 different ones that were printed, in printed order.
+/// The local ids that the letters stand for: the first 26 different ones that were printed, in that order (profile).
 #[derive(Drop)]
 pub struct Letters {
     ids: Vec<Tid>,
@@ -41,15 +41,15 @@ impl Letters {
         }
     }
 
-    /// The ids, that of A first.
+    /// The ids, beginning with that of A.
     pub fn ids(&self) -> &[Tid]
         ensures { result.now ≡ self.now }
     {
         &self.ids
     }
 
-    /// Notes the local id that a printed frame carries: the originating id of a Begin or a Continue, if it has four octets
-    /// and a letter is left.
+    /// Records the local id that a printed frame carries: the originating id of a Begin or a Continue (Q.773), if it has four
+    /// octets and a letter is left.
     pub fn note(&mut self, frame: &[u8]) -> Result<(), AllocError>
         ensures ok { OnOk result (self.new ≡ noted self.old (originating_id frame.now)) }
         ensures err { OnErr result (self.new ≡ self.old) }

@@ -1,7 +1,7 @@
-//! What the program is given: the words of its command line, whole files, and the lines of a script with what they say.
+//! The program's input: the words of its command line, whole files, and the lines of a script with their meaning.
 //!
-//! A line is read once it is cut from its script (`Place`, `read_line`); the octets of a frame stay as they are written until the
-//! letters in them have their ids (`Letters`, `read_octets`).
+//! A line is cut from its script and then read (`Place`, `read_line`). The octets of a frame stay as written until the letters in
+//! them have their ids (`Letters`, `read_octets`).
 #![tactic(auto)]
 
 mod group;
@@ -12,9 +12,8 @@ mod line;
 mod octets;
 mod options;
 mod place;
-#[cfg(test)]
-mod tests;
 mod ticks;
+mod words;
 
 pub use group::Group;
 pub use input::{InputFault, MOST_OCTETS, read_all};
@@ -22,5 +21,6 @@ pub use item::{Item, LineFault};
 pub use letters::Letters;
 pub use line::{check_line, read_line};
 pub use octets::{has_letter, have_ids, read_octets};
-pub use options::{Options, WordsFault, read_words};
+pub use options::{Options, WordsFault};
 pub use place::{Numbered, Place};
+pub use words::read_words;

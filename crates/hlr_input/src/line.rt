@@ -16,17 +16,17 @@ use hlr_types::{Digits, Imsi, Peer};
 use records::{Codes, cut};
 use std::alloc::Global;
 
-/// Reads a line, which has its fields with one space between them:
+/// Reads a line; its fields are separated by one space:
 ///
-/// - `F <from> <octets>`: a frame from 1 to 16 digits, its octets not looked at here;
+/// - `F <from> <octets>`: a frame from an address of 1 to 16 digits; its octets are not checked here;
 /// - `C <ticks>`: a clock value;
 /// - `E`: an expiry;
 /// - `W`: the end of a batch;
-/// - `O <imsi> <codes>`: other teleservice codes, in the form of the records file;
+/// - `O <imsi> <codes>`: new teleservice codes, in the form of the records file;
 /// - `X <imsi>`: the end of a subscription.
 #[tactic(auto, using(crate::proofs::LineLaws::reads_found, crate::proofs::LineLaws::reads_only))]
 pub fn read_line<'a>(alloc: Global, line: &'a [u8]) -> Result<Item<'a>, LineFault>
-    // What is read is what the line says, and what it says is read, unless memory runs out.
+    // The result is exactly what the line says, unless memory runs out.
     ensures found { IfOk result (λ item. IsLine line.now (line_of item)) }
     ensures only { (said : Line) → IsLine line.now said
         → MatchResult result (λ item. line_of item ≡ said) (λ fault. fault ≡ Memory) }
@@ -34,7 +34,7 @@ pub fn read_line<'a>(alloc: Global, line: &'a [u8]) -> Result<Item<'a>, LineFaul
     read_fields(alloc, line)
 }
 
-/// Whether a line is of a form, its octets too.
+/// Checks that a line has one of the forms, its octets too.
 pub fn check_line(alloc: Global, line: &[u8]) -> Result<(), LineFault>
     ensures good { OnOk result ((said : Line) × IsGoodLine line.now said) }
     ensures bad { result ≡ Err LineFault.Bad → (said : Line) → IsGoodLine line.now said → ⊥ }

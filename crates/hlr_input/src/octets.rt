@@ -13,8 +13,8 @@ use hex::FromHex;
 use hlr_types::Tid;
 use std::alloc::{AllocError, Global};
 
-/// Whether the text is the octets of a frame: `-` where there is none, otherwise groups of two characters, each an octet
-/// in hexadecimal digits of either case, or `$` and a letter.
+/// Whether the text is the octets of a frame: `-` for none, otherwise groups of two characters, each an octet in hexadecimal
+/// digits of either case, or `$` and a letter.
 #[tactic(auto, using(crate::proofs::OctetLaws::stands_exactly))]
 pub fn are_octets(text: &[u8]) -> bool
     ensures { IsTrue result ↔ ((groups : List Group) × IsOctets text.now groups) }
@@ -22,7 +22,7 @@ pub fn are_octets(text: &[u8]) -> bool
     stand(text, MOST_LETTERS)
 }
 
-/// Whether each letter of a frame's octets has an id, where so many are known.
+/// Whether each letter of a frame's octets has an id, if the first `known` letters have one.
 #[tactic(auto, using(crate::proofs::OctetLaws::stand_known))]
 pub fn have_ids(text: &[u8], known: usize) -> bool
     ensures { (groups : List Group) → IsOctets text.now groups → result ≡ are_known known groups }
@@ -30,14 +30,14 @@ pub fn have_ids(text: &[u8], known: usize) -> bool
     stand(text, known)
 }
 
-/// Whether a text has the mark of a letter.
+/// Whether a text has a `$`.
 pub fn has_letter(text: &[u8]) -> bool
     ensures { result ≡ list_any (λ character. character == 36) text.now }
 {
     text.contains(&b'$')
 }
 
-/// Whether the text is the octets of a frame, with the first so many letters alone.
+/// Whether the text is the octets of a frame, with no letter but the first `known`.
 fn stand(text: &[u8], known: usize) -> bool
     ensures { result ≡ octets_stand known text.now }
 {
@@ -50,7 +50,7 @@ fn stand(text: &[u8], known: usize) -> bool
     are_groups(text, known)
 }
 
-/// Whether the text is groups of two characters, with the first so many letters alone.
+/// Whether the text is groups of two characters, with no letter but the first `known`.
 fn are_groups(text: &[u8], known: usize) -> bool
     ensures { result ≡ are_groups known text.now }
 {
@@ -65,7 +65,7 @@ fn are_groups(text: &[u8], known: usize) -> bool
     rest.is_empty()
 }
 
-/// Whether it is a group, and none of another letter.
+/// Whether it is a group, and no letter but the first `known`.
 fn stands(group: Option<Group>, known: usize) -> bool
     ensures { result ≡ stands known group }
 {
@@ -76,8 +76,7 @@ fn stands(group: Option<Group>, known: usize) -> bool
     }
 }
 
-/// The octets of a frame, with these ids in the place of the letters, or none where the text is of another form or a letter
-/// has no id.
+/// The octets of a frame, with these ids in place of the letters. `None` if the text has another form or a letter has no id.
 #[tactic(auto, using(crate::proofs::OctetLaws::octets_found, crate::proofs::OctetLaws::octets_again))]
 pub fn read_octets(alloc: Global, text: &[u8], ids: &[Tid]) -> Result<Option<Vec<u8>>, AllocError>
     ensures found { IfOk result (λ read. IfSome read (λ octets.
@@ -148,7 +147,7 @@ fn letter(character: u8) -> Option<Group>
     }
 }
 
-/// The octet of two hexadecimal digits.
+/// The octet that two hexadecimal digits stand for.
 fn octet(pair: &[u8]) -> Option<u8>
     ensures { result ≡ octet_in pair.now }
 {

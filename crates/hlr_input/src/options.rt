@@ -1,10 +1,11 @@
-//! The command line.
+//! The command line's options, and its faults.
 
-ghost use Rattle.std.specs.Prelude.{◌≤◌, IfSome};
+ghost use Rattle.std.specs.Prelude.{◌≡◌, ◌≤◌, IfSome};
+ghost use Rattle.hlr_input.specs.CommandLine.{workers_of};
 
+use clap::Error;
 use clap::error::ErrorKind;
-use clap::{Arg, ArgAction, Command, Error};
-use std::alloc::{AllocError, Global};
+use std::alloc::AllocError;
 
 /// What the words ask for.
 #[derive(Drop)]
@@ -13,9 +14,9 @@ pub struct Options {
     pub records: String,
     /// The path of the script.
     pub script: String,
-    /// How many worker threads: 0 for one thread and no lock, at most 16.
+    /// The number of worker threads, at most 16; 0 for one thread and no lock.
     pub workers: u8,
-    /// Whether records, dialogues and journal are printed at the end.
+    /// Whether records, dialogues and journals are printed at the end.
     pub list: bool,
     /// Whether the records are printed as a records file at the very end.
     pub save: bool,
@@ -41,8 +42,16 @@ impl From<AllocError> for WordsFault {
     }
 }
 
-/// Every answer of `clap` that is no match, help and version among them, is no command line.
+/// Every answer of `clap` other than a match, help and version included, counts as no command line.
 impl From<Error> for WordsFault {
+    ghost use Rattle.std.specs.Prelude.{◌≡◌};
+    ghost use Rattle.clap.specs.Words.{kind_of};
+    ghost use Rattle.clap.specs.declared.error.kind.ErrorKind.TheVariants.{OutOfMemory};
+    ghost use Rattle.hlr_input.specs.declared.options.WordsFault.TheVariants.{Line, Memory};
+
+    ghost from_gives = { λ error fault. (kind_of error ≡ OutOfMemory → fault ≡ Memory)
+        × ((kind_of error ≡ OutOfMemory → ⊥) → fault ≡ Line) };
+
     fn from(error: Error) -> WordsFault {
         if error.kind() == ErrorKind::OutOfMemory {
             WordsFault::Memory
@@ -52,50 +61,10 @@ impl From<Error> for WordsFault {
     }
 }
 
-fn command<'a>(alloc: Global) -> Result<Command<'a>, AllocError> {
-    let records = Arg::new(alloc, "records").required(true);
-    let script = Arg::new(alloc, "script").required(true);
-    let workers = Arg::new(alloc, "workers")
-        .long("workers")
-        .action(ArgAction::Set);
-    let list = Arg::new(alloc, "list")
-        .long("list")
-        .action(ArgAction::SetTrue);
-    let save = Arg::new(alloc, "save")
-        .long("save")
-        .action(ArgAction::SetTrue);
-    Command::new(alloc, "hlr")
-        .arg(records)?
-        .arg(script)?
-        .arg(workers)?
-        .arg(list)?
-        .arg(save)
-}
-
-/// What the words ask for, the first word being the program's name: `hlr RECORDS SCRIPT [--workers N] [--list] [--save]`,
-/// where N is 0 to 16. Each option stands once; `--workers=N` is read, and `--` ends the options.
-pub fn read_words(alloc: Global, words: &[String]) -> Result<Options, WordsFault> {
-    let matches = command(alloc)?.try_get_matches_from(words)?;
-    let (Some(records), Some(script)) = (matches.get_str("records"), matches.get_str("script"))
-    else {
-        return Err(WordsFault::Line);
-    };
-    let workers = match matches.get_str("workers") {
-        Some(text) => workers_in(text.as_bytes()).ok_or(WordsFault::Line)?,
-        None => 0,
-    };
-    Ok(Options {
-        records: String::from_str(alloc, records)?,
-        script: String::from_str(alloc, script)?,
-        workers,
-        list: matches.get_flag("list"),
-        save: matches.get_flag("save"),
-    })
-}
-
 /// A number of workers, 0 to 16, in decimal without sign or leading zero.
-fn workers_in(text: &[u8]) -> Option<u8>
-    ensures { IfSome result (λ workers. workers ≤ 16) }
+pub(crate) fn workers_in(text: &[u8]) -> Option<u8>
+    ensures few { IfSome result (λ workers. workers ≤ 16) }
+    ensures value { result ≡ workers_of text.now }
 {
     match text {
         [digit @ b'0'..=b'9'] => Some(*digit - b'0'),

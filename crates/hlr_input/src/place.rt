@@ -5,7 +5,7 @@ ghost use Rattle.records.specs.File.{lines};
 
 use records::first_line;
 
-/// A place in a script: the lines from there on, and how many stand before.
+/// A place in a script: the lines from there on, and how many come before.
 #[derive(Clone, Copy)]
 pub struct Place<'a> {
     pub rest: &'a [u8],
@@ -21,7 +21,7 @@ pub struct Numbered<'a> {
 }
 
 impl<'a> Place<'a> {
-    /// The begin of a script.
+    /// The beginning of a script.
     pub fn new(script: &'a [u8]) -> Place<'a>
         ensures whole { result.rest.now ≡ script.now }
         ensures first { result.before ≡ 0 }
@@ -33,7 +33,7 @@ impl<'a> Place<'a> {
         }
     }
 
-    /// The next line, and the place behind it.
+    /// The next line, and the place after it.
     #[tactic(auto, using(records::proofs::LinesLemmas::lines_nil))]
     pub fn next(self) -> Option<(Numbered<'a>, Place<'a>)>
         ensures end { IsNone result ↔ (self.entry.rest.now ≡ []) }

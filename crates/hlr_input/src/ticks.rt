@@ -28,7 +28,7 @@ pub fn ticks(text: &[u8]) -> Option<u64>
     }
 }
 
-/// Whether the text begins with a digit, which is 0 only where it stands alone.
+/// Whether the text begins with a digit, which is 0 only if it is the only one.
 fn is_plain(text: &[u8]) -> bool
     ensures { result ≡ is_plain text.now }
 {

@@ -10,7 +10,7 @@ use Rattle.hlr_input.proofs.OctetLaws.{known_without}
 use Rattle.records.specs.File.{parts}
 use Rattle.records.proofs.FieldLaws.{joined_again}
 
--- what the lines that are left complete is what the whole gives
+-- the remaining lines complete the result of the whole
 pub record Completes (Good Bad : List ℕ → Type 0) (whole : List (List ℕ)) (start : ℕ) (rest : List (List ℕ)) (before : ℕ) : Type 0 where
   pub all : AllByRecursion Good rest → AllByRecursion Good whole
   pub first : (n : ℕ) → IsFirst Good Bad rest before n → IsFirst Good Bad whole start n

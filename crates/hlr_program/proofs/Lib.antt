@@ -1,7 +1,13 @@
 pub mod CheckLaws
+pub mod WriteLemmas
 pub mod PrintLemmas
-pub mod EngineLemmas
 pub mod RunLemmas
-pub mod BatchLemmas
+pub mod JournalLemmas
+pub mod RegisterLemmas
+pub mod PartLemmas
+pub mod GatherLemmas
 pub mod ScriptLemmas
-pub mod ServeLemmas
+pub mod ListLemmas
+pub mod EndLemmas
+pub mod SoundLemmas
+pub mod OperatorLemmas

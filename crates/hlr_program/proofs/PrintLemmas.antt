@@ -1,7 +1,6 @@
 -- Octets in upper case, one octet more.
-use Rattle.std.proofs.Common.{◌≡◌, ℕ, ◌+◌, ◌<◌, ◌/◌, ◌%◌, List, [], ◌∷◌, ◌++◌, map, length, take, get_or, refl, sym, ap, subst, ◌∙◌, append_assoc}
-use Rattle.std.specs.Prelude.{slice_index, Option, Some, None}
-use Rattle.std.specs.Io.KnownBytes.{Appends}
+use Rattle.std.proofs.Common.{◌≡◌, ℕ, ◌+◌, ◌<◌, ◌/◌, ◌%◌, List, [], ◌∷◌, ◌++◌, map, length, take, get_or, refl, sym, ap, ◌∙◌, append_assoc}
+use Rattle.std.specs.Prelude.{slice_index}
 use Rattle.std.proofs.lemmas.List.{append-nil, take_more, map-append}
 use Rattle.frames.specs.Octets.{RawOut}
 use Rattle.shard_state.specs.declared.answer.Out.{Out}
@@ -37,27 +36,16 @@ noted_in-push : (ids : List (List ℕ)) (frames : List RawOut) (frame : RawOut) 
 noted_in-push ids [] frame = refl
 noted_in-push ids (f ∷ fs) frame = noted_in-push (noted ids (originating_id f.octets)) fs frame
 
-pub appends_more : (a b c : Option (List ℕ)) (xs ys : List ℕ) → Appends a b xs → Appends b c ys → Appends a c (xs ++ ys)
-appends_more None b c xs ys h k = tt
-appends_more (Some one) None c xs ys h k = absurd h
-appends_more (Some one) (Some two) None xs ys h k = absurd k
-appends_more (Some one) (Some two) (Some three) xs ys h k = k ∙ ap (λ (t : List ℕ). t ++ ys) h ∙ append_assoc one xs ys
-
-pub appends_none : (a : Option (List ℕ)) → Appends a a []
-appends_none None = tt
-appends_none (Some one) = sym (append-nil one)
-
 -- the frames up to the next one
 one_more : (frames : List Out) (i : ℕ) (frame : Out) → i < length frames → frame ≡ get_or frames i frame → map raw_out (take (i + 1) frames) ≡ map raw_out (take i frames) ++ raw_out frame ∷ []
 one_more frames i frame lt is =
     ap (map raw_out) (take_more frames i frame lt ∙ ap (λ (f : Out). take i frames ++ f ∷ []) (sym is)) ∙ map-append raw_out (take i frames) (frame ∷ [])
 
-pub printed_more : (frames : List Out) (i : ℕ) (frame : Out) (a b c : Option (List ℕ)) (line : List ℕ) → i < length frames → frame ≡ get_or frames i frame → line ≡ sent_line frame.to frame.octets.items
-    → Appends a b (sent_lines (map raw_out (take i frames))) → Appends b c line → Appends a c (sent_lines (map raw_out (take (i + 1) frames)))
-printed_more frames i frame a b c line lt is whole so_far more =
-    let before : List RawOut = map raw_out (take i frames) in
-    let lines : sent_lines (map raw_out (take (i + 1) frames)) ≡ sent_lines before ++ line = ap sent_lines (one_more frames i frame lt is) ∙ sent_lines-push before (raw_out frame) ∙ ap (λ (t : List ℕ). sent_lines before ++ t) (sym whole) in
-    subst (λ (t : List ℕ). Appends a c t) (sym lines) (appends_more a b c (sent_lines before) line so_far more)
+pub lines_more : (frames : List Out) (i : ℕ) (frame : Out) (before after : List ℕ) → i < length frames → frame ≡ get_or frames i frame → before ≡ sent_lines (map raw_out (take i frames))
+    → after ≡ before ++ sent_line frame.to frame.octets.items → after ≡ sent_lines (map raw_out (take (i + 1) frames))
+lines_more frames i frame before after lt is so_far more =
+    let sent : List RawOut = map raw_out (take i frames) in
+    more ∙ ap (λ (t : List ℕ). t ++ sent_line frame.to frame.octets.items) so_far ∙ sym (sent_lines-push sent (raw_out frame)) ∙ sym (ap sent_lines (one_more frames i frame lt is))
 
 pub noted_more : (ids before after : List (List ℕ)) (frames : List Out) (i : ℕ) (frame : Out) → i < length frames → frame ≡ get_or frames i frame → before ≡ noted_in ids (map raw_out (take i frames))
     → after ≡ noted before (originating_id frame.octets.items) → after ≡ noted_in ids (map raw_out (take (i + 1) frames))

@@ -10,12 +10,12 @@ abbrev pub batch_of : List (List ℕ) → List (List ℕ)
 batch_of [] = []
 batch_of (line ∷ more) = if is_text line (text "W") then [] else line ∷ batch_of more
 
--- The lines behind the first batch.
+-- The lines after the first batch.
 abbrev pub behind_batch : List (List ℕ) → List (List ℕ)
 behind_batch [] = []
 behind_batch (line ∷ more) = if is_text line (text "W") then more else behind_batch more
 
--- A line before the first batch is of that batch.
+-- A line before the first batch becomes part of it.
 abbrev pub with_line : List ℕ → List (List (List ℕ)) → List (List (List ℕ))
 with_line line [] = (line ∷ []) ∷ []
 with_line line (batch ∷ more) = (line ∷ batch) ∷ more
@@ -25,7 +25,7 @@ abbrev pub batches_of : List (List ℕ) → List (List (List ℕ))
 batches_of [] = []
 batches_of (line ∷ more) = if is_text line (text "W") then [] ∷ batches_of more else with_line line (batches_of more)
 
--- The line with this number, counted from 1, is the first that is bad, where so many lines stand before these.
+-- The line with this number, counted from 1, is the first bad one, if `before` lines precede these.
 abbrev pub IsFirst : (Good Bad : List ℕ → Type 0) → List (List ℕ) → ℕ → ℕ → Type 0
 IsFirst Good Bad [] before number = ⊥
 IsFirst Good Bad (line ∷ more) before number =
@@ -41,17 +41,12 @@ IsBad line = (said : Line) → IsGoodLine line said → ⊥
 
 -- ---- letters
 
--- Each letter of the line is one of the first so many.
+-- Each letter of the line is one of the first n.
 abbrev pub HasIds : ℕ → List ℕ → Type 0
 HasIds known line =
     (from field : List ℕ) (groups : List Group) → IsLine line (Frame from field) → IsOctets field groups → are_known known groups ≡ true
 
--- The line is a frame's, and has a letter behind the first so many.
+-- The line is a frame's, and has a letter that is not one of the first n.
 abbrev pub LacksId : ℕ → List ℕ → Type 0
 LacksId known line =
     (from field : List ℕ) × IsLine line (Frame from field) × ((groups : List Group) → IsOctets field groups → are_known known groups ≡ false)
-
--- The same of what a line says.
-abbrev pub SaidLacksId : ℕ → Line → Type 0
-SaidLacksId known (Frame from field) = (groups : List Group) → IsOctets field groups → are_known known groups ≡ false
-SaidLacksId known _ = ⊥

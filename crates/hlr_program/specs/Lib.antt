@@ -1,5 +1,12 @@
 pub mod Printed
 pub mod Statuses
 pub mod Batches
-pub mod Engine
 pub mod Runs
+pub mod Parts
+pub mod Journals
+pub mod Stopping
+pub mod Registers
+pub mod Closing
+pub mod Gathering
+pub mod Promise
+pub mod Operator

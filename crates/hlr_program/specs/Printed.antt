@@ -1,7 +1,8 @@
 -- The lines that are printed (profile).
-use Rattle.std.specs.Prelude.{ℕ, List, [], ◌∷◌, ◌++◌, codes as text}
+use Rattle.std.specs.Prelude.{◌≡◌, ℕ, List, [], ◌∷◌, ◌++◌, Option, codes as text}
 use Rattle.hex.specs.Hex.{encode_upper}
 use Rattle.std.specs.List.{flat_map}
+use Rattle.std.specs.Io.KnownBytes.{Appends}
 use Rattle.hlr_types.specs.DigitTexts.{text_of}
 use Rattle.frames.specs.Octets.{RawOut}
 use Rattle.hlr_input.specs.Letters.{noted, originating_id}
@@ -18,3 +19,10 @@ sent_lines frames = flat_map (λ frame. sent_line frame.to frame.octets) frames
 abbrev pub noted_in : List (List ℕ) → List RawOut → List (List ℕ)
 noted_in ids [] = ids
 noted_in ids (frame ∷ more) = noted_in (noted ids (originating_id frame.octets)) more
+
+-- What was written before is followed by a prefix of a text.
+pub record WritesFront (old : Option (List ℕ)) (all : List ℕ) (new : Option (List ℕ)) : Type 0 where
+  pub written : List ℕ
+  pub left : List ℕ
+  pub whole : all ≡ written ++ left
+  pub appends : Appends old new written

@@ -1,18 +1,19 @@
--- What ends a run, and the status of the program then: 2 for want of memory, 3 for a job that is not accounted for, otherwise
--- 1 (profile).
-use Rattle.std.specs.Prelude.{ℕ}
+-- The faults that end a run, their lines, and the program's exit status: 2 for out of memory, 3 for a job that is not accounted
+-- for, otherwise 1 (profile).
+use Rattle.std.specs.Prelude.{ℕ, List, ◌++◌, codes as text}
+use Rattle.std.specs.Fmt.{decimal}
 use Rattle.hlr_program.specs.declared.fault.Fault.{Fault}
 use Rattle.hlr_program.specs.declared.fault.Fault.TheVariants.{CommandLine, UnreadableRecords, BadRecord, TwiceRecord, UnreadableScript, BadLine, NoRoom, Memory, Unaccounted, Output}
-use Rattle.frames.specs.Octets.{RawEvent}
-use Rattle.hlr_program.specs.Engine.{IsChange}
-use Rattle.hlr_program.specs.declared.engine.EngineFault.{EngineFault}
-use Rattle.hlr_program.specs.declared.engine.EngineFault.TheVariants as engine
 use Rattle.records.specs.declared.fault.RecordsFault.{RecordsFault}
 use Rattle.records.specs.declared.fault.RecordsFault.TheVariants as records
 use Rattle.hlr_input.specs.declared.options.WordsFault.{WordsFault}
 use Rattle.hlr_input.specs.declared.options.WordsFault.TheVariants as words
 use Rattle.hlr_input.specs.declared.item.LineFault.{LineFault}
 use Rattle.hlr_input.specs.declared.item.LineFault.TheVariants as line
+use Rattle.wholenode.specs.declared.fault.Cause.{Cause}
+use Rattle.wholenode.specs.declared.fault.Cause.TheVariants as cause
+use Rattle.workers.specs.declared.shared_fault.SharedFault.{SharedFault}
+use Rattle.workers.specs.declared.shared_fault.SharedFault.TheVariants as shared
 
 abbrev pub status_of : Fault → ℕ
 status_of Memory = 2
@@ -26,15 +27,42 @@ status_of (BadLine line) = 1
 status_of NoRoom = 1
 status_of Output = 1
 
+-- the line on standard error, without its line feed
+abbrev pub message_of : Fault → List ℕ
+message_of CommandLine = text "hlr: command line"
+message_of UnreadableRecords = text "hlr: cannot read records"
+message_of (BadRecord line) = text "hlr: records line " ++ decimal line
+message_of (TwiceRecord line) = text "hlr: records line " ++ decimal line ++ text " twice"
+message_of UnreadableScript = text "hlr: cannot read script"
+message_of (BadLine line) = text "hlr: script line " ++ decimal line
+message_of NoRoom = text "hlr: no room"
+message_of Memory = text "hlr: memory"
+message_of (Unaccounted job) = text "hlr: unaccounted job " ++ decimal job
+message_of Output = text "hlr: output"
+
 -- why a line of the script was not read
 abbrev pub fault_at : LineFault → ℕ → Fault
 fault_at line.Bad number = BadLine number
 fault_at line.Memory number = Memory
 
--- why an event was not handled
-abbrev pub fault_of : EngineFault → Fault
-fault_of engine.NoRoom = NoRoom
-fault_of engine.Memory = Memory
+-- why a part of a batch stopped; no journal is ever full
+abbrev pub stopped_by : Cause → Fault
+stopped_by cause.Memory = Memory
+stopped_by cause.ResetRefused = Memory
+stopped_by cause.NoRoom = NoRoom
+stopped_by cause.JournalFull = Memory
+
+-- why workers did not handle a part of a batch
+abbrev pub shared_fault : SharedFault → Fault
+shared_fault shared.Memory = Memory
+shared_fault shared.NoRoom = NoRoom
+shared_fault (shared.Unaccounted job) = Unaccounted job
+
+-- why their shards are not returned
+abbrev pub closing_fault : SharedFault → Fault
+closing_fault shared.Memory = Memory
+closing_fault shared.NoRoom = Unaccounted 0
+closing_fault (shared.Unaccounted job) = Unaccounted job
 
 -- why the words are no command line
 abbrev pub words_fault : WordsFault → Fault
@@ -47,7 +75,7 @@ records_fault (records.BadLine line) = BadRecord line
 records_fault (records.Twice line) = TwiceRecord line
 records_fault records.Memory = Memory
 
--- What ends the reading of a script: a line of it, or want of memory.
+-- What ends the reading of a script: one of its lines, or out of memory.
 abbrev pub IsScriptFault : Fault → Type 0
 IsScriptFault (BadLine number) = Unit {0}
 IsScriptFault Memory = Unit {0}
@@ -59,14 +87,3 @@ IsScriptFault UnreadableScript = ⊥
 IsScriptFault NoRoom = ⊥
 IsScriptFault (Unaccounted job) = ⊥
 IsScriptFault Output = ⊥
-
--- What ends a batch: also want of room for what an operator's change would open.
-abbrev pub IsBatchFault : Fault → Type 0
-IsBatchFault NoRoom = Unit {0}
-IsBatchFault fault = IsScriptFault fault
-
--- What ends the handling of an event: want of memory, or for a change want of room.
-abbrev pub IsEventFault : RawEvent → Fault → Type 0
-IsEventFault raw Memory = Unit {0}
-IsEventFault raw NoRoom = IsChange raw
-IsEventFault raw _ = ⊥

@@ -1,177 +1,248 @@
 //! One batch of a script.
 
-ghost use Rattle.std.specs.Prelude.{◌≡◌, ◌⊎◌, ◌<◌, ◌++◌, ℕ, List, length, map, IfOk, IfErr, OnOk, Err, Some, false};
+ghost use Rattle.std.specs.Prelude.{◌≡◌, ◌<◌, ◌≤◌, ◌∷◌, ◌+◌, [], ℕ, List, length, map, Some, IfOk, IfErr, OnOk};
 ghost use Rattle.std.specs.List.{AllByRecursion, range_with_len};
-ghost use Rattle.frames.specs.Octets.{RawFrame, RawClock, RawExpire};
+ghost use Rattle.frames.specs.Octets.{RawEvent as Event, RawFrame, RawClock, RawExpire};
 ghost use Rattle.records.specs.File.{lines};
 ghost use Rattle.hlrcore.specs.Events.{raw_event};
+ghost use Rattle.shard_state.specs.Frames.{raw_out};
 ghost use Rattle.hlr_input.specs.declared.group.Group.{Group};
-ghost use Rattle.hlr_input.specs.Octets.{IsOctets, octets_of, are_known};
+ghost use Rattle.hlr_input.specs.Octets.{IsOctets, octets_of};
 ghost use Rattle.hlr_input.specs.Script.{line_of};
-ghost use Rattle.hlr_program.specs.Batches.{IsGood, HasIds, LacksId, SaidLacksId, IsFirst, batch_of, behind_batch};
-ghost use Rattle.hlr_program.specs.Statuses.{IsBatchFault, IsEventFault};
-ghost use Rattle.hlr_program.specs.Runs.{Sends, AllSend, SaidSends, LineSends, LinesSend, progress};
+ghost use Rattle.hlr_program.specs.Batches.{IsGood, HasIds, batch_of, behind_batch};
+ghost use Rattle.hlr_program.specs.Gathering.{Adds, AddsSaid, AddsLine, AddsLines, AddingStops, SaidStops, LineStops, LinesStop, Handles, progress};
+ghost use Rattle.hlr_program.specs.Registers.{state_known};
+ghost use Rattle.hlr_program.specs.Runs.{AreEvents};
+ghost use Rattle.hlr_program.specs.Stopping.{BatchStops};
 
+use crate::alone::{MOST_EVENTS, SHARDS};
 use crate::check::{check_letters, is_end};
-use crate::engine::{Engine, SHARDS};
 use crate::fault::Fault;
-use hlr_input::{Item, LineFault, Numbered, Place, read_line, read_octets};
+use crate::register::Register;
+use hlr_input::{Item, LineFault, Place, read_line, read_octets};
 use hlr_types::{Peer, Tid};
 use hlrcore::{Change, Out, RawEvent, ShardNumber};
 use std::alloc::{AllocError, Global};
+use std::mem;
+use std::sync::Wait;
+use std::thread::Threads;
 
-/// Handles the events of a batch, in the order of its lines. Gives the place behind it.
-///
-/// A letter without an id counts as found when the batch begins, so it comes before every other fault.
-pub fn handle_batch<'a>(
+/// A batch that is being handled.
+#[derive(Drop)]
+pub struct Pending {
     alloc: Global,
-    engine: &mut Engine,
+    /// The events of the part being gathered, which are not handled yet.
+    pub part: Vec<RawEvent>,
+    /// What the parts before it have sent.
+    pub sent: Vec<Out>,
+}
+
+impl Pending {
+    pub fn new(alloc: Global) -> Pending
+        ensures part { result.part.items ≡ [] }
+        ensures sent { result.sent.items ≡ [] }
+    {
+        Pending {
+            alloc,
+            part: Vec::new(alloc),
+            sent: Vec::new(alloc),
+        }
+    }
+
+    /// Adds an event. A full part is handled first.
+    fn add<R: Threads + Wait + Sync>(
+        &mut self,
+        rt: &R,
+        register: &mut Register,
+        event: RawEvent,
+    ) -> Result<(), Fault>
+        requires { length self.now.part.items ≤ 65536 }
+        ensures adds { OnOk result (Adds (progress register.old self.old) (raw_event event ∷ []) (progress register.new self.new)) }
+        ensures few { OnOk result (length self.new.part.items ≤ 65536) }
+        ensures stops { IfErr result (AddingStops (progress register.old self.old) (raw_event event ∷ [])) }
+    {
+        if self.part.len() >= MOST_EVENTS {
+            self.run(rt, register)?;
+        }
+        self.part.push(event).map_err(|_| Fault::Memory)?;
+        Ok(())
+    }
+
+    /// Handles the part, and appends what it sends.
+    fn run<R: Threads + Wait + Sync>(
+        &mut self,
+        rt: &R,
+        register: &mut Register,
+    ) -> Result<(), Fault>
+        requires { length self.now.part.items ≤ 65536 }
+        ensures adds { OnOk result (Adds (progress register.old self.old) [] (progress register.new self.new)) }
+        ensures none { OnOk result (self.new.part.items ≡ []) }
+        ensures stops { IfErr result (AddingStops (progress register.old self.old) []) }
+    {
+        let part = mem::replace(&mut self.part, Vec::new(self.alloc));
+        register.send_part(rt, part, &mut self.sent)
+    }
+}
+
+/// Handles the events of a batch, in the order of its lines, in parts. Returns the place after the batch, and what it sent.
+///
+/// A letter without an id is found before any event of the batch is handled.
+pub fn handle_batch<'a, R: Threads + Wait + Sync>(
+    rt: &R,
+    alloc: Global,
+    register: &mut Register,
     from: Place<'a>,
     ids: &[Tid],
     sent: &mut Vec<Out>,
 ) -> Result<Place<'a>, Fault>
-    requires { AllByRecursion IsGood (lines from.rest.now) }
-    ensures sends { OnOk result (LinesSend ids.now (progress engine.old sent.old.items)
-        (batch_of (lines from.entry.rest.now)) (progress engine.new sent.new.items)) }
-    ensures known { OnOk result (AllByRecursion (HasIds (length ids.now)) (batch_of (lines from.entry.rest.now))) }
-    ensures unknown { (n : ℕ) → result ≡ Err (Fault.BadLine n)
-        → IsFirst (HasIds (length ids.now)) (LacksId (length ids.now)) (batch_of (lines from.entry.rest.now)) from.entry.before n }
-    ensures of_script { IfErr result IsBatchFault }
+    requires { AllByRecursion IsGood (batch_of (lines from.rest.now)) }
+    ensures handles { OnOk result (Handles ids.now register.old (batch_of (lines from.entry.rest.now)) (map raw_out sent.new.items) register.new) }
     ensures behind { IfOk result (λ place. lines place.rest.now ≡ behind_batch (lines from.entry.rest.now)) }
     ensures shorter { 0 < length from.entry.rest.now → IfOk result (λ place. length place.rest.now < length from.entry.rest.now) }
+    ensures number { IfOk result (λ place. 0 < length place.rest.now
+        → place.before ≡ from.entry.before + length (batch_of (lines from.entry.rest.now)) + 1) }
+    ensures stops { IfErr result (BatchStops ids.now from.entry.before (state_known register.old) (batch_of (lines from.entry.rest.now))) }
+{
+    check_letters(alloc, from, ids.len())?;
+    let mut batch = Pending::new(alloc);
+    let behind = handle_lines(rt, alloc, register, &mut batch, from, ids)?;
+    batch.run(rt, register)?;
+    *sent = batch.sent;
+    Ok(behind)
+}
+
+fn handle_lines<'a, R: Threads + Wait + Sync>(
+    rt: &R,
+    alloc: Global,
+    register: &mut Register,
+    batch: &mut Pending,
+    from: Place<'a>,
+    ids: &[Tid],
+) -> Result<Place<'a>, Fault>
+    requires few { length batch.now.part.items ≤ 65536 }
+    requires good { AllByRecursion IsGood (batch_of (lines from.rest.now)) }
+    requires known { AllByRecursion (HasIds (length ids.now)) (batch_of (lines from.rest.now)) }
+    ensures adds { OnOk result (AddsLines ids.now (progress register.old batch.old) (batch_of (lines from.entry.rest.now)) (progress register.new batch.new)) }
+    ensures few { OnOk result (length batch.new.part.items ≤ 65536) }
+    ensures behind { IfOk result (λ place. lines place.rest.now ≡ behind_batch (lines from.entry.rest.now)) }
+    ensures shorter { 0 < length from.entry.rest.now → IfOk result (λ place. length place.rest.now < length from.entry.rest.now) }
+    ensures number { IfOk result (λ place. 0 < length place.rest.now
+        → place.before ≡ from.entry.before + length (batch_of (lines from.entry.rest.now)) + 1) }
+    ensures stops { IfErr result (LinesStop ids.now (progress register.old batch.old) (batch_of (lines from.entry.rest.now))) }
 {
     let mut place = from;
     'lines: while let Some((line, behind)) = place.next() {
         if is_end(line.text) {
             return Ok(behind);
         }
-        match handle_line(alloc, engine, line, ids, sent) {
-            Ok(()) => place = behind,
-            Err(fault) => return Err(first_fault(alloc, place, ids.len(), fault)),
-        }
+        add_line(rt, alloc, register, batch, line.text, ids)?;
+        place = behind;
     }
     Ok(place)
 }
 
-/// What a batch ends with that stopped at a line.
-fn first_fault(alloc: Global, from: Place, known: usize, fault: Fault) -> Fault
-    ensures of_script { IsBatchFault fault → IsBatchFault result }
-    ensures first { (n : ℕ) → result ≡ Fault.BadLine n
-        → ((fault ≡ Fault.BadLine n) × AllByRecursion (HasIds known) (batch_of (lines from.entry.rest.now)))
-        ⊎ IsFirst (HasIds known) (LacksId known) (batch_of (lines from.entry.rest.now)) from.entry.before n }
-{
-    match check_letters(alloc, from, known) {
-        Ok(()) => fault,
-        Err(unknown) => unknown,
-    }
-}
-
-/// Handles what a line says.
-fn handle_line(
+/// Adds the events of a line.
+fn add_line<R: Threads + Wait + Sync>(
+    rt: &R,
     alloc: Global,
-    engine: &mut Engine,
-    line: Numbered,
+    register: &mut Register,
+    batch: &mut Pending,
+    line: &[u8],
     ids: &[Tid],
-    sent: &mut Vec<Out>,
 ) -> Result<(), Fault>
-    requires { IsGood line.text.now }
-    ensures sends { OnOk result
-        (LineSends ids.now (progress engine.old sent.old.items) line.entry.text.now (progress engine.new sent.new.items)) }
-    ensures known { OnOk result (HasIds (length ids.now) line.entry.text.now) }
-    ensures lacks { (n : ℕ) → result ≡ Err (Fault.BadLine n) → ¬ (HasIds (length ids.now) line.entry.text.now) }
-    ensures of_script { IfErr result IsBatchFault }
+    requires few { length batch.now.part.items ≤ 65536 }
+    requires good { IsGood line.now }
+    requires known { HasIds (length ids.now) line.now }
+    ensures adds { OnOk result (AddsLine ids.now (progress register.old batch.old) line.now (progress register.new batch.new)) }
+    ensures few { OnOk result (length batch.new.part.items ≤ 65536) }
+    ensures stops { IfErr result (LineStops ids.now (progress register.old batch.old) line.now) }
 {
-    match read_line(alloc, line.text) {
-        Ok(item) => handle_item(alloc, engine, item, line.number, ids, sent),
-        Err(fault) => Err(Fault::at_line(fault, line.number)),
+    match read_line(alloc, line) {
+        Ok(item) => add_item(rt, alloc, register, batch, item, ids),
+        Err(LineFault::Memory) => Err(Fault::Memory),
+        Err(LineFault::Bad) => unreachable!(),
     }
 }
 
-fn handle_item(
+/// Adds the events of what a line says.
+fn add_item<R: Threads + Wait + Sync>(
+    rt: &R,
     alloc: Global,
-    engine: &mut Engine,
+    register: &mut Register,
+    batch: &mut Pending,
     item: Item,
-    number: u64,
     ids: &[Tid],
-    sent: &mut Vec<Out>,
 ) -> Result<(), Fault>
-    ensures sends { OnOk result
-        (SaidSends ids.now (progress engine.old sent.old.items) (line_of item.entry) (progress engine.new sent.new.items)) }
-    ensures lacks { (n : ℕ) → result ≡ Err (Fault.BadLine n) → SaidLacksId (length ids.now) (line_of item.entry) }
-    ensures of_script { IfErr result IsBatchFault }
+    requires few { length batch.now.part.items ≤ 65536 }
+    requires known { (events : List Event) × AreEvents ids.now (line_of item) events }
+    ensures adds { OnOk result (AddsSaid ids.now (progress register.old batch.old) (line_of item.entry) (progress register.new batch.new)) }
+    ensures few { OnOk result (length batch.new.part.items ≤ 65536) }
+    ensures stops { IfErr result (SaidStops ids.now (progress register.old batch.old) (line_of item.entry)) }
 {
     match item {
-        Item::Frame { from, octets } => match frame(alloc, from, octets, ids) {
-            Ok(event) => handle(engine, event, sent),
-            Err(fault) => Err(Fault::at_line(fault, number)),
-        },
-        Item::Clock(now) => set_clocks(engine, now, sent),
-        Item::Expire => expire(engine, sent),
+        Item::Frame { from, octets } => {
+            let event = frame(alloc, from, octets, ids)?;
+            batch.add(rt, register, event)
+        }
+        Item::Clock(now) => add_clocks(rt, register, batch, now),
+        Item::Expire => add_expiries(rt, register, batch),
         Item::Batch => Ok(()),
         Item::Codes { imsi, codes } => {
             let change = Change::Codes(codes);
-            handle(engine, RawEvent::Change { imsi, change }, sent)
+            batch.add(rt, register, RawEvent::Change { imsi, change })
         }
         Item::Withdraw { imsi } => {
             let change = Change::Withdraw;
-            handle(engine, RawEvent::Change { imsi, change }, sent)
+            batch.add(rt, register, RawEvent::Change { imsi, change })
         }
     }
 }
 
-/// A frame that comes, with these ids in the place of the letters.
-fn frame(alloc: Global, from: Peer, octets: &[u8], ids: &[Tid]) -> Result<RawEvent, LineFault>
-    ensures read { IfOk result (λ event. (groups : List Group) × (found : List ℕ) × IsOctets octets.now groups
+/// A received frame, with these ids in place of the letters.
+fn frame(alloc: Global, from: Peer, octets: &[u8], ids: &[Tid]) -> Result<RawEvent, AllocError>
+    requires { (groups : List Group) × (found : List ℕ) × IsOctets octets.now groups × (octets_of ids.now groups ≡ Some found) }
+    ensures { IfOk result (λ event. (groups : List Group) × (found : List ℕ) × IsOctets octets.now groups
         × (octets_of ids.now groups ≡ Some found) × (raw_event event ≡ RawFrame from found)) }
-    ensures lacks { result ≡ Err LineFault.Bad → (groups : List Group) → IsOctets octets.now groups
-        → are_known (length ids.now) groups ≡ false }
 {
-    match read_octets(alloc, octets, ids) {
-        Ok(Some(octets)) => Ok(RawEvent::Frame { from, octets }),
-        Ok(None) => Err(LineFault::Bad),
-        Err(_) => Err(LineFault::Memory),
+    match read_octets(alloc, octets, ids)? {
+        Some(octets) => Ok(RawEvent::Frame { from, octets }),
+        None => unreachable!(),
     }
 }
 
 /// A clock value is one event for each shard.
-fn set_clocks(engine: &mut Engine, now: u64, sent: &mut Vec<Out>) -> Result<(), Fault>
-    ensures send { OnOk result (AllSend (progress engine.old sent.old.items)
-        (map (λ n. RawClock n now) (range_with_len 0 16)) (progress engine.new sent.new.items)) }
-    ensures refused { IfErr result (λ fault. fault ≡ Fault.Memory) }
+fn add_clocks<R: Threads + Wait + Sync>(
+    rt: &R,
+    register: &mut Register,
+    batch: &mut Pending,
+    now: u64,
+) -> Result<(), Fault>
+    requires few { length batch.now.part.items ≤ 65536 }
+    ensures adds { OnOk result (Adds (progress register.old batch.old) (map (λ n. RawClock n now) (range_with_len 0 16)) (progress register.new batch.new)) }
+    ensures few { OnOk result (length batch.new.part.items ≤ 65536) }
+    ensures stops { IfErr result (AddingStops (progress register.old batch.old) (map (λ n. RawClock n now) (range_with_len 0 16))) }
 {
     for number in 0..SHARDS {
         let shard = ShardNumber::new(number).unwrap();
-        handle(engine, RawEvent::Clock { shard, now }, sent)?;
+        batch.add(rt, register, RawEvent::Clock { shard, now })?;
     }
     Ok(())
 }
 
 /// An expiry is one event for each shard.
-fn expire(engine: &mut Engine, sent: &mut Vec<Out>) -> Result<(), Fault>
-    ensures send { OnOk result (AllSend (progress engine.old sent.old.items)
-        (map (λ n. RawExpire n) (range_with_len 0 16)) (progress engine.new sent.new.items)) }
-    ensures refused { IfErr result (λ fault. fault ≡ Fault.Memory) }
+fn add_expiries<R: Threads + Wait + Sync>(
+    rt: &R,
+    register: &mut Register,
+    batch: &mut Pending,
+) -> Result<(), Fault>
+    requires few { length batch.now.part.items ≤ 65536 }
+    ensures adds { OnOk result (Adds (progress register.old batch.old) (map (λ n. RawExpire n) (range_with_len 0 16)) (progress register.new batch.new)) }
+    ensures few { OnOk result (length batch.new.part.items ≤ 65536) }
+    ensures stops { IfErr result (AddingStops (progress register.old batch.old) (map (λ n. RawExpire n) (range_with_len 0 16))) }
 {
     for number in 0..SHARDS {
         let shard = ShardNumber::new(number).unwrap();
-        handle(engine, RawEvent::Expire { shard }, sent)?;
+        batch.add(rt, register, RawEvent::Expire { shard })?;
     }
     Ok(())
-}
-
-/// Handles one event, and puts the frames that it sends behind the others.
-fn handle(engine: &mut Engine, event: RawEvent, sent: &mut Vec<Out>) -> Result<(), Fault>
-    ensures sends { OnOk result
-        (Sends (progress engine.old sent.old.items) (raw_event event) (progress engine.new sent.new.items)) }
-    ensures refused { IfErr result (IsEventFault (raw_event event)) }
-{
-    let outs = engine.handle(&event)?;
-    put_behind(sent, outs)?;
-    Ok(())
-}
-
-fn put_behind(sent: &mut Vec<Out>, outs: Vec<Out>) -> Result<(), AllocError>
-    ensures { OnOk result (sent.new.items ≡ sent.old.items ++ outs.items) }
-{
-    sent.extend(outs)
 }

@@ -1,4 +1,4 @@
-//! What is checked of a script before it runs, and of a batch where a line of it was not handled.
+//! The check of a script before it runs, and of a batch when a line of it was not handled.
 
 ghost use Rattle.std.specs.Prelude.{◌≡◌, ℕ, Err, Ok, IfErr, OnOk, true, false, codes};
 ghost use Rattle.std.specs.List.{AllByRecursion};
@@ -11,7 +11,7 @@ use crate::fault::Fault;
 use hlr_input::{Item, LineFault, Place, check_line, has_letter, have_ids, read_line};
 use std::alloc::{AllocError, Global};
 
-/// Finds the first line of a script that is of no form.
+/// Finds the first line of a script that has none of the forms.
 pub fn check_script(alloc: Global, text: &[u8]) -> Result<(), Fault>
     ensures good { OnOk result (AllByRecursion IsGood (lines text.now)) }
     ensures bad { (n : ℕ) → result ≡ Err (Fault.BadLine n) → IsFirst IsGood IsBad (lines text.now) 0 n }
@@ -27,7 +27,7 @@ pub fn check_script(alloc: Global, text: &[u8]) -> Result<(), Fault>
     Ok(())
 }
 
-/// Finds the first line of a batch that has a letter without an id, where the ids of the first so many letters are known.
+/// Finds the first line of a batch with a letter without an id, if the first `known` letters have one.
 pub fn check_letters(alloc: Global, from: Place, known: usize) -> Result<(), Fault>
     ensures known { OnOk result (AllByRecursion (HasIds known) (batch_of (lines from.entry.rest.now))) }
     ensures unknown { (n : ℕ) → result ≡ Err (Fault.BadLine n)

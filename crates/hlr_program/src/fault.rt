@@ -1,41 +1,61 @@
-//! What ends a run before its end.
+//! Faults that end a run early.
 
-use crate::engine::EngineFault;
 use hlr_input::{LineFault, WordsFault};
 use records::RecordsFault;
 use std::alloc::{AllocError, AllocFailed};
-use thiserror::Error;
+use std::error::Error;
+use std::fmt;
+use workers::SharedFault;
 
 /// Why a run ends: one line on standard error, and a status.
-#[derive(Clone, Copy, PartialEq, Eq, Debug, Drop, Error)]
+#[derive(Clone, Copy, PartialEq, Eq, Debug, Drop)]
 pub enum Fault {
-    #[error("hlr: command line")]
+    /// The words are no command line that the program serves.
     CommandLine,
-    #[error("hlr: cannot read records")]
     UnreadableRecords,
-    #[error("hlr: records line {0}")]
+    /// The number of the first line of the records file that does not have its form.
     BadRecord(u64),
-    #[error("hlr: records line {0} twice")]
+    /// The number of the first line of the records file whose IMSI or MSISDN is also on an earlier one.
     TwiceRecord(u64),
-    #[error("hlr: cannot read script")]
     UnreadableScript,
-    #[error("hlr: script line {0}")]
+    /// The number of the first line of the script that has none of the forms, or that has a letter without an id in its batch.
     BadLine(u64),
-    /// A change that has to open a dialogue met a shard with as many open dialogues as may be.
-    #[error("hlr: no room")]
+    /// A change that has to open a dialogue met a full shard.
     NoRoom,
-    #[error("hlr: memory")]
     Memory,
     /// The number of a job whose receipt or journal entry is missing or wrong.
-    #[error("hlr: unaccounted job {0}")]
     Unaccounted(u64),
-    #[error("hlr: output")]
     Output,
 }
 
+/// The line on standard error. Its text is promised, so it is written here: no clause speaks of a derive's text.
+impl fmt::Display for Fault {
+    ghost use Rattle.std.specs.Prelude.{Some};
+    ghost use Rattle.hlr_program.specs.Statuses.{message_of};
+
+    ghost output = { λ fault. Some (message_of fault) };
+
+    fn fmt<W: fmt::Write>(&self, f: &mut fmt::Formatter<W>) -> fmt::Result {
+        match self {
+            Fault::CommandLine => write!(f, "hlr: command line"),
+            Fault::UnreadableRecords => write!(f, "hlr: cannot read records"),
+            Fault::BadRecord(line) => write!(f, "hlr: records line {line}"),
+            Fault::TwiceRecord(line) => write!(f, "hlr: records line {line} twice"),
+            Fault::UnreadableScript => write!(f, "hlr: cannot read script"),
+            Fault::BadLine(line) => write!(f, "hlr: script line {line}"),
+            Fault::NoRoom => write!(f, "hlr: no room"),
+            Fault::Memory => write!(f, "hlr: memory"),
+            Fault::Unaccounted(job) => write!(f, "hlr: unaccounted job {job}"),
+            Fault::Output => write!(f, "hlr: output"),
+        }
+    }
+}
+
+impl Error for Fault {}
+
 impl Fault {
     ghost use Rattle.std.specs.Prelude.{◌≡◌};
-    ghost use Rattle.hlr_program.specs.Statuses.{IsScriptFault, status_of, fault_at};
+    ghost use Rattle.hlr_program.specs.Statuses.{IsScriptFault, closing_fault, status_of, fault_at};
 
     /// The status that the program ends with.
     pub fn status(self) -> u8
@@ -48,7 +68,7 @@ impl Fault {
         }
     }
 
-    /// Why a line of the script with this number was not read.
+    /// The fault of the script's line with this number.
     pub fn at_line(fault: LineFault, number: u64) -> Fault
         ensures value { result ≡ fault_at fault number }
         ensures of_script { IsScriptFault result }
@@ -56,6 +76,17 @@ impl Fault {
         match fault {
             LineFault::Bad => Fault::BadLine(number),
             LineFault::Memory => Fault::Memory,
+        }
+    }
+
+    /// The fault if workers' shards are not returned. No event is handled then, so no room is needed.
+    pub fn at_close(fault: SharedFault) -> Fault
+        ensures { result ≡ closing_fault fault }
+    {
+        match fault {
+            SharedFault::Memory => Fault::Memory,
+            SharedFault::NoRoom => Fault::Unaccounted(0),
+            SharedFault::Unaccounted(number) => Fault::Unaccounted(number),
         }
     }
 }
@@ -111,16 +142,17 @@ impl From<RecordsFault> for Fault {
     }
 }
 
-impl From<EngineFault> for Fault {
+impl From<SharedFault> for Fault {
     ghost use Rattle.std.specs.Prelude.{◌≡◌};
-    ghost use Rattle.hlr_program.specs.Statuses.{fault_of};
+    ghost use Rattle.hlr_program.specs.Statuses.{shared_fault};
 
-    ghost from_gives = { λ fault given. given ≡ fault_of fault };
+    ghost from_gives = { λ fault given. given ≡ shared_fault fault };
 
-    fn from(fault: EngineFault) -> Fault {
+    fn from(fault: SharedFault) -> Fault {
         match fault {
-            EngineFault::NoRoom => Fault::NoRoom,
-            EngineFault::Memory => Fault::Memory,
+            SharedFault::Memory => Fault::Memory,
+            SharedFault::NoRoom => Fault::NoRoom,
+            SharedFault::Unaccounted(job) => Fault::Unaccounted(job),
         }
     }
 }

@@ -1,17 +1,19 @@
-//! A run of the program: the register that is given a records file and the events of a script, and the lines that are printed. What
-//! is given is read in `hlr_input`. `main` alone is elsewhere, so that a whole run can be tried in memory.
+//! A run of the program: a register from a records file, the events of a script, and the lines that are printed. `hlr_input` reads
+//! the input. Only `main` is elsewhere, so that a whole run can be tested in memory.
 #![tactic(auto)]
 
+mod alone;
 mod batch;
 mod check;
-mod engine;
+mod crew;
 mod fault;
+mod laws;
+mod listing;
 mod printed;
+mod register;
 mod serve;
 
 pub use fault::Fault;
 pub use hlr_input::{Options, WordsFault, read_words};
+pub use laws::operator_gets;
 pub use serve::serve_script;
-
-#[cfg(test)]
-mod tests;

@@ -1,43 +1,72 @@
 //! The lines that are printed.
 
-ghost use Rattle.std.specs.Prelude.{◌≡◌, ◌<◌, ◌++◌, ◌∷◌, [], map, slice_index, OnOk};
+ghost use Rattle.std.specs.Prelude.{◌≡◌, ◌<◌, ◌++◌, ◌∷◌, [], map, slice_index, IfOk, IfErr, OnOk};
 ghost use Rattle.shard_state.specs.Answers.{raw_out};
 ghost use Rattle.hex.specs.Hex.{upper_digits, encode_upper};
 ghost use Rattle.std.specs.Io.KnownBytes.{Appends};
-ghost use Rattle.hlr_program.specs.Printed.{sent_line, sent_lines, noted_in};
+ghost use Rattle.hlr_program.specs.Printed.{WritesFront, sent_line, sent_lines, noted_in};
+ghost use Rattle.hlr_program.specs.Statuses.{message_of};
 
 use crate::fault::Fault;
+use arrayvec::ArrayString;
 use hlr_input::Letters;
 use hlrcore::Out;
 use std::alloc::{AllocError, Global};
-use std::io::Write;
+use std::fmt::Write as _;
+use std::io::{ErrorKind, Write};
 
 /// The upper case hexadecimal digits.
 const DIGITS: &[u8; 16] = b"0123456789ABCDEF";
 
-/// Prints the frames that a batch has sent, and notes the local ids that they carry.
-pub fn print_sent<W: Write>(
-    alloc: Global,
-    sent: &[Out],
-    letters: &mut Letters,
-    out: &mut W,
-) -> Result<(), Fault>
-    ensures printed { OnOk result (Appends (W.contents out.old) (W.contents out.new) (sent_lines (map raw_out sent.now))) }
+/// Room for the longest fault line: the words around a number of 20 digits.
+const MOST_TOLD: usize = 64;
+
+/// The lines of the frames that a batch has sent; the local ids in them are recorded. Nothing is printed yet, so that a batch with
+/// a fault prints nothing.
+pub fn lines_of(alloc: Global, sent: &[Out], letters: &mut Letters) -> Result<Vec<u8>, AllocError>
+    ensures lines { IfOk result (λ text. text.items ≡ sent_lines (map raw_out sent.now)) }
     ensures noted { OnOk result (letters.new ≡ noted_in letters.old (map raw_out sent.now)) }
 {
-    let mut line = Vec::new(alloc);
+    let mut text = Vec::new(alloc);
     for frame in sent {
-        line.clear();
-        push_sent(&mut line, frame)?;
+        push_sent(&mut text, frame)?;
         letters.note(&frame.octets)?;
-        let Ok(()) = out.write_all(&line) else {
-            return Err(Fault::Output);
-        };
     }
-    Ok(())
+    Ok(text)
 }
 
-/// Puts the line of a frame that is sent at the end of a text: `S`, the address, and the octets in upper case.
+/// Prints a text. If the writer fails, a prefix of the text was written.
+pub fn print<W: Write>(text: &[u8], out: &mut W) -> Result<(), Fault>
+    ensures printed { OnOk result (Appends (W.contents out.old) (W.contents out.new) text.now) }
+    ensures front { WritesFront (W.contents out.old) text.now (W.contents out.new) }
+    ensures failed { IfErr result (λ fault. fault ≡ Fault.Output) }
+{
+    let mut rest = text;
+    for _ in 0..u64::MAX {
+        if rest.is_empty() {
+            return Ok(());
+        }
+        match out.write(rest) {
+            Ok(0) => return Err(Fault::Output),
+            Ok(count) => rest = &rest[count..],
+            Err(error) if error.kind() == ErrorKind::Interrupted => {}
+            Err(_) => return Err(Fault::Output),
+        }
+    }
+    Err(Fault::Output)
+}
+
+/// Prints why a run ends, on one line. Does not allocate, so that running out of memory can be reported too.
+pub fn tell<W: Write>(fault: Fault, err: &mut W)
+    ensures { WritesFront (W.contents err.old) (message_of fault ++ 10 ∷ []) (W.contents err.new) }
+{
+    let mut line = ArrayString::<MOST_TOLD>::new();
+    if let Ok(()) = writeln!(line, "{fault}") {
+        let _ = print(line.as_str().as_bytes(), err);
+    }
+}
+
+/// Appends the line of a sent frame: `S`, the address, and the octets in upper case.
 pub fn push_sent(text: &mut Vec<u8>, sent: &Out) -> Result<(), AllocError>
     ensures { OnOk result (text.new.items ≡ text.old.items ++ sent_line sent.now.to sent.now.octets.items) }
 {

@@ -1,28 +1,41 @@
 //! A run of the program.
 
-ghost use Rattle.std.specs.Prelude.{◌≡◌, ℕ, List, [], IfOk, IfSome, OnOk};
+ghost use Rattle.std.specs.Prelude.{◌≡◌, ◌≤◌, ℕ, List, [], Option, IfOk, IfErr, IfSome, OnOk};
 ghost use Rattle.std.specs.List.{AllByRecursion};
+ghost use Rattle.std.specs.Result.{result_err};
 ghost use Rattle.std.specs.Io.KnownBytes.{Appends};
 ghost use Rattle.records.specs.File.{lines};
-ghost use Rattle.hlr_program.specs.Batches.{IsGood, batches_of};
-ghost use Rattle.hlr_program.specs.Runs.{BatchesPrint, IsLoadedFrom, Prints, Serves};
+ghost use Rattle.machine.specs.Sound.{Sound};
+ghost use Rattle.hlr_program.specs.Batches.{IsGood};
+ghost use Rattle.hlr_program.specs.Registers.{state_known};
+ghost use Rattle.hlr_program.specs.Runs.{BatchRun, IsLoadedFrom, opening_of, printed_of};
+ghost use Rattle.hlr_program.specs.Promise.{Ends, RunsAndLists, RunsScript, StopsRecords, StopsScript, StopsRunning, StopsBatches, Tells, status_at};
 
 use crate::batch::handle_batch;
 use crate::check::check_script;
-use crate::engine::Engine;
 use crate::fault::Fault;
-use crate::printed::print_sent;
+use crate::listing::closing_lines;
+use crate::printed::{lines_of, print, tell};
+use crate::register::Register;
 use hlr_input::{InputFault, Letters, Options, Place, read_all};
 use records::{Loaded, read_records};
 use std::alloc::Global;
 use std::io::{Read, Write};
+use std::sync::Wait;
+use std::thread::Threads;
+
+/// How many workers may share a register (profile).
+const MOST_WORKERS: u8 = 16;
 
 /// Reads the records and the script, runs the script and prints what is sent, batch by batch. A fault is one line on `err`.
-/// Answers the status that the program ends with: 0 where all was run and printed.
+/// Returns the program's exit status: 0 if all was run and printed.
 ///
-/// Limitation: listings, saving and worker threads are not there yet. Where they are asked for, the answer is that of no
-/// command line.
-pub fn serve_script<A: Read, B: Read, W: Write, E: Write>(
+/// With 1 to 16 workers it starts that many threads for each part of a batch, and joins them.
+///
+/// Limitation: with workers the contract does not say in which order the events of a batch are handled, what was handled before a
+/// fault, or that a run ends.
+pub fn serve_script<R: Threads + Wait + Sync, A: Read, B: Read, W: Write, E: Write>(
+    rt: &R,
     alloc: Global,
     options: &Options,
     records: &mut A,
@@ -30,76 +43,105 @@ pub fn serve_script<A: Read, B: Read, W: Write, E: Write>(
     out: &mut W,
     err: &mut E,
 ) -> u8
-    // The program: the records file is one, each line of the script is good, and what is printed is what the register sends,
-    // batch by batch. It is said of readers and writers whose octets are known.
-    ensures { result ≡ 0 → IfSome (A.remaining records.old) (λ file. IfSome (B.remaining script.old) (λ lines.
-        Serves file lines (W.contents out.old) (W.contents out.new))) }
+    // The program, at every status: whether the run succeeds or with which fault it ends, what is printed on `err`, and what is
+    // printed on `out`, for readers whose octets are known.
+    ensures ends { (fault : Option Fault) × (result ≡ status_at fault) × Tells (E.contents err.old) (E.contents err.new) fault
+        × IfSome (A.remaining records.old) (λ file. IfSome (B.remaining script.old) (λ lines.
+        Ends options.now file lines (W.contents out.old) (W.contents out.new) fault)) }
+    // Options that are not served never end with status 0, whatever is read.
+    ensures served { result ≡ 0 → options.now.workers ≤ 16 }
 {
-    match serve(alloc, options, records, script, out) {
+    match serve(rt, alloc, options, records, script, out) {
         Ok(()) => 0,
         Err(fault) => {
-            let _ = writeln!(err, "{fault}");
+            tell(fault, err);
             fault.status()
         }
     }
 }
 
-fn serve<A: Read, B: Read, W: Write>(
+fn serve<R: Threads + Wait + Sync, A: Read, B: Read, W: Write>(
+    rt: &R,
     alloc: Global,
     options: &Options,
     records: &mut A,
     script: &mut B,
     out: &mut W,
 ) -> Result<(), Fault>
-    ensures { OnOk result (IfSome (A.remaining records.old) (λ file. IfSome (B.remaining script.old) (λ lines.
-        Serves file lines (W.contents out.old) (W.contents out.new)))) }
+    ensures ends { IfSome (A.remaining records.old) (λ file. IfSome (B.remaining script.old) (λ lines.
+        Ends options.now file lines (W.contents out.old) (W.contents out.new) (result_err result))) }
+    ensures served { OnOk result (options.now.workers ≤ 16) }
 {
-    if options.list || options.save || options.workers > 0 {
+    if options.workers > MOST_WORKERS {
         return Err(Fault::CommandLine);
     }
     let loaded = load(alloc, records)?;
     let script = read_script(alloc, script)?;
-    run_loaded(alloc, loaded, &script, out)
+    run_loaded(rt, alloc, options, loaded, &script, out)
 }
 
-/// What the records file says.
+/// The contents of the records file.
 fn load<R: Read>(alloc: Global, reader: &mut R) -> Result<Loaded, Fault>
-    ensures { IfOk result (λ loaded. IfSome (R.remaining reader.old) (λ file. IsLoadedFrom file loaded)) }
+    ensures loaded { IfOk result (λ loaded. IfSome (R.remaining reader.old) (λ file. IsLoadedFrom file loaded)) }
+    ensures sound { IfOk result (λ loaded. Sound (opening_of loaded)) }
+    ensures stops { IfErr result (λ fault. IfSome (R.remaining reader.old) (λ file. StopsRecords file fault)) }
 {
     match read_all(alloc, reader) {
-        Ok(text) => Ok(read_records(alloc, &text)?),
+        Ok(text) => load_text(alloc, &text),
         Err(InputFault::Unreadable) => Err(Fault::UnreadableRecords),
         Err(InputFault::Memory) => Err(Fault::Memory),
     }
 }
 
-/// The script, each of its lines being of a form.
+fn load_text(alloc: Global, text: &[u8]) -> Result<Loaded, Fault>
+    ensures loaded { IfOk result (IsLoadedFrom text.now) }
+    ensures sound { IfOk result (λ loaded. Sound (opening_of loaded)) }
+    ensures stops { IfErr result (StopsRecords text.now) }
+{
+    match read_records(alloc, text) {
+        Ok(loaded) => Ok(loaded),
+        Err(fault) => Err(Fault::from(fault)),
+    }
+}
+
+/// The script, each line of which has one of the forms.
 fn read_script<R: Read>(alloc: Global, reader: &mut R) -> Result<Vec<u8>, Fault>
     ensures good { IfOk result (λ script. AllByRecursion IsGood (lines script.items)) }
     ensures whole { IfOk result (λ script. IfSome (R.remaining reader.old) (λ all. script.items ≡ all)) }
+    ensures stops { IfErr result (λ fault. IfSome (R.remaining reader.old) (λ all. StopsScript all fault)) }
 {
     match read_all(alloc, reader) {
-        Ok(text) => {
-            check_script(alloc, &text)?;
-            Ok(text)
-        }
+        Ok(text) => match check_script(alloc, &text) {
+            Ok(()) => Ok(text),
+            Err(fault) => Err(fault),
+        },
         Err(InputFault::Unreadable) => Err(Fault::UnreadableScript),
         Err(InputFault::Memory) => Err(Fault::Memory),
     }
 }
 
-/// Runs a script on what a records file says.
-fn run_loaded<W: Write>(
+/// Runs a script on the contents of a records file.
+fn run_loaded<R: Threads + Wait + Sync, W: Write>(
+    rt: &R,
     alloc: Global,
+    options: &Options,
     loaded: Loaded,
     script: &[u8],
     out: &mut W,
 ) -> Result<(), Fault>
-    requires { AllByRecursion IsGood (lines script.now) }
-    ensures { OnOk result (Prints loaded script.now (W.contents out.old) (W.contents out.new)) }
+    requires good { AllByRecursion IsGood (lines script.now) }
+    requires sound { Sound (opening_of loaded) }
+    requires workers { options.now.workers ≤ 16 }
+    ensures ran { OnOk result ((printed : List ℕ) × RunsAndLists options.now loaded script.now printed
+        × Appends (W.contents out.old) (W.contents out.new) printed) }
+    ensures stops { IfErr result (λ fault. (printed : List ℕ) × StopsRunning options.now loaded script.now fault printed
+        × Appends (W.contents out.old) (W.contents out.new) printed) }
 {
-    let mut engine = Engine::new(alloc, loaded)?;
-    let ran = run(alloc, &mut engine, script, out);
+    let ran = run_and_list(rt, alloc, options, loaded, script, out);
+    // Nothing is written after a failed write: the buffer would be written a second time.
+    if is_broken_off(&ran) {
+        return ran;
+    }
     let flushed = out.flush();
     match ran {
         Ok(()) if flushed.is_ok() => Ok(()),
@@ -108,23 +150,55 @@ fn run_loaded<W: Write>(
     }
 }
 
-/// Runs a script, batch by batch.
-fn run<W: Write>(
+/// Whether a write has failed.
+fn is_broken_off(ran: &Result<(), Fault>) -> bool {
+    matches!(ran, Err(Fault::Output))
+}
+
+fn run_and_list<R: Threads + Wait + Sync, W: Write>(
+    rt: &R,
     alloc: Global,
-    engine: &mut Engine,
+    options: &Options,
+    loaded: Loaded,
+    script: &[u8],
+    out: &mut W,
+) -> Result<(), Fault>
+    requires good { AllByRecursion IsGood (lines script.now) }
+    requires sound { Sound (opening_of loaded) }
+    requires workers { options.now.workers ≤ 16 }
+    ensures ran { OnOk result ((printed : List ℕ) × RunsAndLists options.now loaded script.now printed
+        × Appends (W.contents out.old) (W.contents out.new) printed) }
+    ensures stops { IfErr result (λ fault. (printed : List ℕ) × StopsRunning options.now loaded script.now fault printed
+        × Appends (W.contents out.old) (W.contents out.new) printed) }
+{
+    let mut register = Register::new(alloc, loaded, options.workers)?;
+    run(rt, alloc, &mut register, script, out)?;
+    let shards = register.into_shards()?;
+    let text = closing_lines(alloc, options, &shards)?;
+    print(&text, out)
+}
+
+/// Runs a script, batch by batch.
+fn run<R: Threads + Wait + Sync, W: Write>(
+    rt: &R,
+    alloc: Global,
+    register: &mut Register,
     script: &[u8],
     out: &mut W,
 ) -> Result<(), Fault>
     requires { AllByRecursion IsGood (lines script.now) }
-    ensures { OnOk result ((printed : List ℕ) × BatchesPrint [] engine.old (batches_of (lines script.now)) printed engine.new
+    ensures ran { OnOk result ((batches : List BatchRun) × RunsScript script.now register.old batches register.new
+        × Appends (W.contents out.old) (W.contents out.new) (printed_of batches)) }
+    ensures stops { IfErr result (λ fault. (printed : List ℕ) × StopsBatches script.now (state_known register.old) fault printed
         × Appends (W.contents out.old) (W.contents out.new) printed) }
 {
     let mut letters = Letters::new(alloc);
     let mut place = Place::new(script);
     'batches: while !place.rest.is_empty() {
         let mut sent = Vec::new(alloc);
-        place = handle_batch(alloc, engine, place, letters.ids(), &mut sent)?;
-        print_sent(alloc, &sent, &mut letters, out)?;
+        place = handle_batch(rt, alloc, register, place, letters.ids(), &mut sent)?;
+        let text = lines_of(alloc, &sent, &mut letters)?;
+        print(&text, out)?;
     }
     Ok(())
 }

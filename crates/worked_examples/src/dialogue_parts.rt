@@ -1,4 +1,4 @@
-//! The frames of updates, cancels and new subscriber data (TS 29.002, 8.1 and 8.8), in parts.
+//! The frames of updates, cancels and new subscriber data (TS 29.002, 8.1.2, 8.1.3 and 8.8.1), in parts.
 
 use crate::portions::{AARE, AARQ, ACCEPTED, LOCATION};
 use crate::run::{Frame, Line};
@@ -41,7 +41,7 @@ const SECOND_DATA: [&str; 6] = [
     "6C 3F A1 2E 02 01 01 02 01 07 30 26 81 07 91 44 77 00 09 20 20 83 01 00 A6 18 04 01 11 04 01 12 04 01 20 04 01 21 04 01 22 04 01 61 04 01 62 04 01 91 A1 0D 02 01 02 02 01 07 30 05 A6 03 04 01 92",
 ];
 
-/// The End of an update that has completed, and of one that has failed: systemFailure.
+/// The End of an update that completed, and of one that failed: systemFailure.
 pub const UPDATED: [&str; 1] = [
     "64 1D 49 04 00 00 00 0B 6C 15 A2 13 02 01 01 30 0E 02 01 02 30 09 04 07 91 44 77 00 09 10 00",
 ];
@@ -53,7 +53,7 @@ fn around<'a>(id: &'a str, parts: [&'a str; 6]) -> [&'a str; 7] {
     [begin, id, own, portion, context, accepted, data]
 }
 
-/// The data of the first subscriber, in the dialogue of this id.
+/// The data of the first subscriber, in the dialogue with this id.
 pub fn data<'a>(id: &'a str) -> [&'a str; 7] {
     around(id, DATA)
 }
@@ -62,7 +62,7 @@ pub fn second_data<'a>(id: &'a str) -> [&'a str; 7] {
     around(id, SECOND_DATA)
 }
 
-/// A Continue from a VLR for the dialogue of this id: its length, and its components.
+/// A Continue from a VLR for the dialogue with this id: its length, and its components.
 pub fn continued<'a>(length: &'a str, id: &'a str, components: &'a str) -> [&'a str; 6] {
     [
         "65",
@@ -85,7 +85,7 @@ pub fn result_of<'a>(insert: &'a str, id: &'a str) -> [&'a str; 5] {
     ]
 }
 
-/// The Continue with which a component is rejected: its components.
+/// The Continue that rejects a component: its components.
 pub fn rejected<'a>(id: &'a str, components: &'a str) -> [&'a str; 4] {
     [
         "65 16 48 04",
@@ -95,7 +95,7 @@ pub fn rejected<'a>(id: &'a str, components: &'a str) -> [&'a str; 4] {
     ]
 }
 
-/// The Begin of a cancel of the first subscriber, by an update or by the end of the subscription.
+/// The Begin of a cancel of the first subscriber, for an update or a withdrawal.
 pub fn cancel<'a>(id: &'a str, why: &'a str) -> [&'a str; 6] {
     [
         "62 3F 48 04",
@@ -112,7 +112,7 @@ pub fn cancelled<'a>(id: &'a str) -> [&'a str; 3] {
     ["64 0D 49 04", id, "6C 05 A2 03 02 01 01"]
 }
 
-/// A frame that comes from a VLR.
+/// A frame from a VLR.
 pub fn from<'a>(address: &'a str, parts: &'a [&'a str]) -> Line<'a> {
     Line::Received(Frame { address, parts })
 }

@@ -1,11 +1,11 @@
-//! Runs in which dialogues open (TS 29.002, 8.1 and 8.8; TS 23.012): updates, cancels and new subscriber data.
+//! Runs in which dialogues open (TS 29.002, 8.1.2, 8.1.3 and 8.8.1; TS 23.012): updates, cancels and new subscriber data.
 
 use crate::dialogue_parts::*;
 use crate::run::{Line, RECORDS, plays};
 use crate::updates::at;
 use std::test::Fail;
 
-/// Nine codes take two inserts, whose results may come in any order.
+/// Nine codes need two inserts, whose results may come in any order.
 #[test]
 fn two_inserts(rt: HostRuntime) -> Result<(), Fail> {
     plays(
@@ -20,7 +20,7 @@ fn two_inserts(rt: HostRuntime) -> Result<(), Fail> {
     )
 }
 
-/// A result that comes twice, an invoke id that the peer uses already, and a linked id of no invocation: each is rejected.
+/// A result that comes twice, an invoke id that the peer already uses, and a linked id of no invocation: each is rejected.
 #[test]
 fn late_and_linked_components(rt: HostRuntime) -> Result<(), Fail> {
     let late = result_of("01", "$A");
@@ -78,7 +78,7 @@ fn same_digits_other_kind(rt: HostRuntime) -> Result<(), Fail> {
     )
 }
 
-/// A result of an invocation that is not there is rejected.
+/// A result of an unknown invocation is rejected.
 #[test]
 fn result_of_unknown_invoke(rt: HostRuntime) -> Result<(), Fail> {
     plays(
@@ -92,7 +92,7 @@ fn result_of_unknown_invoke(rt: HostRuntime) -> Result<(), Fail> {
     )
 }
 
-/// The timer of an insert runs out at 20, not before: the update fails.
+/// The timer of an insert expires at 20, not before: the update fails.
 #[test]
 fn expired_insert(rt: HostRuntime) -> Result<(), Fail> {
     plays(
@@ -109,7 +109,7 @@ fn expired_insert(rt: HostRuntime) -> Result<(), Fail> {
     )
 }
 
-/// The id of a dialogue that has closed is for none, although another has opened since.
+/// The id of a closed dialogue names none, although another has opened since.
 #[test]
 fn old_id_after_reuse(rt: HostRuntime) -> Result<(), Fail> {
     let result = result_of("01", "$A");
@@ -126,8 +126,8 @@ fn old_id_after_reuse(rt: HostRuntime) -> Result<(), Fail> {
     )
 }
 
-/// The source of a Continue in an Active dialogue is not looked at, and answers go to the peer that began it. A cancel that is
-/// answered by a Continue ends with an End.
+/// The source of a Continue in an Active dialogue is ignored, and answers go to the peer that began it. A cancel that is answered
+/// by a Continue ends with an End.
 #[test]
 fn other_source_and_cancel_that_continues(rt: HostRuntime) -> Result<(), Fail> {
     plays(
@@ -154,7 +154,7 @@ fn other_source_and_cancel_that_continues(rt: HostRuntime) -> Result<(), Fail> {
     )
 }
 
-/// A subscription ends while an update is under way: the old register is cancelled, and the update fails.
+/// A subscriber is withdrawn during an update: the old register gets a cancel, and the update fails.
 #[test]
 fn withdrawn_during_update(rt: HostRuntime) -> Result<(), Fail> {
     plays(

@@ -1,11 +1,16 @@
-//! Frames that are no message, or of no dialogue (Q.773, Q.774).
+//! Frames that are no message, or for no dialogue (Q.773, Q.774).
 
 use crate::run::{Frame, RECORDS, answers, repeated};
 use std::process::Abort;
+use std::sync::Wait;
 use std::test::Fail;
+use std::thread::Threads;
 
-/// Each of these frames is answered with the one behind it, or by nothing.
-fn answered(rt: &(impl Abort + AllocGlobal), pairs: &[(&str, &str)]) -> Result<(), Fail> {
+/// Each of these frames is answered with the one after it, or not at all.
+fn answered(
+    rt: &(impl Abort + Threads + Wait + Sync + AllocGlobal),
+    pairs: &[(&str, &str)],
+) -> Result<(), Fail> {
     for (received, sent) in pairs {
         let received = [Frame {
             address: "447700909999",
@@ -22,7 +27,7 @@ fn answered(rt: &(impl Abort + AllocGlobal), pairs: &[(&str, &str)]) -> Result<(
     Ok(())
 }
 
-/// A message of an unknown type, one of which no originating id can be read, and one with a wrong portion.
+/// A message of an unknown type, one without a readable originating id, and one with a wrong portion.
 #[test]
 fn badly_formed_transactions(rt: HostRuntime) -> Result<(), Fail> {
     answered(
@@ -71,7 +76,7 @@ fn most_components(rt: HostRuntime) -> Result<(), Fail> {
     answered(&rt, &[(more.as_str(), "67 09 49 04 00 00 00 01 4A 01 04")])
 }
 
-/// Lengths and tags that are spelled at length, and such as are none (X.690, 8.1).
+/// Lengths and tags in long forms, and invalid ones (X.690, 8.1).
 #[test]
 fn hostile_spellings(rt: HostRuntime) -> Result<(), Fail> {
     answered(

@@ -1,5 +1,5 @@
-//! The worked examples of the profile as runs of the whole program: a records file and received frames in, the frames that
-//! are sent out, octet for octet.
+//! The worked examples of the profile as runs of the whole program: a records file and received frames in, sent frames out,
+//! octet for octet, and what is listed and saved at the end.
 #![tactic(auto)]
 
 #[cfg(test)]
@@ -13,7 +13,11 @@ mod full_shard;
 #[cfg(test)]
 mod hostile;
 #[cfg(test)]
+mod listings;
+#[cfg(test)]
 mod portions;
+#[cfg(test)]
+mod program;
 #[cfg(test)]
 mod routes;
 #[cfg(test)]

@@ -8,10 +8,10 @@ pub const AARQ: &str =
 pub const AARE: &str =
     "6B 2A 28 28 06 07 00 11 86 05 01 01 01 A0 1D 61 1B 80 02 07 80 A1 09 06 07 04 00 00 01 00";
 
-/// What follows in the AARE of a dialogue that is accepted.
+/// The rest of the AARE of an accepted dialogue.
 pub const ACCEPTED: &str = "A2 03 02 01 00 A3 05 A1 03 02 01 00";
 
-/// What follows in the AARE of one whose context is not supported.
+/// The rest of the AARE of a dialogue whose context is not supported.
 pub const NOT_SUPPORTED: &str = "A2 03 02 01 01 A3 05 A1 03 02 01 02";
 
 /// networkLocUp, version 3.

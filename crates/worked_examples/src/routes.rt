@@ -1,15 +1,17 @@
-//! sendRoutingInfoForSM (TS 29.002): the route, and why there is none.
+//! sendRoutingInfoForSM (TS 29.002, 12.1): the route, and its errors.
 
 use crate::portions::{AARE, AARQ, ACCEPTED, SHORT_MESSAGE};
 use crate::run::{Frame, RECORDS, answers};
 use std::alloc::{AllocError, Global};
 use std::process::Abort;
+use std::sync::Wait;
 use std::test::Fail;
+use std::thread::Threads;
 
 /// The SMS gateway.
 const GATEWAY: &str = "447700909999";
 
-/// A Begin of 73 octets with its AARQ, up to the digits of the subscriber's MSISDN that are behind 447700.
+/// A Begin of 73 octets with its AARQ, up to the digits of the subscriber's MSISDN after 447700.
 const BEGIN: [&str; 4] = [
     "62 47 48 04 00 00 00 01",
     AARQ,
@@ -29,7 +31,7 @@ pub const ROUTE: [&str; 5] = [
     "6C 21 A2 1F 02 01 01 30 1A 02 01 2D 30 15 04 08 32 14 05 00 00 00 00 F1 A0 09 81 07 91 44 77 00 09 00 10",
 ];
 
-/// The parts of a request for the subscriber whose MSISDN has these digits behind 447700.
+/// The parts of a request for the subscriber whose MSISDN has these digits after 447700.
 pub fn request<'a>(digits: &'a str) -> [&'a str; 6] {
     let [begin, portion, context, invoke] = BEGIN;
     [begin, portion, context, invoke, digits, PRIORITY_AND_CENTRE]
@@ -75,7 +77,7 @@ fn indefinite_route(rt: HostRuntime) -> Result<(), Fail> {
     answers(&rt, RECORDS, &[to_gateway(&request)], &[to_gateway(&ROUTE)])
 }
 
-/// The request cut behind each of its octets but the last: 0 to 72 octets.
+/// The request truncated to 0 to 72 octets.
 #[test]
 fn cut_route(rt: HostRuntime) -> Result<(), Fail> {
     let mut octets = Vec::new(rt.alloc());
@@ -89,7 +91,7 @@ fn cut_route(rt: HostRuntime) -> Result<(), Fail> {
     Ok(())
 }
 
-/// A subscriber without a register, one without an SM service, and one who is not known.
+/// A subscriber without a register, one without an SM service, and an unknown one.
 #[test]
 fn route_errors(rt: HostRuntime) -> Result<(), Fail> {
     for (digits, code) in [("09 20 20", "06"), ("09 20 40", "0B"), ("09 20 99", "01")] {
@@ -100,7 +102,7 @@ fn route_errors(rt: HostRuntime) -> Result<(), Fail> {
     Ok(())
 }
 
-/// The octets of a request, as far as they stand before what is of no known type.
+/// The octets of a request up to a parameter of unknown type.
 fn longer_request(
     alloc: Global,
     begin: &str,
@@ -116,7 +118,7 @@ fn longer_request(
     Ok(octets)
 }
 
-/// These octets and so many zeros.
+/// These octets and `zeros` zeros.
 fn padded(octets: String, zeros: usize) -> Result<String, AllocError> {
     let mut padded = octets;
     for _ in 0..zeros {
@@ -125,7 +127,7 @@ fn padded(octets: String, zeros: usize) -> Result<String, AllocError> {
     Ok(padded)
 }
 
-/// So many values of the indefinite form, one in the other, around a NULL.
+/// `levels` nested values of the indefinite form around a NULL.
 fn nested(octets: String, levels: u8) -> Result<String, AllocError> {
     let mut nested = octets;
     for _ in 0..levels {
@@ -136,7 +138,11 @@ fn nested(octets: String, levels: u8) -> Result<String, AllocError> {
 }
 
 /// One frame from the gateway, and what is sent.
-fn answered(rt: &(impl Abort + AllocGlobal), octets: &str, sent: &[Frame]) -> Result<(), Fail> {
+fn answered(
+    rt: &(impl Abort + Threads + Wait + Sync + AllocGlobal),
+    octets: &str,
+    sent: &[Frame],
+) -> Result<(), Fail> {
     let received = [Frame {
         address: GATEWAY,
         parts: &[octets],
@@ -144,7 +150,7 @@ fn answered(rt: &(impl Abort + AllocGlobal), octets: &str, sent: &[Frame]) -> Re
     answers(rt, RECORDS, &received, sent)
 }
 
-/// A frame has at most 4,096 octets; of an unknown parameter nothing is read.
+/// A frame has at most 4,096 octets; an unknown parameter is not read.
 #[test]
 fn largest_frame(rt: HostRuntime) -> Result<(), Fail> {
     let largest = longer_request(

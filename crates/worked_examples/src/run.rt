@@ -4,7 +4,9 @@ use hlr_program::{read_words, serve_script};
 use std::alloc::{AllocError, Global};
 use std::io::{self, Read};
 use std::process::Abort;
+use std::sync::Wait;
 use std::test::Fail;
+use std::thread::Threads;
 
 /// A register with four subscribers, the first of them registered.
 pub const RECORDS: &str = "HLR1 447700900100
@@ -14,7 +16,7 @@ pub const RECORDS: &str = "HLR1 447700900100
 234150000000004 447700900204 11 * -
 ";
 
-/// A frame: the digits that it comes from or goes to, and its octets in hexadecimal digits, in parts.
+/// A frame: its source or destination digits, and its octets in hexadecimal digits, in parts.
 #[derive(Clone, Copy)]
 pub struct Frame<'a> {
     pub address: &'a str,
@@ -37,7 +39,7 @@ impl Read for Given<'_> {
     }
 }
 
-/// What a run comes to: its status, and what it prints on standard output and standard error.
+/// The result of a run: its status, and what it prints on standard output and standard error.
 #[derive(Debug, PartialEq, Eq, Drop)]
 pub struct Ran {
     pub status: u8,
@@ -45,10 +47,33 @@ pub struct Ran {
     pub fault: Vec<u8>,
 }
 
+/// The program in one thread, and with one worker, two and sixteen.
+pub const WITH_WORKERS: [&str; 4] = [
+    "hlr records script",
+    "hlr records script --workers 1",
+    "hlr records script --workers 2",
+    "hlr records script --workers 16",
+];
+
 /// Runs the program on a records file and a script.
-pub fn run(alloc: Global, records: &str, script: &str) -> Result<Ran, Fail> {
+pub fn run(
+    rt: &(impl Threads + Wait + Sync + AllocGlobal),
+    records: &str,
+    script: &str,
+) -> Result<Ran, Fail> {
+    run_with(rt, WITH_WORKERS[0], records, script)
+}
+
+/// The same with these words, separated by spaces.
+pub fn run_with(
+    rt: &(impl Threads + Wait + Sync + AllocGlobal),
+    line: &str,
+    records: &str,
+    script: &str,
+) -> Result<Ran, Fail> {
+    let alloc = rt.alloc();
     let mut words = Vec::new(alloc);
-    for word in ["hlr", "records", "script"] {
+    for word in line.split(' ') {
         words.push(String::from_str(alloc, word)?)?;
     }
     let options = read_words(alloc, &words).ok().ok_or("no command line")?;
@@ -61,6 +86,7 @@ pub fn run(alloc: Global, records: &str, script: &str) -> Result<Ran, Fail> {
     let mut printed = Vec::new(alloc);
     let mut fault = Vec::new(alloc);
     let status = serve_script(
+        rt,
         alloc,
         &options,
         &mut records,
@@ -75,7 +101,7 @@ pub fn run(alloc: Global, records: &str, script: &str) -> Result<Ran, Fail> {
     })
 }
 
-/// So many times these digits.
+/// These digits `times` times.
 pub fn repeated(alloc: Global, digits: &str, times: usize) -> Result<String, AllocError> {
     let mut text = String::new(alloc);
     for _ in 0..times {
@@ -84,7 +110,7 @@ pub fn repeated(alloc: Global, digits: &str, times: usize) -> Result<String, All
     Ok(text)
 }
 
-/// Puts a line for a frame behind a text: its kind, the address, and the octets, `-` where there is none.
+/// Appends a line for a frame: its kind, the address, and the octets, `-` for none.
 pub fn push_line(text: &mut String, kind: &str, frame: &Frame) -> Result<(), AllocError> {
     text.push_str(kind)?;
     text.push_str(" ")?;
@@ -102,7 +128,7 @@ pub fn push_line(text: &mut String, kind: &str, frame: &Frame) -> Result<(), All
     text.push_str("\n")
 }
 
-/// A line of a script: a frame that comes, or what the line says.
+/// A line of a script: a received frame, or the line's text.
 #[derive(Clone, Copy)]
 pub enum Line<'a> {
     Received(Frame<'a>),
@@ -134,8 +160,8 @@ fn lines_of(alloc: Global, sent: &[Frame]) -> Result<String, AllocError> {
     Ok(lines)
 }
 
-/// Whether the text is the wanted one. A small letter there stands for the eight digits of a local id, the same letter for the
-/// same id and another for another; `?` stands for those of any id.
+/// Whether the text is the expected one. A lower case letter there stands for the eight digits of a local id: the same letter for
+/// the same id, another for another; `?` stands for any id.
 pub fn is_as_wanted(text: &[u8], wanted: &[u8]) -> bool {
     let mut ids: [Option<&[u8]>; 26] = [None; 26];
     let mut rest = text;
@@ -156,7 +182,7 @@ pub fn is_as_wanted(text: &[u8], wanted: &[u8]) -> bool {
     rest.is_empty()
 }
 
-/// Whether these may be the digits of the id of a letter: those that it stood for before, or new ones.
+/// Whether these can be the digits of a letter's id: the ones that it stood for before, or new ones.
 fn is_id_of<'a>(ids: &mut [Option<&'a [u8]>; 26], letter: u8, found: &'a [u8]) -> bool {
     let place = usize::from(letter.wrapping_sub(b'a'));
     match ids.get(place) {
@@ -172,14 +198,25 @@ fn is_id_of<'a>(ids: &mut [Option<&'a [u8]>; 26], letter: u8, found: &'a [u8]) -
 
 /// Runs the program on lines, each a batch of its own, and compares what it sends.
 pub fn plays(
-    rt: &(impl Abort + AllocGlobal),
+    rt: &(impl Abort + Threads + Wait + Sync + AllocGlobal),
+    records: &str,
+    lines: &[Line],
+    sent: &[Frame],
+) -> Result<(), Fail> {
+    plays_with(rt, WITH_WORKERS[0], records, lines, sent)
+}
+
+/// The same with these words.
+fn plays_with(
+    rt: &(impl Abort + Threads + Wait + Sync + AllocGlobal),
+    words: &str,
     records: &str,
     lines: &[Line],
     sent: &[Frame],
 ) -> Result<(), Fail> {
     let script = script_of(rt.alloc(), lines)?;
     let wanted = lines_of(rt.alloc(), sent)?;
-    let ran = run(rt.alloc(), records, &script)?;
+    let ran = run_with(rt, words, records, &script)?;
     assert_eq!(rt; ran.fault.as_slice(), b"".as_slice());
     assert_eq!(rt; ran.status, 0);
     if !is_as_wanted(&ran.printed, wanted.as_bytes()) {
@@ -191,7 +228,18 @@ pub fn plays(
 
 /// Runs the program on frames, each a batch of its own, and compares what it sends.
 pub fn answers(
-    rt: &(impl Abort + AllocGlobal),
+    rt: &(impl Abort + Threads + Wait + Sync + AllocGlobal),
+    records: &str,
+    received: &[Frame],
+    sent: &[Frame],
+) -> Result<(), Fail> {
+    answers_with(rt, WITH_WORKERS[0], records, received, sent)
+}
+
+/// The same with these words.
+pub fn answers_with(
+    rt: &(impl Abort + Threads + Wait + Sync + AllocGlobal),
+    words: &str,
     records: &str,
     received: &[Frame],
     sent: &[Frame],
@@ -200,5 +248,5 @@ pub fn answers(
     for frame in received {
         lines.push(Line::Received(*frame))?;
     }
-    plays(rt, records, &lines, sent)
+    plays_with(rt, words, records, &lines, sent)
 }

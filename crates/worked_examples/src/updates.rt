@@ -1,10 +1,12 @@
-//! updateLocation and purgeMS (TS 29.002, 8.1; TS 23.012): those that are answered at once.
+//! updateLocation and purgeMS (TS 29.002, 8.1.2 and 8.1.6; TS 23.012) that are answered at once.
 
 use crate::portions::{AARE, AARQ, ACCEPTED, LOCATION, NOT_SUPPORTED, PURGING};
 use crate::routes::{ROUTE, error, request, to_gateway};
-use crate::run::{Frame, RECORDS, answers};
+use crate::run::{Frame, RECORDS, WITH_WORKERS, answers, answers_with};
 use std::process::Abort;
+use std::sync::Wait;
 use std::test::Fail;
+use std::thread::Threads;
 
 pub const BEGIN: &str = "62 4E 48 04 00 00 00 0B";
 
@@ -21,7 +23,7 @@ pub fn at<'a>(address: &'a str, parts: &'a [&'a str]) -> Frame<'a> {
 
 /// One frame from a VLR, and the answer to it.
 fn answered<'a>(
-    rt: &(impl Abort + AllocGlobal),
+    rt: &(impl Abort + Threads + Wait + Sync + AllocGlobal),
     received: &'a [&'a str],
     sent: &'a [&'a str],
 ) -> Result<(), Fail> {
@@ -29,7 +31,7 @@ fn answered<'a>(
     answers(rt, RECORDS, &[at(vlr, received)], &[at(vlr, sent)])
 }
 
-/// A context of version 2, one that is not known, no portion, and a portion without components.
+/// A context of version 2, an unknown one, no dialogue portion, and a Begin without components.
 #[test]
 fn refused_contexts(rt: HostRuntime) -> Result<(), Fail> {
     for context in ["01 02", "05 03"] {
@@ -119,7 +121,7 @@ fn refused_updates(rt: HostRuntime) -> Result<(), Fail> {
     )
 }
 
-/// The Invoke of a purge up to the octets of the VLR's number that tell VLRs apart.
+/// The Invoke of a purge up to the octets of the VLR's number that differ between VLRs.
 const PURGE: [&str; 4] = [
     "62 45 48 04 00 00 00 0C",
     AARQ,
@@ -127,33 +129,36 @@ const PURGE: [&str; 4] = [
     "6C 1D A1 1B 02 01 01 02 01 43 A3 13 04 08 32 14 05 00 00 00 00 F1 80 07 91 44 77 00 09",
 ];
 
-/// The serving VLR purges, and there is no route; another purges, and the route stays; one names no VLR.
+/// The serving VLR purges, and there is no route; another purges, and the route stays; a purge names no VLR.
 #[test]
 fn purge(rt: HostRuntime) -> Result<(), Fail> {
     let [begin, portion, context, invoke] = PURGE;
     let route_asked = request("09 00 00");
     let serving = "447700900011";
-    answers(
-        &rt,
-        RECORDS,
-        &[
-            at(serving, &[begin, portion, context, invoke, "00 11"]),
-            to_gateway(&route_asked),
-        ],
-        &[
-            at(
-                serving,
-                &[
-                    "64 42 49 04 00 00 00 0C",
-                    AARE,
-                    PURGING,
-                    ACCEPTED,
-                    "6C 0E A2 0C 02 01 01 30 07 02 01 43 30 02 80 00",
-                ],
-            ),
-            to_gateway(&error("06")),
-        ],
-    )?;
+    for words in WITH_WORKERS {
+        answers_with(
+            &rt,
+            words,
+            RECORDS,
+            &[
+                at(serving, &[begin, portion, context, invoke, "00 11"]),
+                to_gateway(&route_asked),
+            ],
+            &[
+                at(
+                    serving,
+                    &[
+                        "64 42 49 04 00 00 00 0C",
+                        AARE,
+                        PURGING,
+                        ACCEPTED,
+                        "6C 0E A2 0C 02 01 01 30 07 02 01 43 30 02 80 00",
+                    ],
+                ),
+                to_gateway(&error("06")),
+            ],
+        )?;
+    }
     let other = "447700900021";
     answers(
         &rt,

@@ -1,16 +1,36 @@
-//! Whole procedures, as texts: a script, and what is printed. In what is printed a small letter stands for a local id.
+//! Whole procedures as texts: a script, and what is printed. There a lower case letter stands for a local id.
 
-use crate::run::{RECORDS, is_as_wanted, run};
-use std::alloc::Global;
+use crate::run::{RECORDS, WITH_WORKERS, is_as_wanted, run, run_with};
+use std::sync::Wait;
 use std::test::Fail;
+use std::thread::Threads;
 
-/// Whether a script prints this, and ends well.
-fn prints(alloc: Global, script: &str, wanted: &str) -> Result<bool, Fail> {
-    let ran = run(alloc, RECORDS, script)?;
+/// Whether a script prints this and succeeds.
+fn prints(
+    rt: &(impl Threads + Wait + Sync + AllocGlobal),
+    script: &str,
+    wanted: &str,
+) -> Result<bool, Fail> {
+    let ran = run(rt, RECORDS, script)?;
     Ok(ran.status == 0 && is_as_wanted(&ran.printed, wanted.as_bytes()))
 }
 
-/// An update, the end of its dialogue, the cancel to the register before, and the route as it is then.
+/// Whether it does so in one thread, and with one worker, two and sixteen.
+fn prints_with_workers(
+    rt: &(impl Threads + Wait + Sync + AllocGlobal),
+    script: &str,
+    wanted: &str,
+) -> Result<bool, Fail> {
+    for words in WITH_WORKERS {
+        let ran = run_with(rt, words, RECORDS, script)?;
+        if ran.status != 0 || !is_as_wanted(&ran.printed, wanted.as_bytes()) {
+            return Ok(false);
+        }
+    }
+    Ok(true)
+}
+
+/// An update, the end of its dialogue, the cancel to the old register, and the new route.
 #[test]
 fn whole_update(rt: HostRuntime) -> Result<(), Fail> {
     let script = "\
@@ -32,7 +52,7 @@ fn whole_update(rt: HostRuntime) -> Result<(), Fail> {
         0D040832140500000000F10A0100\n\
         S 447700909999 64554904000000016B2A2828060700118605010101A01D611B80020780A109060704000001001403A203020100A305A\
         1030201006C21A21F020101301A02012D3015040832140500000000F1A009810791447700090020\n";
-    assert!(rt; prints(rt.alloc(), script, wanted)?);
+    assert!(rt; prints_with_workers(&rt, script, wanted)?);
     Ok(())
 }
 
@@ -64,7 +84,7 @@ fn overtaken_update(rt: HostRuntime) -> Result<(), Fail> {
         S 447700900012 641049040000000B6C08A306020101020122\n\
         S 447700909999 64554904000000016B2A2828060700118605010101A01D611B80020780A109060704000001001403A203020100A305A\
         1030201006C21A21F020101301A02012D3015040832140500000000F1A009810791447700090030\n";
-    assert!(rt; prints(rt.alloc(), script, wanted)?);
+    assert!(rt; prints_with_workers(&rt, script, wanted)?);
     Ok(())
 }
 
@@ -91,7 +111,7 @@ fn same_update_twice(rt: HostRuntime) -> Result<(), Fail> {
         S 447700900012 641D49040000000B6C15A213020101300E0201023009040791447700091000\n\
         S 447700900011 623F4804c6B1E281C060700118605010101A011600F80020780A1090607040000010002036C17A115020101020103A3\
         0D040832140500000000F10A0100\n";
-    assert!(rt; prints(rt.alloc(), script, wanted)?);
+    assert!(rt; prints(&rt, script, wanted)?);
     Ok(())
 }
 
@@ -114,7 +134,7 @@ fn insert_error(rt: HostRuntime) -> Result<(), Fail> {
         S 447700900012 641049040000000B6C08A306020101020122\n\
         S 447700909999 643C4904000000016B2A2828060700118605010101A01D611B80020780A109060704000001001403A203020100A305A\
         1030201006C08A306020101020106\n";
-    assert!(rt; prints(rt.alloc(), script, wanted)?);
+    assert!(rt; prints(&rt, script, wanted)?);
     Ok(())
 }
 
@@ -153,7 +173,7 @@ fn repeated_cancel(rt: HostRuntime) -> Result<(), Fail> {
         0D040832140500000000F10A0100\n\
         S 447700900011 623F4804d6B1E281C060700118605010101A011600F80020780A1090607040000010002036C17A115020101020103A3\
         0D040832140500000000F10A0100\n";
-    assert!(rt; prints(rt.alloc(), script, wanted)?);
+    assert!(rt; prints_with_workers(&rt, script, wanted)?);
     Ok(())
 }
 
@@ -183,7 +203,7 @@ fn cancel_of_a_register_that_asks(rt: HostRuntime) -> Result<(), Fail> {
         0D040832140500000000F10A0100\n\
         S 447700900011 65584804c49040000000B6B2A2828060700118605010101A01D611B80020780A109060704000001000103A203020100\
         A305A1030201006C1EA11C0201010201073014810791447700090000830100A606040111040121\n";
-    assert!(rt; prints(rt.alloc(), script, wanted)?);
+    assert!(rt; prints(&rt, script, wanted)?);
     Ok(())
 }
 
@@ -218,7 +238,7 @@ fn cancel_of_a_register_that_serves(rt: HostRuntime) -> Result<(), Fail> {
         S 447700900011 641D49040000000B6C15A213020101300E0201023009040791447700091000\n\
         S 447700900012 623F4804d6B1E281C060700118605010101A011600F80020780A1090607040000010002036C17A115020101020103A3\
         0D040832140500000000F10A0100\n";
-    assert!(rt; prints(rt.alloc(), script, wanted)?);
+    assert!(rt; prints(&rt, script, wanted)?);
     Ok(())
 }
 
@@ -244,7 +264,7 @@ fn short_ids(rt: HostRuntime) -> Result<(), Fail> {
         S 447700909999 67094904000000074A0101\n\
         S 447700900012 6708490300000B4A0101\n\
         S 447700900012 65164804a49040000000B6C08A406020102820100\n";
-    assert!(rt; prints(rt.alloc(), script, wanted)?);
+    assert!(rt; prints(&rt, script, wanted)?);
     Ok(())
 }
 
@@ -264,6 +284,6 @@ fn codes_changed(rt: HostRuntime) -> Result<(), Fail> {
         1E800832140500000000F1810791447700090000830100A606040111040122\n\
         S 447700909999 643C4904000000016B2A2828060700118605010101A01D611B80020780A109060704000001001403A203020100A305A\
         1030201006C08A30602010102010B\n";
-    assert!(rt; prints(rt.alloc(), script, wanted)?);
+    assert!(rt; prints(&rt, script, wanted)?);
     Ok(())
 }

@@ -1,30 +1,25 @@
-use Rattle.std.proofs.Common.{◌≡◌, ◌<◌, ◌+◌, [], ◌∷◌, false, length, ap, ◌∙◌, rules, arith}
-use Rattle.std.specs.Prelude.{codes}
+use Rattle.std.proofs.Common.{map, ap}
+use Rattle.hlrcore.specs.Events.{raw_event}
 use Rattle.records.specs.File.{lines}
-use Rattle.records.specs.Reading.{is_text}
-use Rattle.records.proofs.LinesLemmas.{lines_nil}
-use Rattle.hlr_program.proofs.BatchLemmas.{line_done, script_done}
+use Rattle.shard_state.specs.Frames.{raw_out}
+use Rattle.hlr_program.specs.Registers.{state_known}
+use Rattle.hlr_program.specs.Batches.{batch_of}
+use Rattle.hlr_program.specs.Gathering.{progress}
+use Rattle.hlr_program.specs.Stopping.{BatchStops}
+use Rattle.hlr_program.proofs.GatherLemmas.{batch_stops, handles, last_stops, passed_on}
 use Rattle.hlr_program.proofs.batch.handle_batch.Goals as goal
 
-pub lines-preserved : goal.lines-preserved
-lines-preserved c =
-    let is : lines c.lines.place.rest.now ≡ c.in-Some.line.text.now ∷ lines c.in-Some.behind.rest.now = search rules in
-    let count : c.in-Some.behind.before ≡ c.lines.place.before + 1 = search rules in
-    let no_end : is_text c.in-Some.line.text.now (codes "W") ≡ false = search rules in
-    let shorter : length c.in-Some.behind.rest.now < length c.lines.place.rest.now = search rules in
-    (omega (arith, shorter, c.lines.invariant.0), line_done _ _ _ _ _ _ _ _ _ _ _ c.lines.invariant.1 is count no_end c.in-Ok.ensures.sends c.in-Ok.ensures.known)
+pub returns-in_err-run-clause-stops : goal.returns-in_err-run-clause-stops
+returns-in_err-run-clause-stops g c =
+    let start = progress c.args.register.now c.new-batch.result in
+    let here = progress c.handle_lines.new.register c.handle_lines.new.batch in
+    let ls = batch_of (lines c.args.from.rest.now) in
+    passed_on c.from_residual-in_err-run.result c.in_err-run.field-0.0 (BatchStops c.args.ids.now c.args.from.before (state_known c.args.register.now) ls) c.from_residual-in_err-run.ensures.1
+    (batch_stops c.args.ids.now c.args.from.before start ls c.in_err-run.field-0.0 (ap (map raw_event) c.new-batch.ensures.part) c.in_ok-check_letters.ensures.known
+    (last_stops c.args.ids.now start here ls c.in_err-run.field-0.0 c.in_ok-behind.ensures.adds c.in_err-run.ensures.stops))
 
-pub returns-clause-sends : goal.returns-clause-sends
-returns-clause-sends c =
-    let none : c.lines.place.rest.now ≡ [] = search rules in
-    (script_done _ _ _ _ _ _ _ c.lines.invariant.1 (ap lines none ∙ lines_nil)).sends
-
-pub returns-clause-known : goal.returns-clause-known
-returns-clause-known c =
-    let none : c.lines.place.rest.now ≡ [] = search rules in
-    (script_done _ _ _ _ _ _ _ c.lines.invariant.1 (ap lines none ∙ lines_nil)).known
-
-pub returns-clause-behind : goal.returns-clause-behind
-returns-clause-behind c =
-    let none : c.lines.place.rest.now ≡ [] = search rules in
-    (script_done _ _ _ _ _ _ _ c.lines.invariant.1 (ap lines none ∙ lines_nil)).behind
+pub returns-clause-handles : goal.returns-clause-handles
+returns-clause-handles g c =
+    handles c.args.ids.now (progress c.args.register.now c.new-batch.result) (progress c.handle_lines.new.register c.handle_lines.new.batch) (progress c.run.new.register c.run.new.self)
+    (batch_of (lines c.args.from.rest.now)) (ap (map raw_event) c.new-batch.ensures.part) (ap (map raw_out) c.new-batch.ensures.sent) c.in_ok-behind.ensures.adds c.in_ok-run.ensures.adds
+    (ap (map raw_event) c.in_ok-run.ensures.none)

@@ -1,9 +1,0 @@
-use Rattle.std.proofs.Common.{◌≡◌, map, take}
-use Rattle.std.specs.Io.KnownBytes.{Appends}
-use Rattle.shard_state.specs.Answers.{raw_out}
-use Rattle.hlr_program.specs.Printed.{sent_lines, noted_in}
-use Rattle.hlr_program.proofs.printed.print_sent.Given as goal
-
-abbrev pub invariant-loop-frame : goal.invariant-loop-frame
-invariant-loop-frame g l =
-    Appends (g.W.Write.contents l.initial.out) (g.W.Write.contents l.out) (sent_lines (map raw_out (take l.frame-index l.sent))) × (l.letters ≡ noted_in l.initial.letters (map raw_out (take l.frame-index l.sent)))

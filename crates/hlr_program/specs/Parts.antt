@@ -1,0 +1,30 @@
+-- The parts of a batch, and the cuts between them (profile). A cut changes no state, only which entries a listing shows.
+use Rattle.std.specs.Prelude.{◌≡◌, ◌≤◌, ◌⊎◌, ℕ, ◌+◌, List, [], length, Some, option_map, slice_get}
+use Rattle.frames.specs.Octets.{RawEvent}
+use Rattle.shardlog.specs.declared.entry.Handled.{Handled}
+use Rattle.shardlog.specs.Log.{Log, log}
+use Rattle.wholenode.specs.Handling.{Runs}
+use Rattle.wholenode.specs.Nodes.{NodeState}
+
+-- Each journal has room for n more entries.
+abbrev pub HasRoom : NodeState → ℕ → Type 0
+HasRoom node count = (n : ℕ) (l : Log) → slice_get node.shards n ≡ Some l → length l.entries + count ≤ 65536
+
+-- a shard whose journal is cut: the journal is empty, and begins in the current state
+abbrev pub cut_log : Log → Log
+cut_log l = log l.state [] l.state
+
+-- The journal of each shard is cut, and nothing else changes.
+pub record AreCut (before after : NodeState) : Type 0 where
+  pub directory : after.directory ≡ before.directory
+  pub each : (n : ℕ) → slice_get after.shards n ≡ option_map cut_log (slice_get before.shards n)
+
+-- If some journal has no room for n more entries, all are cut; otherwise nothing is done.
+abbrev pub MakesRoom : NodeState → ℕ → NodeState → Type 0
+MakesRoom before count after = (HasRoom before count × (after ≡ before)) ⊎ ((HasRoom before count → ⊥) × AreCut before after)
+
+-- A part of a batch: room is made for its events, and they are handled.
+pub record RunsPart (before : NodeState) (part : List RawEvent) (done : List Handled) (after : NodeState) : Type 0 where
+  pub ready : NodeState
+  pub makes : MakesRoom before (length part) ready
+  pub runs : Runs ready part done after

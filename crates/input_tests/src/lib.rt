@@ -1,0 +1,15 @@
+//! Tests of the input: digits and ids (`hlr_types`), the records file (`records`), and the command line (`hlr_input`).
+//!
+//! They are in a crate of their own because a crate with tests is proved twice.
+#![tactic(auto)]
+
+#[cfg(test)]
+mod command_lines;
+#[cfg(test)]
+mod identities;
+#[cfg(test)]
+mod keys;
+#[cfg(test)]
+mod records_faults;
+#[cfg(test)]
+mod records_files;
