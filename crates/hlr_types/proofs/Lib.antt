@@ -1,3 +1,5 @@
+pub mod WordLemmas
+pub mod PackLemmas
 pub mod TbcdLemmas
 pub mod TbcdLaws
 pub mod IdentityLaws

@@ -1,21 +1,31 @@
 //! Digits.
 
-ghost use Rattle.std.specs.Prelude.{◌≡◌, ◌-◌, List, ℕ, length, IfSome, Some};
+ghost use Rattle.std.proofs.Common.{rules};
+ghost use Rattle.std.specs.Cmp.Lexicographic.{slice_cmp, pointwise};
+ghost use Rattle.std.specs.Cmp.Rules.{comparing};
+ghost use Rattle.std.specs.Cmp.{partial_order_from_own_ties};
 ghost use Rattle.std.specs.Fmt.{padded};
+ghost use Rattle.std.specs.Ordering.{nat_cmp, on, as_partial_cmp};
+ghost use Rattle.std.specs.Prelude.{◌≡◌, ◌-◌, List, ℕ, length, IfSome, Some, nat_eq};
 ghost use Rattle.std.specs.Str.{IsAscii};
 ghost use Rattle.std.specs.List.{AllByRecursion, list_all};
 ghost use Rattle.hlr_types.specs.Digits.{AreSomeDigits};
+ghost use Rattle.hlr_types.specs.Words.{IsWord, in_word, word_of};
 ghost use Rattle.hlr_types.specs.DigitTexts.{digits_in, is_digit, text_of, AreTextForms, IsText};
 
 use crate::short_list::ShortList;
+use std::cmp::Ordering;
 use std::fmt;
 use std::marker::Model;
 
 /// 1 to 16 digits from 0 to 9, which contracts see as a list. Digits are a text: leading zeros count, and the order is that
 /// of texts, so `12` comes before `2` and before `120`.
-#[derive(Clone, Copy, Debug, PartialEq, Eq, PartialOrd, Ord)]
+///
+/// They are kept in one word of sixteen half octets, from the highest on: each digit plus one, and 0 where there is none.
+/// So the order of words is the order of texts.
+#[derive(Clone, Copy, Debug)]
 pub struct Digits {
-    pub(crate) digits: ShortList<16>,
+    word: u64,
 }
 
 impl Model for Digits {
@@ -23,13 +33,15 @@ impl Model for Digits {
 
     ghost Value = { List ℕ };
 
-    ghost use Rattle.hlr_types.specs.Digits.{AreSomeDigits};
+    ghost use Rattle.hlr_types.specs.Words.{in_word, word_of, IsWord, same_word};
 
-    ghost view = { λ d. d.digits };
+    ghost view = { λ d. in_word d.word };
 
-    ghost invariant = { λ d. AreSomeDigits d.digits };
+    ghost invariant = { λ d. IsWord d.word };
 
-    ghost inverse = { λ v. record { digits = v } };
+    ghost inverse = { λ v. record { word = word_of v } };
+
+    ghost inverse_ok = { λ a h. same_word (λ w. record { word = w }) a.word h };
 }
 
 impl Digits {
@@ -44,12 +56,35 @@ impl Digits {
         from_text(text)
     }
 
-    /// The digits, each from 0 to 9.
-    pub fn as_slice(&self) -> &[u8]
-        ensures value { result.now ≡ self.now }
-        ensures digits { AreSomeDigits result.now }
+    /// The digits of a list.
+    pub(crate) fn of_list(list: &[u8]) -> Digits
+        requires { AreSomeDigits list.now }
+        ensures { result ≡ list.now }
     {
-        self.digits.as_slice()
+        Digits { word: packed(list) }
+    }
+
+    /// The word of the digits.
+    pub(crate) fn word(&self) -> u64
+        ensures value { in_word result ≡ self.now }
+        ensures word { IsWord result }
+    {
+        self.word
+    }
+
+    /// The digits, each from 0 to 9.
+    pub fn list(&self) -> ShortList<16>
+        ensures value { result ≡ self.now }
+        ensures digits { AreSomeDigits result }
+    {
+        unpacked(self.word)
+    }
+
+    /// Fact: these are 1 to 16 digits. Nothing is computed.
+    pub fn are_some_digits(&self)
+        ensures { AreSomeDigits self.now }
+    {
+        self.word();
     }
 
     /// Their ASCII text: one octet for each digit, from `0` to `9`.
@@ -58,10 +93,50 @@ impl Digits {
         ensures ascii { IsAscii result }
     {
         let mut text = ShortList::new();
-        for digit in self.as_slice() {
+        for digit in self.list().as_slice() {
             text.push(*digit + b'0');
         }
         text
+    }
+}
+
+impl PartialEq for Digits {
+    ghost eq = { on (λ d. d) (pointwise nat_eq) };
+
+    ghost laws = { Prim.search (comparing, rules) };
+
+    #[tactic(auto, using(crate::proofs::WordLemmas::word_order))]
+    fn eq(&self, other: &Digits) -> bool {
+        self.word == other.word
+    }
+}
+
+impl Eq for Digits {
+    ghost laws = { Prim.search (comparing, rules) };
+}
+
+impl Ord for Digits {
+    ghost cmp = { on (λ d. d) (slice_cmp nat_cmp) };
+
+    ghost total = { Prim.search (comparing, rules) };
+
+    ghost matches_partial_cmp = { Prim.search (comparing, rules) };
+
+    ghost matches_eq = { Prim.search (comparing, rules) };
+
+    #[tactic(auto, using(crate::proofs::WordLemmas::word_order))]
+    fn cmp(&self, other: &Digits) -> Ordering {
+        self.word.cmp(&other.word)
+    }
+}
+
+impl PartialOrd for Digits {
+    ghost partial_cmp = { as_partial_cmp (on (λ d. d) (slice_cmp nat_cmp)) };
+
+    ghost laws = { partial_order_from_own_ties (Prim.search (comparing, rules)) (Prim.search (comparing, rules)) };
+
+    fn partial_cmp(&self, other: &Digits) -> Option<Ordering> {
+        Some(self.cmp(other))
     }
 }
 
@@ -87,17 +162,46 @@ fn from_text(text: &[u8]) -> Option<Digits>
     if text.is_empty() || text.len() > 16 || !are_digits(text) {
         return None;
     }
-    let mut digits = ShortList::new();
+    let mut digits = ShortList::<16>::new();
     for octet in text {
         digits.push(*octet - b'0');
     }
-    Some(Digits { digits })
+    Some(Digits::of_list(digits.as_slice()))
 }
 
 fn are_digits(text: &[u8]) -> bool
     ensures { result ≡ list_all is_digit text.now }
 {
     text.iter().all(|octet| b'0' <= *octet && *octet <= b'9')
+}
+
+/// The word of a list of digits: the number that they make, a half octet for each, moved up to the high end.
+#[tactic(auto, using(crate::proofs::PackLemmas::pack_laws))]
+fn packed(list: &[u8]) -> u64
+    requires { AreSomeDigits list.now }
+    ensures { result ≡ word_of list.now }
+{
+    let mut number: u64 = 0;
+    for digit in list {
+        number = number * 16 + (u64::from(*digit) + 1);
+    }
+    number << (64 - 4 * list.len())
+}
+
+/// The digits of a word, the highest first.
+#[tactic(auto, using(crate::proofs::PackLemmas::unpack_laws))]
+fn unpacked(word: u64) -> ShortList<16>
+    requires { IsWord word }
+    ensures value { result ≡ in_word word }
+    ensures digits { AreSomeDigits result }
+{
+    let mut list = ShortList::new();
+    let mut rest = word;
+    while rest != 0 {
+        list.push((rest >> 60) as u8 - 1);
+        rest <<= 4;
+    }
+    list
 }
 
 /// Law: printed digits are read again, and read digits are printed as the text that was read.

@@ -37,7 +37,7 @@ impl Imsi {
     pub fn from_digits(digits: Digits) -> Result<Imsi, TbcdFault>
         ensures { result ≡ imsi_from digits }
     {
-        let count = digits.as_slice().len();
+        let count = digits.list().len();
         if 5 <= count && count <= 15 {
             Ok(Imsi { digits })
         } else {

@@ -1,10 +1,11 @@
 //! Telephony binary coded decimal (TS 29.002 17.7.8, TBCD-STRING): two digits to an octet, the first in the low half;
 //! 1111 in the last high half fills an odd count.
 
-ghost use Rattle.std.specs.Prelude.{◌≡◌, ◌<◌, ◌≤◌, ◌*◌, ℕ, List, [], ◌∷◌, ◌++◌, length, IfOk, Ok, Err};
+ghost use Rattle.std.specs.Prelude.{◌≡◌, ◌<◌, ◌≤◌, ◌*◌, ◌-◌, ◌/◌, ◌^◌, ◌==◌, if◌then◌else◌, ℕ, List, [], ◌∷◌, ◌++◌, length, IfOk, Ok, Err};
 ghost use Rattle.std.specs.List.{AllByRecursion};
 ghost use Rattle.hlr_types.specs.Digits.{AreSomeDigits};
 ghost use Rattle.hlr_types.specs.Tbcd.{IsTbcd, tbcd, digits_of, halves, unfilled, are_digits, AreTwoForms, AreInverse};
+ghost use Rattle.hlr_types.specs.Words.{IsWord, in_word};
 
 use crate::digits::Digits;
 use crate::short_list::ShortList;
@@ -47,7 +48,7 @@ pub fn tbcd_write(digits: &Digits) -> Tbcd
     ensures form { IsTbcd result digits.now }
     ensures again { digits_of result ≡ Ok digits.now }
 {
-    octets_of(digits.as_slice())
+    octets_of(digits.word())
 }
 
 /// Law: digits and octets are two forms of one text, and reading and writing convert each to the other.
@@ -69,7 +70,7 @@ fn digits_of(octets: &[u8]) -> Result<Digits, TbcdFault>
     }
     let digits = unfilled(front, *last);
     if are_digits(digits.as_slice()) {
-        Ok(Digits { digits })
+        Ok(Digits::of_list(digits.as_slice()))
     } else {
         Err(TbcdFault::BadDigit)
     }
@@ -109,19 +110,27 @@ fn are_digits(numbers: &[u8]) -> bool
     numbers.iter().all(|number| *number < 10)
 }
 
-fn octets_of(digits: &[u8]) -> Tbcd
-    requires most { length digits.now ≤ 16 }
-    requires each { AllByRecursion (λ d. d < 10) digits.now }
-    ensures { result ≡ tbcd digits.now }
+/// The octets of a word's digits, two from the high end at a time.
+#[tactic(auto, using(crate::proofs::PackLemmas::write_laws))]
+fn octets_of(word: u64) -> Tbcd
+    requires { IsWord word }
+    ensures { result ≡ tbcd (in_word word) }
 {
     let mut octets = ShortList::new();
-    let mut rest = digits;
-    while let [first, second, more @ ..] = rest {
-        octets.push(*first + 16 * *second);
-        rest = more;
-    }
-    if let [last] = rest {
-        octets.push(*last + 16 * 15);
+    let mut rest = word;
+    while rest != 0 {
+        let first = (rest >> 60) as u8 - 1;
+        rest <<= 4;
+        octets.push(first + 16 * high_half(rest));
+        rest <<= 4;
     }
     octets
+}
+
+/// The high half octet: the first digit of a word, or the filler where there is none.
+fn high_half(word: u64) -> u8
+    ensures { result ≡ (if word / 2 ^ 60 == 0 then 15 else word / 2 ^ 60 - 1) }
+{
+    let half = (word >> 60) as u8;
+    if half == 0 { 15 } else { half - 1 }
 }

@@ -137,7 +137,7 @@ fn are_numbers() -> Option<bool> {
     let one = Digits::from_text(b"1")?;
     let four = Digits::from_text(b"1234")?;
     let is_no_imsi = Imsi::from_digits(four) == Err(TbcdFault::BadCount);
-    Some(is_no_imsi && one.as_slice() == [1].as_slice())
+    Some(is_no_imsi && one.list().as_slice() == [1].as_slice())
 }
 
 #[test]

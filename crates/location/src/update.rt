@@ -36,7 +36,7 @@ fn is_allowed(roam: &Roam, vlr: &IsdnAddress) -> bool
 {
     match roam {
         Roam::Everywhere => true,
-        Roam::Within(prefixes) => is_within(prefixes, vlr.digits().as_slice()),
+        Roam::Within(prefixes) => is_within(prefixes, vlr.digits().list().as_slice()),
     }
 }
 
@@ -45,7 +45,7 @@ fn is_within(prefixes: &[Digits], digits: &[u8]) -> bool
     ensures { result ≡ list_any (λ prefix. is_prefix prefix digits.now) prefixes.now }
 {
     for prefix in prefixes {
-        if is_prefix(prefix.as_slice(), digits) {
+        if is_prefix(prefix.list().as_slice(), digits) {
             return true;
         }
     }

@@ -12,8 +12,8 @@ pub fn register_numbers(register: &Option<Register>)
     let Some(register) = register else {
         return;
     };
-    let _vlr = register.vlr.digits().as_slice();
-    let _msc = register.msc.digits().as_slice();
+    register.vlr.digits().are_some_digits();
+    register.msc.digits().are_some_digits();
     lmsi_octets(&register.lmsi);
 }
 

@@ -203,7 +203,7 @@ pub fn push_header(out: &mut String, hlr: &IsdnAddress) -> Result<(), AllocError
     ensures digits { AreSomeDigits hlr.now }
 {
     let digits = hlr.digits();
-    let _digits = digits.as_slice();
+    digits.are_some_digits();
     out.push_str("HLR2 ")?;
     push_digits(out, digits)?;
     out.push_str("\n")

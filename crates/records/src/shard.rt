@@ -11,7 +11,8 @@ pub fn shard_of(imsi: &Imsi) -> u8
     ensures value { result ≡ shard_of imsi.now }
     ensures small { result < 16 }
 {
-    let digits = imsi.digits().as_slice();
+    let list = imsi.digits().list();
+    let digits = list.as_slice();
     let count = digits.len();
     (10 * digits[count - 2] + digits[count - 1]) % 16
 }

@@ -6,11 +6,11 @@ use Rattle.hlr_types.specs.DigitTexts.{is_digit}
 use Rattle.hlr_types.proofs.TextLemmas.{are_some_digits}
 use Rattle.hlr_types.proofs.digits.from_text.Goals as goal
 
-pub invariant_of-result : goal.invariant_of-result
-invariant_of-result c =
+pub of_list-requires : goal.of_list-requires
+of_list-requires c =
     let text = c.args.text.now in
     let whole = take_all c.loop-octet.octet-index text c.loop-octet-test.false in
     let some : 0 < length text = grind (arith, common_steps) in
     let most : length text ≤ 16 = omega arith in
     let each : list_all is_digit text ≡ true = search rules in
-    rw (c.loop-octet.invariant, whole) (are_some_digits text some most each)
+    rw (c.as_slice.ensures.value, c.loop-octet.invariant, whole) (are_some_digits text some most each)

@@ -1,14 +1,10 @@
-use Rattle.std.proofs.Common.{◌≡◌, ◌<◌, ◌+◌, ◌*◌, ◌++◌, length}
-use Rattle.std.specs.List.{AllByRecursion}
-use Rattle.hlr_types.specs.Tbcd.{tbcd}
+use Rattle.std.proofs.Common.{◌-◌, length}
+use Rattle.hlr_types.specs.Words.{in_word}
+use Rattle.hlr_types.proofs.PackLemmas.{IsUnwritten}
 use Rattle.hlr_types.proofs.tbcd.octets_of.Given as goal
 
 abbrev pub invariant-loop-rest : goal.invariant-loop-rest
-invariant-loop-rest l = record {
-  written : l.octets ++ tbcd l.rest ≡ tbcd l.initial.rest;
-  count : 2 * length l.octets + length l.rest ≡ length l.initial.rest;
-  each : AllByRecursion (λ d. d < 10) l.rest;
-}
+invariant-loop-rest l = IsUnwritten l.rest l.octets (in_word l.word)
 
 abbrev pub decreases-loop-rest : goal.decreases-loop-rest
-decreases-loop-rest l = length l.rest
+decreases-loop-rest l = 8 - length l.octets
