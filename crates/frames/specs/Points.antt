@@ -1,25 +1,26 @@
 -- What keeps a tree from being read as a message, point by point (profile). The first point that applies decides.
 use Rattle.std.specs.Prelude.{◌≡◌, ℕ, ◌<◌, ◌⊎◌, List, [], ◌∷◌, ◌++◌, length, Option, Some, None, Result, Ok, Err}
+use Rattle.octets.specs.Octets.{HasIdLength}
 use Rattle.x690.specs.Tree.{Tree, Primitive}
 use Rattle.x690.specs.Reading.{tag_of, children}
 use Rattle.machine.specs.Received.{Apdu, Aarq, Aare}
 use Rattle.frames.specs.declared.tags.TheConstants.{UNIDIRECTIONAL, BEGIN, END, CONTINUE, ABORT, ORIGIN, DESTINATION}
 use Rattle.frames.specs.declared.numbers.TheConstants.{MAX_COMPONENTS, UNRECOGNIZED_MESSAGE_TYPE, BADLY_FORMATTED_TRANSACTION_PORTION, INCORRECT_TRANSACTION_PORTION, RESOURCE_LIMITATION}
 use Rattle.frames.specs.Messages.{TcMessage, Begin, Continue, End, Unread, Discarded, Refused, dialogue_in, components_in}
-use Rattle.frames.specs.MessageForms.{IsTransactionId, IsMessage}
+use Rattle.frames.specs.MessageForms.{IsMessage}
 use Rattle.frames.specs.DialogueForms.{IsDialogue}
 
 -- the first child is an originating transaction id
 pub record HasOrigin (t : Tree) (origin : List ℕ) : Type 0 where
   pub rest : List Tree
-  pub fits : IsTransactionId origin
+  pub fits : HasIdLength origin
   pub spelled : children t ≡ Primitive ORIGIN origin ∷ rest
 
 -- and the second a destination transaction id
 pub record HasOriginAndDestination (t : Tree) (origin destination : List ℕ) : Type 0 where
   pub rest : List Tree
-  pub origin_fits : IsTransactionId origin
-  pub destination_fits : IsTransactionId destination
+  pub origin_fits : HasIdLength origin
+  pub destination_fits : HasIdLength destination
   pub spelled : children t ≡ Primitive ORIGIN origin ∷ Primitive DESTINATION destination ∷ rest
 
 abbrev pub IsBeginOrContinue : Tree → Type 0

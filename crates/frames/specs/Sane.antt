@@ -1,12 +1,12 @@
 -- What may be sent: the conditions under which its octets are octets, determine what was sent, and are read as that.
 use Rattle.std.specs.Prelude.{ℕ, ◌<◌, ◌≤◌, ◌^◌, List, [], length}
 use Rattle.std.specs.List.{AllByRecursion}
-use Rattle.x690.specs.Tree.{Tree, AreOctets}
-use Rattle.machine.specs.Bounds.{IfThere, IsInvokeId, IsOctet}
+use Rattle.octets.specs.Octets.{IsOctet, AreOctets, HasIdLength}
+use Rattle.x690.specs.Tree.{Tree}
+use Rattle.machine.specs.Bounds.{IfThere, IsInvokeId}
 use Rattle.machine.specs.Keys.{Every}
 use Rattle.machine.specs.Sent.{Rejection, SentComponent, Insert, Cancel, UpdateResult, PurgeResult, RouteResult, SentError, Why, NoCause, Cause, Refusing, SentMessage, SentBegin, SentContinue, SentEnd, SentAbort}
 use Rattle.frames.specs.declared.numbers.TheConstants.{MAX_OCTETS, MAX_COMPONENTS}
-use Rattle.frames.specs.MessageForms.{IsTransactionId}
 use Rattle.frames.specs.SentTrees.{component_trees, octets_of_sent}
 
 -- digits 0 to 9
@@ -43,10 +43,10 @@ pub record Sane (m : SentMessage) : Type 0 where
 
 -- transaction ids have 1 to 4 octets
 abbrev pub HasIds : SentMessage → Type 0
-HasIds (SentBegin origin context components) = IsTransactionId origin
-HasIds (SentContinue origin destination context rejects components) = IsTransactionId origin × IsTransactionId destination
-HasIds (SentEnd destination context rejects components) = IsTransactionId destination
-HasIds (SentAbort destination why) = IsTransactionId destination
+HasIds (SentBegin origin context components) = HasIdLength origin
+HasIds (SentContinue origin destination context rejects components) = HasIdLength origin × HasIdLength destination
+HasIds (SentEnd destination context rejects components) = HasIdLength destination
+HasIds (SentAbort destination why) = HasIdLength destination
 
 abbrev pub trees_sent : SentMessage → List Tree
 trees_sent (SentBegin origin context components) = component_trees [] components

@@ -5,7 +5,8 @@ use Rattle.std.specs.Int.{w8}
 use Rattle.std.specs.List.{AllByRecursion}
 use Rattle.std.proofs.lemmas.Bool.{cases_lt}
 use Rattle.std.proofs.Math.Facts.{sfits_to_z, Fits-of_lt}
-use Rattle.x690.specs.Tree.{Tree, Trees, Primitive, Constructed, Empty, More, trees, AreOctets as AllOctets, HasOctets, AllHaveOctets}
+use Rattle.octets.specs.Octets.{IsOctet, AreOctets, HasIdLength}
+use Rattle.x690.specs.Tree.{Tree, Trees, Primitive, Constructed, Empty, More, trees, HasOctets, AllHaveOctets}
 use Rattle.x690.specs.declared.Tag.{Tag}
 use Rattle.x690.specs.Identifier.{identifier}
 use Rattle.x690.specs.Spelling.{Spells, SpellsAll}
@@ -15,12 +16,12 @@ use Rattle.hlr_types.specs.Digits.{AreSomeDigits}
 use Rattle.hlr_types.specs.Identities.{IsImsi, IsAddress, IsLmsi}
 use Rattle.machine.specs.Keys.{Every}
 use Rattle.machine.specs.Received.{Argument, BadValue, Update, Purge, Route, Parameter, Mistyped, Typed, Code, Number, Other, Component, Invoke, ResultLast, ResultNotLast, ReturnError, Reject, Bad, Ignored, Aarq, Message, Begin, Continue, End, Abort, Verdict}
-use Rattle.machine.specs.Bounds.{IfThere, AreDigits, AreOctets, IsOctet, IsTransactionId, IsInvokeId, IsName, IsOfOperation, ArgumentInBounds, ParameterInBounds, ComponentInBounds, MessageInBounds, VerdictInBounds}
+use Rattle.machine.specs.Bounds.{IfThere, AreDigits, IsTransactionId, IsInvokeId, IsName, IsOfOperation, ArgumentInBounds, ParameterInBounds, ComponentInBounds, MessageInBounds, VerdictInBounds}
 use Rattle.frames.specs.declared.numbers.TheConstants.{MAX_COMPONENTS}
 use Rattle.frames.specs.declared.tags.TheConstants.{INTEGER, UPDATE_LMSI}
 use Rattle.frames.specs.Messages as tc
 use Rattle.frames.specs.Messages.{Portions, TcMessage, Unread, Discarded, Refused, components_in}
-use Rattle.frames.specs.MessageForms.{IsTransactionId as HasIdLength, AreDialogue, AreComponents, ArePortions, IsMessage}
+use Rattle.frames.specs.MessageForms.{AreDialogue, AreComponents, ArePortions, IsMessage}
 use Rattle.frames.specs.DialogueForms.{IsDialogue}
 use Rattle.frames.specs.ComponentForms.{IsId, IsWellFormed, HasIdTag, BeginsWithId}
 use Rattle.frames.specs.ArgumentForms.{optional_element, AreIfThere, Arg, IsParameter}
@@ -32,18 +33,18 @@ use Rattle.frames.specs.Frames.{IsPortion, Reads, IsJudged, IsVerdict}
 -- ---- octets of a tree
 
 mutual
-  spells_octets : (octets : List ℕ) (t : Tree) → AllOctets octets → Spells octets t → HasOctets t
+  spells_octets : (octets : List ℕ) (t : Tree) → AreOctets octets → Spells octets t → HasOctets t
   spells_octets octets (Primitive tag contents) are (is, (size, l, e)) =
-      AreOctets-back size contents (AreOctets-back (identifier tag) (size ++ contents) (subst AllOctets e are))
+      AreOctets-back size contents (AreOctets-back (identifier tag) (size ++ contents) (subst AreOctets e are))
   spells_octets octets (Constructed tag ts) are (is, contents, all, inl (size, l, e)) =
-      all_spell_octets contents ts (AreOctets-back size contents (AreOctets-back (identifier tag) (size ++ contents) (subst AllOctets e are))) all
+      all_spell_octets contents ts (AreOctets-back size contents (AreOctets-back (identifier tag) (size ++ contents) (subst AreOctets e are))) all
   spells_octets octets (Constructed tag ts) are (is, contents, all, inr e) =
-      all_spell_octets contents ts (AreOctets-front contents (0 ∷ 0 ∷ []) (AreOctets-back (identifier tag) (128 ∷ (contents ++ 0 ∷ 0 ∷ [])) (subst AllOctets e are)).1) all
+      all_spell_octets contents ts (AreOctets-front contents (0 ∷ 0 ∷ []) (AreOctets-back (identifier tag) (128 ∷ (contents ++ 0 ∷ 0 ∷ [])) (subst AreOctets e are)).1) all
 
-  all_spell_octets : (octets : List ℕ) (ts : Trees) → AllOctets octets → SpellsAll octets ts → AllHaveOctets ts
+  all_spell_octets : (octets : List ℕ) (ts : Trees) → AreOctets octets → SpellsAll octets ts → AllHaveOctets ts
   all_spell_octets octets Empty are e = tt
   all_spell_octets octets (More t ts) are (front, back, s, all, e) =
-      let split : AllOctets (front ++ back) = subst AllOctets e are in
+      let split : AreOctets (front ++ back) = subst AreOctets e are in
       (spells_octets front t (AreOctets-front front back split) s, all_spell_octets back ts (AreOctets-back front back split) all)
 
 -- the elements of a list
@@ -58,10 +59,6 @@ list_front : (ts us : List Tree) → ListOctets (ts ++ us) → ListOctets ts
 list_front [] us h = tt
 list_front (t ∷ ts) us h = (h.0, list_front ts us h.1)
 
-octets_are : (octets : List ℕ) → AllOctets octets → AreOctets octets
-octets_are [] h = tt
-octets_are (n ∷ ns) h = (h.0, octets_are ns h.1)
-
 digits_are : (ds : List ℕ) → AllByRecursion (λ d. d < 10) ds → Every (λ d. d < 10) ds
 digits_are [] h = tt
 digits_are (d ∷ ds) h = (h.0, digits_are ds h.1)
@@ -71,8 +68,8 @@ some_digits ds h = (digits_are ds h.each, h.most)
 
 -- ---- ids
 
-transaction_id : (id : List ℕ) → AllOctets id → HasIdLength id → IsTransactionId id
-transaction_id id are fits = let some = fits.some in record { octets = octets_are id are; some = omega arith; most = fits.most }
+transaction_id : (id : List ℕ) → AreOctets id → HasIdLength id → IsTransactionId id
+transaction_id id are fits = record { octets = are; count = fits }
 
 invoke_id : (i : Tree) (id : ℤ) → HasOctets i → IsId INTEGER i id → IsInvokeId id
 invoke_id i id h (n, is, same) = let are = subst HasOctets is h in subst IsInvokeId same (sfits_to_z {w = w8} (Fits-of_lt {w = w8} are.0))
@@ -91,15 +88,15 @@ address_if (Some octets) None h = absurd h
 address_if None (Some ds) h = absurd h
 address_if (Some octets) (Some ds) h = address_digits octets ds h
 
-lmsi_if : (octets lmsi : Option (List ℕ)) → ((o : List ℕ) → octets ≡ Some o → AllOctets o) → AreIfThere IsLmsi octets lmsi → IfThere (λ l. AreOctets l × (length l ≡ 4)) lmsi
+lmsi_if : (octets lmsi : Option (List ℕ)) → ((o : List ℕ) → octets ≡ Some o → AreOctets o) → AreIfThere IsLmsi octets lmsi → IfThere (λ l. AreOctets l × (length l ≡ 4)) lmsi
 lmsi_if None None are h = tt
 lmsi_if (Some o) None are h = absurd h
 lmsi_if None (Some l) are h = absurd h
-lmsi_if (Some o) (Some l) are h = (octets_are l (subst AllOctets h.same (are o refl)), h.count)
+lmsi_if (Some o) (Some l) are h = (subst AreOctets h.same (are o refl), h.count)
 
-optional_octets : (tag : Tag) (o : Option (List ℕ)) (rest : List Tree) → ListOctets (optional_element tag o ++ rest) → (octets : List ℕ) → o ≡ Some octets → AllOctets octets
+optional_octets : (tag : Tag) (o : Option (List ℕ)) (rest : List Tree) → ListOctets (optional_element tag o ++ rest) → (octets : List ℕ) → o ≡ Some octets → AreOctets octets
 optional_octets tag None rest h octets e = absurd cc
-optional_octets tag (Some own) rest h octets e = let same : own ≡ octets = cc in subst AllOctets same h.0
+optional_octets tag (Some own) rest h octets e = let same : own ≡ octets = cc in subst AreOctets same h.0
 
 argument_within : (operation : ℕ) (t : Tree) (a : Argument) → HasOctets t → Arg operation t a → ArgumentInBounds a × IsOfOperation (Number operation) a
 argument_within operation t (Update imsi register) h (of, c, has, i, m, v, l) =
@@ -186,7 +183,7 @@ name_within d name h (inner, (vs, versions, c, (is, some, most), us, information
     let outer = subst HasOctets around h in
     let apdu : HasOctets inner = outer.0.1.0.0 in
     let rest = list_back vs (c ∷ us) (subst HasOctets e apdu) in
-    (octets_are name (subst HasOctets is rest.0).0, most)
+    ((subst HasOctets is rest.0).0, most)
 
 asked_within : (o : Option Tree) (name : Option (List ℕ)) → ((d : Tree) → o ≡ Some d → HasOctets d) → IsPortion (λ n. Aarq n) o name → IfThere IsName name
 asked_within None None h is = tt
@@ -222,7 +219,7 @@ message_within t (Continue origin destination response components) h none (p, is
 message_within t (End destination response components) h none reads = tt
 message_within t (Abort destination) h none reads = tt
 
-children_octets : (t : Tree) → HasOctets t → (origin : List ℕ) → HasOrigin t origin → AllOctets origin
+children_octets : (t : Tree) → HasOctets t → (origin : List ℕ) → HasOrigin t origin → AreOctets origin
 children_octets (Primitive tag contents) h origin has = let e = has.spelled in absurd cc
 children_octets (Constructed tag ts) h origin has = (subst ListOctets has.spelled (subst AllHaveOctets (sym (trees-list_of ts)) h)).0
 

@@ -15,21 +15,22 @@ use Rattle.frames.specs.declared.tags.TheConstants.{UNIDIRECTIONAL, BEGIN, END, 
 use Rattle.frames.specs.declared.numbers.TheConstants.{BADLY_FORMATTED_TRANSACTION_PORTION, INCORRECT_TRANSACTION_PORTION}
 use Rattle.frames.specs.Choices.{if_under}
 use Rattle.frames.specs.Messages.{Portions, TcMessage, Begin, Continue, End, Abort, Unread, Discarded, Refused, ◌>>=◌, transaction_id_under, portions_of, begin_of, continue_of, end_of, may_end_abort, abort_of, unrecognized, message_of}
-use Rattle.frames.specs.MessageForms.{IsTransactionId, AreDialogue, AreComponents, ArePortions, AreReason, IsMessage}
+use Rattle.octets.specs.Octets.{HasIdLength}
+use Rattle.frames.specs.MessageForms.{AreDialogue, AreComponents, ArePortions, AreReason, IsMessage}
 
 -- an element that is an id
-between : (octets id : List ℕ) (low high : Bool) → leb 1 (length octets) ≡ low → leb (length octets) 4 ≡ high → cond (low && high) (Some octets) None ≡ Some id → IsTransactionId octets × (octets ≡ id)
+between : (octets id : List ℕ) (low high : Bool) → leb 1 (length octets) ≡ low → leb (length octets) 4 ≡ high → cond (low && high) (Some octets) None ≡ Some id → HasIdLength octets × (octets ≡ id)
 between octets id true true l h e = (record { some = leb-true _ _ l; most = leb-true _ _ h }, some_is e)
 between octets id true false l h e = absurd cc
 between octets id false high l h e = absurd cc
 
-pub id_found : (tag : Tag) (ts : List Tree) (x : List ℕ × List Tree) → first (transaction_id_under tag) ts ≡ Some x → IsTransactionId x.0 × (ts ≡ Primitive tag x.0 ∷ x.1)
+pub id_found : (tag : Tag) (ts : List Tree) (x : List ℕ × List Tree) → first (transaction_id_under tag) ts ≡ Some x → HasIdLength x.0 × (ts ≡ Primitive tag x.0 ∷ x.1)
 id_found tag ts x e =
     let (t, is, read) = first-some (transaction_id_under tag) ts x e in
     let (octets, is_octets, id) = bind_some (octets_of tag t) remote_id_of x.0 read in
     let (fits, same) = between octets x.0 (leb 1 (length octets)) (leb (length octets) 4) refl refl id in
     let spelled = octets_of-some tag t octets is_octets in
-    (subst IsTransactionId same fits, is ∙ ap (λ u. u ∷ x.1) (spelled ∙ ap (Primitive tag) same))
+    (subst HasIdLength same fits, is ∙ ap (λ u. u ∷ x.1) (spelled ∙ ap (Primitive tag) same))
 
 tagged-in : (tag : Tag) (t u : Tree) (b : Bool) → same_tag (tag_of t) tag ≡ b → cond b (Some t) None ≡ Some u → (t ≡ u) × (tag_of u ≡ tag)
 tagged-in tag t u true s e = let same = some_is e in (same, ap tag_of (sym same) ∙ same_tag-is _ _ s)
@@ -146,7 +147,7 @@ message_found t m e =
 
 -- ---- and what is a message is read as it is
 
-pub remote_again : (o : List ℕ) → IsTransactionId o → remote_id_of o ≡ Some o
+pub remote_again : (o : List ℕ) → HasIdLength o → remote_id_of o ≡ Some o
 remote_again o fits =
     let low : leb 1 (length o) ≡ true = le-leb _ _ fits.some in
     let high : leb (length o) 4 ≡ true = le-leb _ _ fits.most in
@@ -155,7 +156,7 @@ remote_again o fits =
 abbrev pub next : List ℕ → List Tree → Option (List ℕ) → Option (List ℕ × List Tree)
 next o ts i = option_map (λ a. (a, ts)) i
 
-pub next_again : (o : List ℕ) (ts : List Tree) → IsTransactionId o → next o ts (remote_id_of o) ≡ Some (o, ts)
+pub next_again : (o : List ℕ) (ts : List Tree) → HasIdLength o → next o ts (remote_id_of o) ≡ Some (o, ts)
 next_again o ts fits = ap (next o ts) (remote_again o fits)
 
 dialogue_again : (ds cs : List Tree) (d : Option Tree) → AreDialogue ds d → first (tagged DIALOGUE_PORTION) cs ≡ None → optional (tagged DIALOGUE_PORTION) (ds ++ cs) ≡ (d, cs)
@@ -182,19 +183,19 @@ portions_again ts p is =
     ∙ ap (λ d. finish d.0 (optional (children_of COMPONENT_PORTION) d.1)) (dialogue_again is.ds is.cs p.dialogue is.dialogue (no_dialogue is.cs p.components is.components))
     ∙ components_again is.cs p.components p.dialogue is.components
 
-begin_again : (o : List ℕ) (ts : List Tree) (p : Portions) → IsTransactionId o → ArePortions ts p → begin_of (Primitive ORIGIN o ∷ ts) ≡ Ok (Begin o p)
+begin_again : (o : List ℕ) (ts : List Tree) (p : Portions) → HasIdLength o → ArePortions ts p → begin_of (Primitive ORIGIN o ∷ ts) ≡ Ok (Begin o p)
 unfolding begin_of
 begin_again o ts p fits is =
     ap (λ (i : Option (List ℕ × List Tree)). ok_or i Discarded >>= λ origin. ok_or (portions_of origin.1) (Refused origin.0 INCORRECT_TRANSACTION_PORTION) >>= λ parts. Ok (Begin origin.0 parts)) (next_again o ts fits)
     ∙ ap (λ q. ok_or q (Refused o INCORRECT_TRANSACTION_PORTION) >>= λ parts. Ok (Begin o parts)) (portions_again ts p is)
 
-end_again : (o : List ℕ) (ts : List Tree) (p : Portions) → IsTransactionId o → ArePortions ts p → end_of (Primitive DESTINATION o ∷ ts) ≡ Ok (End o p)
+end_again : (o : List ℕ) (ts : List Tree) (p : Portions) → HasIdLength o → ArePortions ts p → end_of (Primitive DESTINATION o ∷ ts) ≡ Ok (End o p)
 unfolding end_of
 end_again o ts p fits is =
     ap (λ (i : Option (List ℕ × List Tree)). ok_or i Discarded >>= λ destination. ok_or (portions_of destination.1) Discarded >>= λ parts. Ok (End destination.0 parts)) (next_again o ts fits)
     ∙ ap (λ q. ok_or q Discarded >>= λ parts. Ok (End o parts)) (portions_again ts p is)
 
-continue_again : (o d : List ℕ) (ts : List Tree) (p : Portions) → IsTransactionId o → IsTransactionId d → ArePortions ts p → continue_of (Primitive ORIGIN o ∷ Primitive DESTINATION d ∷ ts) ≡ Ok (Continue o d p)
+continue_again : (o d : List ℕ) (ts : List Tree) (p : Portions) → HasIdLength o → HasIdLength d → ArePortions ts p → continue_of (Primitive ORIGIN o ∷ Primitive DESTINATION d ∷ ts) ≡ Ok (Continue o d p)
 unfolding continue_of
 continue_again o d ts p fits fits' is =
     ap (λ (i : Option (List ℕ × List Tree)). ok_or i Discarded >>= λ origin. ok_or (first (transaction_id_under DESTINATION) origin.1) (Refused origin.0 BADLY_FORMATTED_TRANSACTION_PORTION) >>= λ destination. ok_or (portions_of destination.1) (Refused origin.0 INCORRECT_TRANSACTION_PORTION) >>= λ parts. Ok (Continue origin.0 destination.0 parts)) (next_again o (Primitive DESTINATION d ∷ ts) fits)
@@ -206,7 +207,7 @@ reason_again ts (inl e) = ap may_end_abort e
 reason_again ts (inr (t, e, inl has)) = ap may_end_abort e ∙ ap (λ g. is_some (cond (same_tag g ABORT_CAUSE) (Some t) None) || is_some (cond (same_tag g DIALOGUE_PORTION) (Some t) None)) has
 reason_again ts (inr (t, e, inr has)) = ap may_end_abort e ∙ ap (λ g. is_some (cond (same_tag g ABORT_CAUSE) (Some t) None) || is_some (cond (same_tag g DIALOGUE_PORTION) (Some t) None)) has
 
-abort_again : (o : List ℕ) (ts : List Tree) → IsTransactionId o → AreReason ts → abort_of (Primitive DESTINATION o ∷ ts) ≡ Ok (Abort o)
+abort_again : (o : List ℕ) (ts : List Tree) → HasIdLength o → AreReason ts → abort_of (Primitive DESTINATION o ∷ ts) ≡ Ok (Abort o)
 unfolding abort_of
 abort_again o ts fits is =
     ap (λ (i : Option (List ℕ × List Tree)). ok_or i Discarded >>= λ destination. cond (may_end_abort destination.1) (Ok (Abort destination.0)) (Err Discarded)) (next_again o ts fits)

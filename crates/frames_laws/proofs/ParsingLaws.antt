@@ -7,7 +7,8 @@ use Rattle.x690.specs.declared.Class.TheVariants.{Universal, Application, Contex
 use Rattle.x690.specs.declared.Tag.{Tag}
 use Rattle.x690.specs.Identifier.{IsTag, leading, identifier}
 use Rattle.x690.specs.Length.{IsLength, unsigned}
-use Rattle.x690.specs.Tree.{Tree, Trees, Primitive, Constructed, Empty, More, levels, AreOctets}
+use Rattle.octets.specs.Octets.{AreOctets}
+use Rattle.x690.specs.Tree.{Tree, Trees, Primitive, Constructed, Empty, More, levels}
 use Rattle.x690.specs.Spelling.{Definite, Indefinite, Spells, SpellsAll}
 use Rattle.x690.proofs.Identifiers.{tag-inj, identifier-length}
 use Rattle.x690.proofs.Lengths.{IsLength-length}

@@ -16,7 +16,8 @@ use Rattle.frames.specs.declared.numbers.TheConstants.{BADLY_FORMATTED_TRANSACTI
 use Rattle.frames.specs.Choices.{if_under}
 use Rattle.frames.specs.Messages as tc
 use Rattle.frames.specs.Messages.{Portions, TcMessage, Unread, Discarded, Refused, ◌>>=◌, transaction_id_under, portions_of, begin_of, continue_of, end_of, may_end_abort, abort_of, unrecognized, message_of}
-use Rattle.frames.specs.MessageForms.{IsTransactionId, IsMessage}
+use Rattle.octets.specs.Octets.{HasIdLength}
+use Rattle.frames.specs.MessageForms.{IsMessage}
 use Rattle.frames.specs.Points.{HasOrigin, HasOriginAndDestination, IsBeginOrContinue, Point, cause_of, message_points, MayBeAnswered, IsAnswer, IsSaidFirst, NoneFits, IsMessageOrNot}
 use Rattle.frames_laws.proofs.MessageLaws.{id_found, next_again, message_found, message_again}
 
@@ -158,7 +159,7 @@ originless_said t n lacking =
     go (inr u) (inr b) (inr c) (inr e) (inl a) = closed_said t n (inr a)
     go (inr u) (inr b) (inr c) (inr e) (inr a) = inr (u, inl ((b, c, e, a), inr ((λ o may. lacking o may.0), refl)))
 
-pub first_again : (tag : Tag) (id : List ℕ) (rest : List Tree) → IsTransactionId id → first (transaction_id_under tag) (Primitive tag id ∷ rest) ≡ Some (id, rest)
+pub first_again : (tag : Tag) (id : List ℕ) (rest : List Tree) → HasIdLength id → first (transaction_id_under tag) (Primitive tag id ∷ rest) ≡ Some (id, rest)
 first_again tag id rest fits =
     ap (λ (o : Option (List ℕ)). option_map (λ (a : List ℕ). (a, rest)) (option_and_then remote_id_of o)) (octets_of-Primitive tag id) ∙ next_again id rest fits
 

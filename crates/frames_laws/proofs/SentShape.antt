@@ -8,7 +8,8 @@ use Rattle.std.proofs.Math.Facts.{Fits-of_z, Fits-lt-pow}
 use Rattle.x690.specs.declared.Tag.{Tag}
 use Rattle.x690.specs.Identifier.{IsTag, leading}
 use Rattle.x690.specs.Tags.{same_bool}
-use Rattle.x690.specs.Tree.{Tree, Trees, Primitive, Constructed, Empty, More, element, trees, levels, levels_of_all, HasTags, AllHaveTags, HasOctets, AllHaveOctets, AreOctets}
+use Rattle.octets.specs.Octets.{AreOctets}
+use Rattle.x690.specs.Tree.{Tree, Trees, Primitive, Constructed, Empty, More, element, trees, levels, levels_of_all, HasTags, AllHaveTags, HasOctets, AllHaveOctets}
 use Rattle.x690.specs.Spelling.{Spells}
 use Rattle.x690.proofs.Encoding.{enc_is_octets}
 use Rattle.x690.proofs.Readings.{both_true}

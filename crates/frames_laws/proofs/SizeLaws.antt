@@ -10,7 +10,8 @@ use Rattle.machine.specs.Keys.{Every}
 use Rattle.machine.specs.Received.{OfUser}
 use Rattle.machine.specs.Sent.{Context, NetworkLocUp, LocationCancellation, SubscriberDataMngt, ShortMsgGateway, MsPurging, Rejection, SentComponent, Insert, Cancel, UpdateResult, PurgeResult, RouteResult, SentError, NoCause, Cause, Refusing, SentMessage, SentBegin, SentContinue, SentEnd, SentAbort}
 use Rattle.machine.specs.Contexts.{name_of}
-use Rattle.machine.specs.Bounds.{AreDigits, AreOctets, IfThere, SentComponentInBounds, OwnInBounds, SentInBounds}
+use Rattle.octets.specs.Octets.{AreOctets}
+use Rattle.machine.specs.Bounds.{AreDigits, IfThere, SentComponentInBounds, OwnInBounds, SentInBounds}
 use Rattle.frames.specs.declared.numbers.TheConstants.{MAX_OCTETS, INSERT_SUBSCRIBER_DATA, CANCEL_LOCATION, UPDATE_LOCATION, SEND_ROUTING_INFO_FOR_SM, ACCEPTED, NO_DIAGNOSTIC, REJECT_PERMANENT, CONTEXT_NAME_NOT_SUPPORTED, ROAMING_NOT_ALLOWED, PLMN_ROAMING_NOT_ALLOWED}
 use Rattle.frames.specs.declared.tags.TheConstants.{SEQUENCE, ENUMERATED, OCTET_STRING, INSERT_IMSI}
 use Rattle.frames.specs.DialogueForms.{portion_tree}
@@ -160,28 +161,28 @@ accepting_size (Some c) = let a = name_size c in let b = response_size (name_of 
 
 sent_weight : (m : SentMessage) → SentInBounds m → weight (tree_of m) ≤ MAX_OCTETS
 sent_weight (SentBegin origin c cs) h =
-    let a = (h.0).most in
+    let a = (h.0).count.most in
     let b = components_size [] cs (omega arith) h.1 in
     let d = portions_size (Some (asking c)) (component_trees [] cs) in
     let e = asking_size c in
     omega arith
 sent_weight (SentContinue origin destination c rs cs) h =
-    let a = (h.0).most in
-    let a' = (h.1).most in
+    let a = (h.0).count.most in
+    let a' = (h.1).count.most in
     let b = components_size rs cs h.2.1 h.3 in
     let d = portions_size (option_map accepting c) (component_trees rs cs) in
     let e = accepting_size c in
     omega arith
 sent_weight (SentEnd destination c rs cs) h =
-    let a = (h.0).most in
+    let a = (h.0).count.most in
     let b = components_size rs cs h.1.1 h.2 in
     let d = portions_size (option_map accepting c) (component_trees rs cs) in
     let e = accepting_size c in
     omega arith
-sent_weight (SentAbort destination NoCause) h = let a = (h.0).most in omega arith
-sent_weight (SentAbort destination (Cause cause)) h = let a = (h.0).most in omega arith
+sent_weight (SentAbort destination NoCause) h = let a = (h.0).count.most in omega arith
+sent_weight (SentAbort destination (Cause cause)) h = let a = (h.0).count.most in omega arith
 sent_weight (SentAbort destination (Refusing name)) h =
-    let a = (h.0).most in
+    let a = (h.0).count.most in
     let b = response_size name REJECT_PERMANENT CONTEXT_NAME_NOT_SUPPORTED in
     let c = h.1.1 in
     omega arith

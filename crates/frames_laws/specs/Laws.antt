@@ -1,6 +1,7 @@
 -- What holds of frames, as the contracts of this crate's functions state it.
 use Rattle.std.specs.Prelude.{◌≡◌, ℕ, ◌≤◌, ◌↔◌, List, length, Result, Some}
-use Rattle.x690.specs.Tree.{Tree, AreOctets, levels}
+use Rattle.octets.specs.Octets.{AreOctets}
+use Rattle.x690.specs.Tree.{Tree, levels}
 use Rattle.machine.specs.Received.{Code, Number, Parameter, ComponentOf, Component, Response, Apdu, Aarq, Aare, Abrt, Message, Verdict, Read}
 use Rattle.machine.specs.Sent.{NetworkLocUp, ShortMsgGateway, MsPurging, Rejection, SentComponent, SentMessage}
 use Rattle.machine.specs.Numbers.{no_resources, roaming_not_allowed}

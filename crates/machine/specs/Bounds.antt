@@ -2,6 +2,7 @@
 -- sent can be encoded.
 use Rattle.std.specs.Prelude.{◌≡◌, ◌≢◌, ℕ, ℤ, ◌<◌, ◌≤◌, List, [], ◌∷◌, length, FitsSigned, Option, Some, None, is_some, IsTrue}
 use Rattle.std.specs.Int.{w8}
+use Rattle.octets.specs.Octets.{IsOctet, AreOctets, HasIdLength}
 use Rattle.machine.specs.Keys.{Every}
 use Rattle.machine.specs.Numbers.{update_location, purge_ms, send_routing_info_for_sm, shards, most_attempts, codes_in_insert, latest_clock}
 use Rattle.machine.specs.Received.{Register, Argument, BadValue, Update, Purge, Route, Parameter, Typed, Code, Number, Component, Invoke, ResultLast, ResultNotLast, ReturnError, Bad, Message, Begin, Continue, Verdict, Discard, Refuse, Read}
@@ -23,19 +24,10 @@ IfThere P (Some x) = P x
 abbrev pub AreDigits : List ℕ → Type 0
 AreDigits digits = Every (λ d. d < 10) digits × (length digits ≤ 16)
 
--- each is an octet
-abbrev pub AreOctets : List ℕ → Type 0
-AreOctets octets = Every (λ o. o < 256) octets
-
--- one octet
-abbrev pub IsOctet : ℕ → Type 0
-IsOctet n = n < 256
-
 -- one to four octets
 pub record IsTransactionId (id : List ℕ) : Type 0 where
   pub octets : AreOctets id
-  pub some : 0 < length id
-  pub most : length id ≤ 4
+  pub count : HasIdLength id
 
 -- from -128 to 127
 abbrev pub IsInvokeId : ℤ → Type 0

@@ -4,7 +4,8 @@ use Rattle.std.specs.Int.{w8}
 use Rattle.std.proofs.lemmas.Int.{fits_signed_from_abs}
 use Rattle.std.proofs.lemmas.List.{length-map}
 use Rattle.std.proofs.lemmas.Bool.{both_ways, and_parts}
-use Rattle.machine.specs.Bounds.{AreCodes, AreDigits, ArgumentInBounds, ChangeInBounds, ComponentInBounds, ComponentsInBounds, DialogueInBounds, IfThere, IsInvokeId, IsName, IsOctet, IsRegister, IsTransactionId, KindInBounds, OutInBounds, OwnInBounds, RecordInBounds, RejectInBounds, RejectsInBounds, SentComponentInBounds, WhyInBounds}
+use Rattle.octets.specs.Octets.{IsOctet, AreOctets}
+use Rattle.machine.specs.Bounds.{AreCodes, AreDigits, ArgumentInBounds, ChangeInBounds, ComponentInBounds, ComponentsInBounds, DialogueInBounds, IfThere, IsInvokeId, IsName, IsRegister, IsTransactionId, KindInBounds, OutInBounds, OwnInBounds, RecordInBounds, RejectInBounds, RejectsInBounds, SentComponentInBounds, WhyInBounds}
 use Rattle.machine.specs.Received.{Argument, Bad, BadValue, Code, Component, Ignored, Invoke, Mistyped, OfError, OfResult, Parameter, Purge, Register, Reject, ResultLast, ResultNotLast, ReturnError, Route, Side, Typed, Update}
 use Rattle.machine.specs.Begins.{Asker, answered, begins, begins_in, begins_named, begun, first_argument, is_allowed, offer_in, procedure, purge, purge_at, route_component, update_begins, update_opened}
 use Rattle.machine.specs.Sent.{CancellationType, Context, Insert, LocationCancellation, MsPurging, NetworkLocUp, NoCause, Out, PurgeResult, Refusing, Rejection, SentAbort, SentBegin, SentComponent, SentError, ShortMsgGateway, SubscriberDataMngt, UpdateProcedure, UpdateResult, Why}
@@ -32,15 +33,15 @@ every_map_if : {X : Type 0} (Q : ℕ → Type 0) (P : X → Type 0) (f : ℕ →
 every_map_if Q P f h [] q = tt
 every_map_if Q P f h (k ∷ ks) q = (h k q.0, every_map_if Q P f h ks q.1)
 
-every_take : (P : ℕ → Type 0) (n : ℕ) (xs : List ℕ) → Every P xs → Every P (take n xs)
-every_take P zero xs h = tt
-every_take P (suc n) [] h = tt
-every_take P (suc n) (x ∷ xs) h = (h.0, every_take P n xs h.1)
+octets_take : (n : ℕ) (xs : List ℕ) → AreOctets xs → AreOctets (take n xs)
+octets_take zero xs h = tt
+octets_take (suc n) [] h = tt
+octets_take (suc n) (x ∷ xs) h = (h.0, octets_take n xs h.1)
 
-every_drop : (P : ℕ → Type 0) (n : ℕ) (xs : List ℕ) → Every P xs → Every P (drop n xs)
-every_drop P zero xs h = h
-every_drop P (suc n) [] h = tt
-every_drop P (suc n) (x ∷ xs) h = every_drop P n xs h.1
+octets_drop : (n : ℕ) (xs : List ℕ) → AreOctets xs → AreOctets (drop n xs)
+octets_drop zero xs h = h
+octets_drop (suc n) [] h = tt
+octets_drop (suc n) (x ∷ xs) h = octets_drop n xs h.1
 
 length_append : {X : Type 0} (xs ys : List X) → length (xs ++ ys) ≡ length xs + length ys
 length_append [] ys = omega arith
@@ -71,9 +72,9 @@ inserts_ids now codes h = (id_small 1 (lit< tt), every_map_if (λ k. k < further
 inserts_bounded : (imsi : Option (List ℕ)) (msisdn codes : List ℕ) → IfThere AreDigits imsi → AreDigits msisdn → AreCodes codes → OwnInBounds (inserts imsi msisdn codes)
 inserts_bounded imsi msisdn codes x m h = (
   (
-    (id_small 1 (lit< tt), x, m, every_take (λ o. o < 256) 8 codes h.octets, take_short 8 codes),
+    (id_small 1 (lit< tt), x, m, octets_take 8 codes h.octets, take_short 8 codes),
     every_map_if (λ k. k < further codes) SentComponentInBounds (λ k. Insert (pos (k + 2)) imsi None (take 8 (drop (8 * (k + 1)) codes)))
-        (λ k q. (let most : further codes ≤ 3 = few_inserts codes h in id_small (k + 2) (omega arith), x, tt, every_take (λ o. o < 256) 8 (drop (8 * (k + 1)) codes) (every_drop (λ o. o < 256) (8 * (k + 1)) codes h.octets), take_short 8 (drop (8 * (k + 1)) codes)))
+        (λ k q. (let most : further codes ≤ 3 = few_inserts codes h in id_small (k + 2) (omega arith), x, tt, octets_take 8 (drop (8 * (k + 1)) codes) (octets_drop (8 * (k + 1)) codes h.octets), take_short 8 (drop (8 * (k + 1)) codes)))
         (below (further codes)) (every_less_than (further codes) (further codes) (omega arith)),
   ),
   (

@@ -3,7 +3,8 @@ use Rattle.std.proofs.Common.{◌≡◌, min, max, ◌<◌, ◌≤◌, ℕ, List
 use Rattle.std.proofs.lemmas.Bool.{cases_eq, cases_lt}
 use Rattle.machine.specs.Received.{Abort, Begin, Component, Continue, Discard, End, Read, Refuse, Verdict}
 use Rattle.machine.specs.Step.{Answer, Full, Step, Taken, moved, outcome_in, seen, ticked}
-use Rattle.machine.specs.Bounds.{AnswerInBounds, AreDigits, ChangeInBounds, ComponentsInBounds, DialogueInBounds, EventInBounds, IfThere, IsName, IsOctet, IsTransactionId, KindInBounds, OutInBounds, RecordInBounds, StateInBounds, VerdictInBounds}
+use Rattle.octets.specs.Octets.{IsOctet, AreOctets}
+use Rattle.machine.specs.Bounds.{AnswerInBounds, AreDigits, ChangeInBounds, ComponentsInBounds, DialogueInBounds, EventInBounds, IfThere, IsName, IsTransactionId, KindInBounds, OutInBounds, RecordInBounds, StateInBounds, VerdictInBounds}
 use Rattle.machine.specs.Turns.{Begins, Changes, Closes, Continues, Dismissed, Expires, Expiry, NoneDue, OneDue, Ticks, Turn, TurnsTo, close_at, concern, continue_at, continue_for, for_it, named, turn_of_verdict}
 use Rattle.machine.specs.State.{Cancels, Data, Dialogue, IsIdOf, Kind, State, Subscriber, Updates, local_of, local_of_nobody}
 use Rattle.machine.specs.Sent.{Cause, SentAbort}
@@ -156,8 +157,12 @@ ticked_in S (Closes i d) h b = b
 ticked_in S (Expires i d j was) h b = b
 ticked_in S (Changes imsi change) h b = b
 
+octets_are : (octets : List ℕ) → Every (λ o. o < 256) octets → AreOctets octets
+octets_are [] h = tt
+octets_are (o ∷ octets) h = (h.0, octets_are octets h.1)
+
 new_in : (n : ℕ) (new : List ℕ) → IsIdOf n new → IsTransactionId new
-new_in n new id = let four : length new ≡ 4 = id.four in record { octets = id.octets; some = omega arith; most = omega arith }
+new_in n new id = let four : length new ≡ 4 = id.four in record { octets = octets_are new id.octets; count = record { some = omega arith; most = omega arith } }
 
 pub step_within : (S : State) (e : Event) (T : State) (a : Answer) → StateInBounds S → EventInBounds e → Step S e T a → StateInBounds T × AnswerInBounds a
 step_within S e T a b h (Taken turn new turns m) =

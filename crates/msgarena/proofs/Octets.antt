@@ -1,6 +1,7 @@
 -- The verdict on octets that spell a tree.
 use Rattle.std.proofs.Common.{ℕ, suc, ◌<◌, ◌≤◌, List, [], ◌∷◌, length, get_or, Fits, w8, inr, arith}
-use Rattle.x690.specs.Tree.{Tree, AreOctets, levels}
+use Rattle.octets.specs.Octets.{AreOctets}
+use Rattle.x690.specs.Tree.{Tree, levels}
 use Rattle.x690.specs.Spelling.{Spells}
 use Rattle.frames.specs.declared.numbers.TheConstants.{MAX_OCTETS, MAX_LEVELS}
 use Rattle.frames.specs.Verdicts.{verdict_of}

@@ -2,6 +2,7 @@
 use Rattle.std.specs.Prelude.{◌≡◌, ℕ, ◌<◌, ◌≤◌, Bool, true, false, List, length, Option, Some, None, nat_eq, refl}
 use Rattle.std.specs.List.{AllByRecursion, IsDistinct}
 use Rattle.std.specs.Coded.{Coded, code_by, coded×, coded_ℕ, coded_bool, coded_list, coded_option}
+pub use Rattle.octets.specs.Octets.{AreOctets}
 use Rattle.hlr_types.specs.declared.register.Register.{Register}
 use Rattle.hlr_types.specs.Digits.{AreSomeDigits, AreImsiDigits}
 
@@ -29,9 +30,6 @@ pub record AreAllowed (codes : List ℕ) : Type 0 where
 abbrev pub MayRoam : Option (List (List ℕ)) → Type 0
 MayRoam None = Unit {0}
 MayRoam (Some prefixes) = (0 < length prefixes) × (length prefixes ≤ 8) × AllByRecursion AreSomeDigits prefixes
-
-abbrev pub AreOctets : List ℕ → Type 0
-AreOctets octets = AllByRecursion (λ o. o < 256) octets
 
 -- An LMSI is four octets (TS 29.002 17.7.8).
 abbrev pub MayHaveLmsi : Option (List ℕ) → Type 0

@@ -4,7 +4,8 @@ use Rattle.std.proofs.lemmas.Bool.{cases_lt}
 use Rattle.std.proofs.lemmas.Bool.Decides.{nat_tests}
 use Rattle.x690.specs.Identifier.{identifier, leading, number_octets}
 use Rattle.x690.specs.Length.{length_octets}
-use Rattle.x690.specs.Tree.{Tree, Trees, Primitive, Constructed, Empty, More, AreOctets, HasOctets, AllHaveOctets}
+use Rattle.octets.specs.Octets.{AreOctets}
+use Rattle.x690.specs.Tree.{Tree, Trees, Primitive, Constructed, Empty, More, HasOctets, AllHaveOctets}
 use Rattle.x690.specs.Spelling.{AllSpellDefinitely, Definite, definite, enc, enc_all}
 use Rattle.x690.specs.Laws.{FewestOctets, EncIsOctets}
 use Rattle.x690.specs.declared.Tag.{Tag}

@@ -1,7 +1,8 @@
 -- What holds of the definitions, as the contracts of this crate's functions state it.
 use Rattle.std.specs.Prelude.{◌≡◌, ℕ, ◌^◌, ◌<◌, ◌≤◌, ◌↔◌, List, ◌++◌, length, Some}
 use Rattle.x690.specs.Length.{IsLength, length_octets}
-use Rattle.x690.specs.Tree.{Tree, Primitive, element, HasTags, AreOctets, HasOctets}
+use Rattle.octets.specs.Octets.{AreOctets}
+use Rattle.x690.specs.Tree.{Tree, Primitive, element, HasTags, HasOctets}
 use Rattle.x690.specs.Reading.{octets_of, children_of}
 use Rattle.x690.specs.Spelling.{Spells, SpellsDefinitely, enc}
 use Rattle.x690.specs.declared.Tag.{Tag}

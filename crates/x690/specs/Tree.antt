@@ -1,6 +1,6 @@
 -- Trees of elements (X.690, 8.1.1).
-use Rattle.std.specs.Prelude.{ℕ, ◌+◌, ◌<◌, true, false, List, [], ◌∷◌, max}
-use Rattle.std.specs.List.{AllByRecursion}
+use Rattle.std.specs.Prelude.{ℕ, ◌+◌, true, false, List, [], ◌∷◌, max}
+use Rattle.octets.specs.Octets.{AreOctets}
 use Rattle.x690.specs.Identifier.{IsTag}
 use Rattle.x690.specs.declared.Tag.{Tag}
 
@@ -46,10 +46,6 @@ abbrev mutual
   pub AllHaveTags : Trees → Type 0
   AllHaveTags Empty = Unit {0}
   AllHaveTags (More tree rest) = HasTags tree × AllHaveTags rest
-
--- octets are numbers below 256
-abbrev pub AreOctets : List ℕ → Type 0
-AreOctets octets = AllByRecursion (λ octet. octet < 256) octets
 
 -- all contents are octets
 abbrev mutual
