@@ -100,8 +100,7 @@ pub data ContinueMoves (S : State) (from origin i : List ℕ) (components : List
       → DoesFirst i (Some t) (effect (S.clocks (shard_named i)) (offer_to d.kind) d.invocations components).rejects a.sent a.id (T.dialogues i)
       → ((f : Dialogue) → T.dialogues i ≡ Some f → f.invocations ≡ invocations_after (S.clocks (shard_named i)) components d.invocations)
       → ContinueMoves S from origin i components T a
-  ForNone : (after : Option Transaction)
-      → transact (transaction_of (S.dialogues i)) (ContinueComes from origin) ≡ row after Unassigned
+  ForNone : transact (transaction_of (S.dialogues i)) (ContinueComes from origin) ≡ row (transaction_of (T.dialogues i)) Unassigned
       → T ≡ S → a.sent ≡ send from (SentAbort origin (Cause unrecognized_transaction_id))
       → ContinueMoves S from origin i components T a
 

@@ -209,8 +209,8 @@ continue_moves S from r i portion cs T a (Taken turn new turns m) = by (S.dialog
     e : Event
     e = Frame from (Read (Continue r i portion cs))
 
-    none : (after : Option Transaction) → transact (transaction_of (S.dialogues i)) (ContinueComes from r) ≡ row after Unassigned → turn ≡ Dismissed (send from (SentAbort r (Cause unrecognized_transaction_id))) → ContinueMoves S from r i cs T a
-    none after row_is is = let h : (T ≡ S) × (a.sent ≡ send from (SentAbort r (Cause unrecognized_transaction_id))) = dismissed S (Frame from (Read (Continue r i portion cs))) T a _ turn is new m in ForNone after row_is h.0 h.1
+    none : transact (transaction_of (S.dialogues i)) (ContinueComes from r) ≡ row (transaction_of (S.dialogues i)) Unassigned → turn ≡ Dismissed (send from (SentAbort r (Cause unrecognized_transaction_id))) → ContinueMoves S from r i cs T a
+    none row_is is = let h : (T ≡ S) × (a.sent ≡ send from (SentAbort r (Cause unrecognized_transaction_id))) = dismissed S (Frame from (Read (Continue r i portion cs))) T a _ turn is new m in ForNone (row_is ∙ ap (λ (U : State). row (transaction_of (U.dialogues i)) Unassigned) (sym h.0)) h.0 h.1
 
     found : (d : Dialogue) (t : Transaction) → (t.remote ≡ None → ⊥) → S.dialogues i ≡ Some d → transact (Some d.transaction) (ContinueComes from r) ≡ row (Some t) ForIt → turn ≡ Continues i (record d { transaction = t }) cs → ContinueMoves S from r i cs T a
     found d t known there row_is is =
@@ -223,7 +223,7 @@ continue_moves S from r i portion cs T a (Taken turn new turns m) = by (S.dialog
         ForDialogue d t there row_is does (λ f q. goes_on_with S (shard_named i) (local_of S (shard_named i) d.subscriber) i (record d { transaction = t }) cs new f (sym after ∙ q) ∙ ap (λ now. invocations_after now cs d.invocations) (seen_clock S (shard_named i) (Some d.subscriber)))
 
     by : (o : Option Dialogue) → S.dialogues i ≡ o → ContinueMoves S from r i cs T a
-    by None q = none None (ap (λ o. transact (transaction_of o) (ContinueComes from r)) q) (turns ∙ ap (λ o. continue_at from r i cs o) q)
+    by None q = none (ap (λ o. transact (transaction_of o) (ContinueComes from r)) q ∙ ap (λ o. row (transaction_of o) Unassigned) (sym q)) (turns ∙ ap (λ o. continue_at from r i cs o) q)
     by (Some d) q = at_remote d.transaction.remote refl
       where
         turn_is : turn ≡ continue_for from r i cs d (for_it (transact (Some d.transaction) (ContinueComes from r)))
@@ -241,7 +241,7 @@ continue_moves S from r i portion cs T a (Taken turn new turns m) = by (S.dialog
                 found d d.transaction (λ none. none_some known _ none p) q row_is (turn_is ∙ ap (λ w. continue_for from r i cs d (for_it w)) row_is)
             matches false z =
                 let row_is : transact (Some d.transaction) (ContinueComes from r) ≡ row (Some d.transaction) Unassigned = ap (λ o. continue_row d.transaction o from r) p ∙ ap (λ b. cond b (row (Some d.transaction) ForIt) (row (Some d.transaction) Unassigned)) z in
-                none (Some d.transaction) (ap (λ o. transact (transaction_of o) (ContinueComes from r)) q ∙ row_is) (turn_is ∙ ap (λ w. continue_for from r i cs d (for_it w)) row_is)
+                none (ap (λ o. transact (transaction_of o) (ContinueComes from r)) q ∙ row_is ∙ ap (λ o. row (transaction_of o) Unassigned) (sym q)) (turn_is ∙ ap (λ w. continue_for from r i cs d (for_it w)) row_is)
 
 -- a received End or Abort
 
