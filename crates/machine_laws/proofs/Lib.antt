@@ -33,3 +33,4 @@ pub mod Growing
 pub mod Openings
 pub mod Unions
 pub mod Turned
+pub mod Purging

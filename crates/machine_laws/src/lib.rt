@@ -5,8 +5,8 @@
 pub mod dialogue_examples;
 pub mod examples;
 
-ghost use Rattle.std.specs.Prelude.{◌≡◌, ℕ, ℤ, Option, None, ◌<◌, ◌≤◌, List, [], ◌∷◌, ◌++◌, ◌&&◌, ◌||◌, ◌⊎◌, true, false, length};
-ghost use Rattle.machine.specs.Received.{Abort, Begin, Component, ComponentOf, Continue, End, Read, Register, Response};
+ghost use Rattle.std.specs.Prelude.{◌≡◌, ℕ, ℤ, Option, None, Some, ◌<◌, ◌≤◌, List, [], ◌∷◌, ◌++◌, ◌&&◌, ◌||◌, ◌⊎◌, true, false, length};
+ghost use Rattle.machine.specs.Received.{Abort, Begin, Component, ComponentOf, Continue, End, Purge, Read, Register, Response};
 ghost use Rattle.machine.specs.Isolation.{AgreeOf, MetFullShard, NoneTurnedAway, SameAfter, SameOf, is_of, is_turned_away, only_of, own};
 ghost use Rattle.machine.specs.Step.{Answer, HasNoRoom, IsNewId, Step, TurnedAway, outcome_in, known_in};
 ghost use Rattle.machine.specs.Bounds.{AnswerInBounds, AreDigits, ComponentsInBounds, EventInBounds, RecordInBounds, StartsOfOperation, StateInBounds};
@@ -28,7 +28,7 @@ ghost use Rattle.machine.specs.Rows.{MovesByRow, happening, standing_of};
 ghost use Rattle.machine.specs.Run.{Run};
 ghost use Rattle.machine.specs.Sound.{Sound};
 ghost use Rattle.machine.specs.Numbers.{most_dialogues, shards};
-ghost use Rattle.machine.specs.Begins.{offer_in};
+ghost use Rattle.machine.specs.Begins.{first_argument, offer_in};
 ghost use Rattle.machine_laws.specs.FirstTimer.{HasFirstTimer};
 ghost use Rattle.machine_laws.specs.Play.{play};
 ghost use Rattle.machine.specs.Routing.{route};
@@ -116,6 +116,16 @@ pub fn turned_away_is_exact()
     ensures tells { (S : State) (e : Event) (turn : Turn) (new : List ℕ) (T : State) (a : Answer)
         → TurnsTo S e turn → TurnedAway S (route S.directory e) turn (outcome_in S (route S.directory e) turn new) T a
         → (x : List ℕ) × MetFullShard S e T a x × (is_turned_away a.sent ≡ true) }
+{}
+
+/// A purge that names no register, or another than the serving one, changes nothing: no record, no dialogue, no clock (TS 23.012,
+/// Purge MS).
+pub fn foreign_purges_change_nothing()
+    ensures { (S : State) (from origin : List ℕ) (name : Option (List ℕ)) (components : List Component) (imsi : List ℕ)
+        (vlr : Option (List ℕ)) (T : State) (a : Answer)
+        → Step S (Frame from (Read (Begin origin name components))) T a → first_argument components ≡ Some (Purge imsi vlr)
+        → ((v : List ℕ) → vlr ≡ Some v → serving (S.records imsi) v ≡ false)
+        → (T ≡ S) × (a.id ≡ None) }
 {}
 
 // The tables
