@@ -1,5 +1,7 @@
 pub mod WordLemmas
 pub mod PackLemmas
+pub mod PlaceLemmas
+pub mod PrintLemmas
 pub mod TbcdLemmas
 pub mod TbcdLaws
 pub mod IdentityLaws

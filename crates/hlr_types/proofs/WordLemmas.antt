@@ -55,7 +55,7 @@ beyond : (c a b : ℕ) → nat_cmp (c + a) (c + b) ≡ nat_cmp a b
 beyond c a b = grind (arith, nat_tests)
 
 -- The highest digit decides, and then the rest.
-highest : (p x y r s : ℕ) → r < p → s < p → nat_cmp ((x + 1) * p + r) ((y + 1) * p + s) ≡ ordering_then (nat_cmp x y) (nat_cmp r s)
+pub highest : (p x y r s : ℕ) → r < p → s < p → nat_cmp ((x + 1) * p + r) ((y + 1) * p + s) ≡ ordering_then (nat_cmp x y) (nat_cmp r s)
 highest p x y r s hr hs = by_order (cases_order x y)
   where
     by_order : (x ≡ y) ⊎ ((x < y) ⊎ (y < x)) → nat_cmp ((x + 1) * p + r) ((y + 1) * p + s) ≡ ordering_then (nat_cmp x y) (nat_cmp r s)

@@ -6,11 +6,11 @@ ghost use Rattle.std.specs.Cmp.Rules.{comparing};
 ghost use Rattle.std.specs.Cmp.{partial_order_from_own_ties};
 ghost use Rattle.std.specs.Fmt.{padded};
 ghost use Rattle.std.specs.Ordering.{nat_cmp, on, as_partial_cmp};
-ghost use Rattle.std.specs.Prelude.{◌≡◌, ◌-◌, List, ℕ, length, IfSome, Some, nat_eq};
+ghost use Rattle.std.specs.Prelude.{◌≡◌, ◌<◌, ◌≤◌, ◌+◌, ◌-◌, ◌*◌, ◌&&◌, nat_le, slice_index, List, ℕ, length, IfSome, Some, nat_eq};
 ghost use Rattle.std.specs.Str.{IsAscii};
-ghost use Rattle.std.specs.List.{AllByRecursion, list_all};
+ghost use Rattle.std.specs.List.{AllByRecursion, list_all, starts_with};
 ghost use Rattle.hlr_types.specs.Digits.{AreSomeDigits};
-ghost use Rattle.hlr_types.specs.Words.{IsWord, in_word, word_of};
+ghost use Rattle.hlr_types.specs.Words.{IsWord, in_word, packed, word_of};
 ghost use Rattle.hlr_types.specs.DigitTexts.{digits_in, is_digit, text_of, AreTextForms, IsText};
 
 use crate::short_list::ShortList;
@@ -80,6 +80,53 @@ impl Digits {
         unpacked(self.word)
     }
 
+    /// The number that they make, a half octet for each: their word without the empty half octets at its end.
+    #[tactic(auto, using(crate::proofs::PlaceLemmas::prefix_laws))]
+    fn number(&self) -> u64
+        ensures value { result ≡ packed (length self.now) self.now }
+        ensures digits { AreSomeDigits self.now }
+    {
+        let mut rest = self.word;
+        while rest % 16 == 0 {
+            rest /= 16;
+        }
+        rest
+    }
+
+    /// The number that the last two make.
+    #[tactic(auto, using(crate::proofs::PlaceLemmas::last_two))]
+    pub fn last_two(&self) -> u8
+        requires { 2 ≤ length self.now }
+        ensures value { result ≡ 10 * slice_index self.now (length self.now - 2)
+            + slice_index self.now (length self.now - 1) }
+        ensures small { result < 100 }
+    {
+        let number = self.number();
+        10 * ((number / 16 % 16) as u8 - 1) + ((number % 16) as u8 - 1)
+    }
+
+    /// Whether they begin with this prefix.
+    #[tactic(auto, using(crate::proofs::PlaceLemmas::prefix_laws))]
+    pub fn starts_with(&self, prefix: &Digits) -> bool
+        ensures { result ≡ starts_with nat_eq self.now prefix.now }
+    {
+        let mut start = self.word;
+        let mut rest = prefix.word;
+        while rest % 16 == 0 {
+            start /= 16;
+            rest /= 16;
+        }
+        rest == start
+    }
+
+    /// Whether there are 5 to 15, as an IMSI has.
+    #[tactic(auto, using(crate::proofs::PlaceLemmas::count_laws))]
+    pub(crate) fn have_imsi_count(&self) -> bool
+        ensures { result ≡ (nat_le 5 (length self.now) && nat_le (length self.now) 15) }
+    {
+        (self.word >> 44) % 16 != 0 && self.word % 16 == 0
+    }
+
     /// Fact: these are 1 to 16 digits. Nothing is computed.
     pub fn are_some_digits(&self)
         ensures { AreSomeDigits self.now }
@@ -88,13 +135,16 @@ impl Digits {
     }
 
     /// Their ASCII text: one octet for each digit, from `0` to `9`.
+    #[tactic(auto, using(crate::proofs::PrintLemmas::none_printed))]
     pub fn text(&self) -> ShortList<16>
         ensures value { result ≡ text_of self.now }
         ensures ascii { IsAscii result }
     {
         let mut text = ShortList::new();
-        for digit in self.list().as_slice() {
-            text.push(*digit + b'0');
+        let mut rest = self.word;
+        while rest != 0 {
+            text.push((rest >> 60) as u8 + (b'0' - 1));
+            rest <<= 4;
         }
         text
     }

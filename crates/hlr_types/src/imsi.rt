@@ -37,8 +37,7 @@ impl Imsi {
     pub fn from_digits(digits: Digits) -> Result<Imsi, TbcdFault>
         ensures { result ≡ imsi_from digits }
     {
-        let count = digits.list().len();
-        if 5 <= count && count <= 15 {
+        if digits.have_imsi_count() {
             Ok(Imsi { digits })
         } else {
             Err(TbcdFault::BadCount)

@@ -1,6 +1,9 @@
-use Rattle.std.proofs.Common.{◌≡◌, take}
-use Rattle.hlr_types.specs.DigitTexts.{text_of}
+use Rattle.std.proofs.Common.{◌-◌, length}
+use Rattle.hlr_types.proofs.PrintLemmas.{IsPrinted}
 use Rattle.hlr_types.proofs.digits.Digits.text.Given as goal
 
-abbrev pub invariant-loop-digit : goal.invariant-loop-digit
-invariant-loop-digit l = l.text ≡ text_of (take l.digit-index l.digit-items)
+abbrev pub invariant-loop-rest : goal.invariant-loop-rest
+invariant-loop-rest l = IsPrinted l.rest l.text l.self
+
+abbrev pub decreases-loop-rest : goal.decreases-loop-rest
+decreases-loop-rest l = 16 - length l.text
