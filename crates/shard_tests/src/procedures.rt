@@ -8,7 +8,7 @@ use dialogues::{Dialogue, Kind};
 use hlr_types::Imsi;
 use location::{After, Outcome, Stays, begins, expires, withdraws};
 use mapargs_loc::CancellationType;
-use msgarena::{Message, Round, Verdict};
+use msgarena::{Indication, Message, Round, Verdict};
 use outgoing::{Out, octets_of};
 use records::{Records, read_records};
 use std::alloc::Global;
@@ -18,16 +18,18 @@ fn subscriber() -> Option<Imsi> {
     imsi(b"234150000000001").ok()
 }
 
-fn records(alloc: Global) -> Option<Records> {
+pub(crate) fn records(alloc: Global) -> Option<Records> {
     read_records(alloc, RECORDS).ok()?.part(1).ok()
 }
 
-/// The outcome of a Begin of these octets.
-fn left(alloc: Global, octets: &[u8]) -> Option<Outcome> {
-    let records = records(alloc)?;
-    let mut bump = Bump::new(alloc);
+/// What these octets read to.
+pub(crate) fn taken(alloc: Global, octets: &[u8]) -> Option<Indication> {
     let from = peer(b"447700900012").ok()?;
-    let indication = Round::take(alloc, &mut bump, from, octets).ok()?;
+    Round::take(alloc, &mut Bump::new(alloc), from, octets).ok()
+}
+
+/// The outcome of a Begin, none where it is out of memory.
+pub(crate) fn begun(alloc: Global, indication: &Indication, records: &Records) -> Option<Outcome> {
     let Verdict::Read(message) = indication.verdict() else {
         return None;
     };
@@ -40,11 +42,16 @@ fn left(alloc: Global, octets: &[u8]) -> Option<Outcome> {
         return None;
     };
     let found = records.get(&subscriber()?);
-    begins(alloc, &indication, *origin, components, found, 0, FIRST).ok()
+    begins(alloc, indication, *origin, components, found, 0, FIRST).ok()
+}
+
+/// The outcome of a Begin of these octets.
+fn left(alloc: Global, octets: &[u8]) -> Option<Outcome> {
+    begun(alloc, &taken(alloc, octets)?, &records(alloc)?)
 }
 
 /// Whether this is sent.
-fn says(alloc: Global, sent: &Option<Out>, octets: &[u8]) -> Option<bool> {
+pub(crate) fn says(alloc: Global, sent: &Option<Out>, octets: &[u8]) -> Option<bool> {
     match sent {
         Some(out) => Some(octets_of(alloc, &out.message).ok()?.as_slice() == octets),
         None => Some(false),
