@@ -36,16 +36,16 @@ fn is_allowed(roam: &Roam, vlr: &IsdnAddress) -> bool
 {
     match roam {
         Roam::Everywhere => true,
-        Roam::Within(prefixes) => is_within(prefixes, vlr.digits().list().as_slice()),
+        Roam::Within(prefixes) => is_within(prefixes, vlr.digits()),
     }
 }
 
 /// Whether one of these is a prefix of the digits.
-fn is_within(prefixes: &[Digits], digits: &[u8]) -> bool
+fn is_within(prefixes: &[Digits], digits: &Digits) -> bool
     ensures { result ≡ list_any (λ prefix. is_prefix prefix digits.now) prefixes.now }
 {
     for prefix in prefixes {
-        if is_prefix(prefix.list().as_slice(), digits) {
+        if is_prefix(prefix, digits) {
             return true;
         }
     }
@@ -53,7 +53,7 @@ fn is_within(prefixes: &[Digits], digits: &[u8]) -> bool
 }
 
 #[tactic(auto, using(crate::proofs::PrefixLemmas::starts_prefix))]
-fn is_prefix(prefix: &[u8], digits: &[u8]) -> bool
+fn is_prefix(prefix: &Digits, digits: &Digits) -> bool
     ensures { result ≡ is_prefix prefix.now digits.now }
 {
     digits.starts_with(prefix)

@@ -11,8 +11,5 @@ pub fn shard_of(imsi: &Imsi) -> u8
     ensures value { result ≡ shard_of imsi.now }
     ensures small { result < 16 }
 {
-    let list = imsi.digits().list();
-    let digits = list.as_slice();
-    let count = digits.len();
-    (10 * digits[count - 2] + digits[count - 1]) % 16
+    imsi.digits().last_two() % 16
 }
