@@ -46,7 +46,7 @@ const PLACE: usize = 60;
 const WORKERS: [usize; 5] = [1, 2, 4, 8, 16];
 
 /// The most jobs of a batch.
-const MOST_JOBS: u64 = 65_536;
+const MAX_JOBS: u64 = 65_536;
 
 fn loaded(alloc: Global) -> Result<Loaded> {
     read_records(alloc, RECORDS).ok().context("records")
@@ -145,7 +145,7 @@ fn time_workers<R: Threads + Wait + Sync>(
 
 /// Times a batch of `count` routes, at most 65,536, in one thread, and by 1 to 16 workers.
 pub fn time<R: Threads + Wait + Sync>(rt: &HostRuntime, threads: &R, count: u64) -> Result<()> {
-    let count = count.min(MOST_JOBS);
+    let count = count.min(MAX_JOBS);
     time_node(rt, count)?;
     for workers in WORKERS {
         time_workers(rt, threads, count, workers)?;

@@ -9,7 +9,7 @@ use tidalloc::{IdFault, Ids};
 /// Takes an id and frees it in each round, with 4,095 others live; counts the ids taken.
 pub fn take_ids(alloc: Global, rounds: u64) -> Result<u64> {
     let mut ids = Ids::new(alloc, 0)?;
-    for _ in 1..Ids::ROOM {
+    for _ in 1..Ids::MAX_IDS {
         ids.take()?;
     }
     let mut taken = 0u64;

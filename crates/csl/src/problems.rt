@@ -18,7 +18,7 @@ const UNRECOGNIZED_OPERATION: u8 = 1;
 
 const MISTYPED_PARAMETER: u8 = 2;
 
-const RESOURCE_LIMITATION: u8 = 3;
+const INVOKE_RESOURCE_LIMITATION: u8 = 3;
 
 const UNRECOGNIZED_LINKED_ID: u8 = 5;
 
@@ -52,7 +52,7 @@ fn problem_of_start(offer: &Offer, is_first: bool) -> Option<u8>
     ensures { result ≡ problem_of_start (offered offer.now) is_first }
 {
     if !is_first || !offer.may_start {
-        Some(RESOURCE_LIMITATION)
+        Some(INVOKE_RESOURCE_LIMITATION)
     } else if offer.typed {
         None
     } else {

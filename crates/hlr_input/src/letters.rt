@@ -7,7 +7,7 @@ use std::alloc::{AllocError, Global};
 use std::marker::Model;
 
 /// The number of letters, A to Z.
-pub const MOST_LETTERS: usize = 26;
+pub const MAX_LETTERS: usize = 26;
 
 /// The tag of a Begin (Q.773).
 const BEGIN: u8 = 0x62;
@@ -60,7 +60,7 @@ impl Letters {
         if is_among(&id, &self.ids) {
             return Ok(());
         }
-        if self.ids.len() >= MOST_LETTERS {
+        if self.ids.len() >= MAX_LETTERS {
             return Ok(());
         }
         self.ids.push(id)?;

@@ -16,7 +16,7 @@ mod ticks;
 mod words;
 
 pub use group::Group;
-pub use input::{InputFault, MOST_OCTETS, read_all};
+pub use input::{InputFault, MAX_FILE_OCTETS, read_all};
 pub use item::{Item, LineFault};
 pub use letters::Letters;
 pub use line::{check_line, read_line};

@@ -8,7 +8,7 @@ ghost use Rattle.hlr_input.specs.Reading.{group_in, letter_in, are_groups, octet
 ghost use Rattle.records.specs.Reading.{octet_in};
 
 use crate::group::Group;
-use crate::letters::MOST_LETTERS;
+use crate::letters::MAX_LETTERS;
 use hex::FromHex;
 use hlr_types::Tid;
 use std::alloc::{AllocError, Global};
@@ -19,7 +19,7 @@ use std::alloc::{AllocError, Global};
 pub fn are_octets(text: &[u8]) -> bool
     ensures { IsTrue result ↔ ((groups : List Group) × IsOctets text.now groups) }
 {
-    stand(text, MOST_LETTERS)
+    stand(text, MAX_LETTERS)
 }
 
 /// Whether each letter of a frame's octets has an id, if the first `known` letters have one.

@@ -5,7 +5,7 @@ ghost use Rattle.hlr_input.specs.Script.{IsTicks};
 ghost use Rattle.hlr_input.specs.Reading.{is_plain};
 
 /// The greatest clock value (profile).
-pub const MOST_TICKS: u64 = 1 << 62;
+pub const MAX_TICKS: u64 = 1 << 62;
 
 /// A clock value: 0 to 2^62 in decimal digits, without a leading zero.
 pub fn ticks(text: &[u8]) -> Option<u64>
@@ -21,7 +21,7 @@ pub fn ticks(text: &[u8]) -> Option<u64>
     let Ok(ticks) = digits.parse::<u64>() else {
         return None;
     };
-    if ticks <= MOST_TICKS {
+    if ticks <= MAX_TICKS {
         Some(ticks)
     } else {
         None

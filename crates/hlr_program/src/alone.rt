@@ -27,7 +27,7 @@ use wholenode::{Cause, Node};
 pub const SHARDS: u8 = 16;
 
 /// How many events a part of a batch, and how many entries a journal may have (profile).
-pub const MOST_EVENTS: usize = 65_536;
+pub const MAX_EVENTS: usize = 65_536;
 
 /// The sixteen shards, and an arena for one frame at a time.
 #[derive(Drop)]
@@ -116,7 +116,7 @@ impl Alone {
     {
         let shards = self.node.shards();
         for shard in shards {
-            if count > MOST_EVENTS - shard.entries().len() {
+            if count > MAX_EVENTS - shard.entries().len() {
                 return false;
             }
         }

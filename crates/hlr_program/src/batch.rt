@@ -15,7 +15,7 @@ ghost use Rattle.hlr_program.specs.Registers.{state_known};
 ghost use Rattle.hlr_program.specs.Runs.{AreEvents};
 ghost use Rattle.hlr_program.specs.Stopping.{BatchStops};
 
-use crate::alone::{MOST_EVENTS, SHARDS};
+use crate::alone::{MAX_EVENTS, SHARDS};
 use crate::check::{check_letters, is_end};
 use crate::fault::Fault;
 use crate::register::Register;
@@ -61,7 +61,7 @@ impl Pending {
         ensures few { OnOk result (length self.new.part.items ≤ 65536) }
         ensures stops { IfErr result (AddingStops (progress register.old self.old) (raw_event event ∷ [])) }
     {
-        if self.part.len() >= MOST_EVENTS {
+        if self.part.len() >= MAX_EVENTS {
             self.run(rt, register)?;
         }
         self.part.push(event).map_err(|_| Fault::Memory)?;

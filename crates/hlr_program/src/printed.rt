@@ -19,7 +19,7 @@ use std::io::{ErrorKind, Write};
 const DIGITS: &[u8; 16] = b"0123456789ABCDEF";
 
 /// Room for the longest fault line: the words around a number of 20 digits.
-const MOST_TOLD: usize = 64;
+const MAX_TOLD: usize = 64;
 
 /// The lines of the frames that a batch has sent; the local ids in them are recorded. Nothing is printed yet, so that a batch with
 /// a fault prints nothing.
@@ -60,7 +60,7 @@ pub fn print<W: Write>(text: &[u8], out: &mut W) -> Result<(), Fault>
 pub fn tell<W: Write>(fault: Fault, err: &mut W)
     ensures { WritesFront (W.contents err.old) (message_of fault ++ 10 ∷ []) (W.contents err.new) }
 {
-    let mut line = ArrayString::<MOST_TOLD>::new();
+    let mut line = ArrayString::<MAX_TOLD>::new();
     if let Ok(()) = writeln!(line, "{fault}") {
         let _ = print(line.as_str().as_bytes(), err);
     }

@@ -25,7 +25,7 @@ use std::sync::Wait;
 use std::thread::Threads;
 
 /// How many workers may share a register (profile).
-const MOST_WORKERS: u8 = 16;
+const MAX_WORKERS: u8 = 16;
 
 /// Reads the records and the script, runs the script and prints what is sent, batch by batch. A fault is one line on `err`.
 /// Returns the program's exit status: 0 if all was run and printed.
@@ -72,7 +72,7 @@ fn serve<R: Threads + Wait + Sync, A: Read, B: Read, W: Write>(
         Ends options.now file lines (W.contents out.old) (W.contents out.new) (result_err result))) }
     ensures served { OnOk result (options.now.workers ≤ 16) }
 {
-    if options.workers > MOST_WORKERS {
+    if options.workers > MAX_WORKERS {
         return Err(Fault::CommandLine);
     }
     let loaded = load(alloc, records)?;

@@ -2,6 +2,6 @@ pub mod ShardLemmas
 pub mod TakenLemmas
 pub mod SettledLemmas
 pub mod TurnLemmas
-pub mod HearLemmas
+pub mod ReceivingLemmas
 pub mod SoundLemmas
 pub mod RunningLemmas

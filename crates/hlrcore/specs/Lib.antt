@@ -1,6 +1,6 @@
 pub mod Events
 pub mod Taken
 pub mod Leading
-pub mod Hearing
+pub mod Receiving
 pub mod Sound
 pub mod Running

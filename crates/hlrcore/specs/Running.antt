@@ -6,8 +6,8 @@ use Rattle.frames.specs.Octets.{RawEntry, RawEvent, RunOctets}
 use Rattle.shard_state.specs.declared.answer.StepAnswer.{StepAnswer}
 use Rattle.shard_state.specs.Answers.{entry_of}
 use Rattle.shard_state.specs.Shards.{ShardState, directory_of, state_of}
-use Rattle.hlrcore.specs.declared.answer.StepFault.{StepFault}
-use Rattle.hlrcore.specs.declared.answer.StepFault.TheVariants.{NotMine, NoRoom, Memory}
+use Rattle.hlrcore.specs.declared.fault.StepFault.{StepFault}
+use Rattle.hlrcore.specs.declared.fault.StepFault.TheVariants.{NotMine, NoRoom, Memory}
 use Rattle.hlrcore.specs.declared.event.Event.{Event}
 use Rattle.hlrcore.specs.Events.{event_of, raw_of}
 

@@ -40,7 +40,7 @@ pub enum EventFault {
     #[error("out of memory")]
     Memory,
     /// The arena could not be reset. The frame was read, and this is the event.
-    #[error("the arena did not give its memory back")]
+    #[error("the arena could not be reset")]
     ResetRefused(Event),
 }
 

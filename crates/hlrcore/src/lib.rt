@@ -4,11 +4,11 @@
 //! its contract is a run of the machine.
 #![tactic(auto)]
 
-mod answer;
 mod change;
 mod event;
-mod hearing;
-mod naming;
+mod fault;
+mod receiving;
+mod routing;
 mod running;
 mod sending;
 mod shard_number;
@@ -16,10 +16,10 @@ mod state;
 mod step;
 mod stepper;
 
-pub use answer::StepFault;
 pub use change::Change;
 pub use event::{Event, EventFault, RawEvent};
-pub use naming::route;
+pub use fault::StepFault;
+pub use routing::route;
 pub use running::RunFault;
 pub use shard_number::ShardNumber;
 pub use shard_state::{Frames, Out, StepAnswer};

@@ -4,8 +4,8 @@ ghost use Rattle.std.specs.Prelude.{◌≡◌, IfOk, IfErr};
 ghost use Rattle.shard_state.specs.Shards.{IsSameShard};
 ghost use Rattle.hlrcore.specs.Running.{BreaksOff, RunsTo};
 
-use crate::answer::StepFault;
 use crate::event::Event;
+use crate::fault::StepFault;
 use crate::state::State;
 use shard_state::StepAnswer;
 

@@ -14,14 +14,14 @@ ghost use Rattle.hlrcore.specs.Events.{event_of, raw_of};
 ghost use Rattle.hlrcore.specs.Leading.{Leads};
 ghost use Rattle.hlrcore.specs.Sound.{IsSoundShard};
 
-use crate::answer::StepFault;
 use crate::event::Event;
-use crate::naming::route;
+use crate::fault::StepFault;
+use crate::routing::route;
 use crate::stepper::Stepper;
 use dialogues::Dialogues;
 use hlr_types::IsdnAddress;
 use records::{Directory, Loaded, Records};
-use shard_state::{Shard, StepAnswer};
+use shard_state::{ShardParts, StepAnswer};
 use std::alloc::{AllocError, Global};
 use std::marker::Model;
 use std::sync::Arc;
@@ -74,7 +74,7 @@ impl State {
         ensures part { IfOk result (λ state. (all : RecordMap) → records ≡ part_of all shard
             → state_of state ≡ part (opening (records_of all) (directory_of (arc_value directory)) hlr) shard) }
     {
-        let shard = Shard::of_part(alloc, shard, records, directory, hlr)?;
+        let shard = ShardParts::of_part(alloc, shard, records, directory, hlr)?;
         Ok(State {
             stepper: Stepper { alloc, shard },
         })

@@ -11,16 +11,16 @@ ghost use Rattle.hlrcore.specs.Events.{change as said, event_of, raw_of};
 ghost use Rattle.hlrcore.specs.Leading.{IsMine, Leads};
 ghost use Rattle.turns.specs.Planning.{IsPlan};
 
-use crate::answer::StepFault;
 use crate::change::Change;
 use crate::event::Event;
-use crate::naming::route;
+use crate::fault::StepFault;
+use crate::routing::route;
 use crate::sending::silent;
 use crate::stepper::Stepper;
 use hlr_types::Imsi;
 use shard_state::{Plan, StepAnswer};
 use std::alloc::AllocError;
-use turns::{expires, new_codes, withdraws};
+use turns::{plan_codes, plan_expiry, plan_withdrawal};
 
 impl Stepper {
     /// Handles one event, as `State::step` says.
@@ -38,7 +38,7 @@ impl Stepper {
             return Err(StepFault::NotMine);
         }
         match event {
-            Event::Frame(indication) => Ok(self.hear(indication)?),
+            Event::Frame(indication) => Ok(self.receive(indication)?),
             Event::Clock { now, .. } => {
                 self.shard.tick(*now);
                 Ok(silent(self.alloc))
@@ -54,7 +54,7 @@ impl Stepper {
         ensures err { OnErr result (self.new ≡ self.old) }
         ensures same_shard { IsSameShard self.old self.new }
     {
-        match expires(self.alloc, &self.shard) {
+        match plan_expiry(self.alloc, &self.shard) {
             Some(plan) => self.shard.settle(plan, &[]),
             None => Ok(silent(self.alloc)),
         }
@@ -81,8 +81,8 @@ impl Stepper {
         ensures { IfOk result (λ plan. IsPlan self.now (Changes imsi (said change.now)) [] plan) }
     {
         match change {
-            Change::Codes(codes) => new_codes(self.alloc, &self.shard, imsi, codes.as_slice()),
-            Change::Withdraw => Ok(withdraws(self.alloc, &self.shard, imsi)),
+            Change::Codes(codes) => plan_codes(self.alloc, &self.shard, imsi, codes.as_slice()),
+            Change::Withdraw => Ok(plan_withdrawal(self.alloc, &self.shard, imsi)),
         }
     }
 }

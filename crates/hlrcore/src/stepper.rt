@@ -1,6 +1,6 @@
 //! The parts of a state, which handle events.
 
-use shard_state::Shard;
+use shard_state::ShardParts;
 use std::alloc::{AllocError, Global};
 use std::marker::Model;
 
@@ -8,7 +8,7 @@ use std::marker::Model;
 #[derive(Drop)]
 pub(crate) struct Stepper {
     pub(crate) alloc: Global,
-    pub(crate) shard: Shard,
+    pub(crate) shard: ShardParts,
 }
 
 impl Model for Stepper {

@@ -15,11 +15,11 @@ use Rattle.smroute.specs.Seen.{machine_subscriber, machine_register}
 use Rattle.csl.specs.Tables.{first_invoked}
 use Rattle.dialogues.specs.Seen.{dialogue_with}
 use Rattle.outgoing.specs.Seen.{out}
-use Rattle.outgoing.specs.declared.message.Out.{Out}
+use Rattle.outgoing.specs.declared.message.Addressed.{Addressed}
 use Rattle.location.specs.declared.outcome.After.{After}
-use Rattle.location.specs.declared.outcome.After.TheVariants.{Same, Purged, Placed, NewCodes, Withdrawn}
-use Rattle.location.specs.declared.outcome.Stays.{Stays}
-use Rattle.location.specs.declared.outcome.Stays.TheVariants.{Gone, GoesOn, Forgets}
+use Rattle.location.specs.declared.outcome.After.TheVariants.{Same, Purged, Location, NewCodes, Withdrawn}
+use Rattle.location.specs.declared.outcome.DialogueChange.{DialogueChange}
+use Rattle.location.specs.declared.outcome.DialogueChange.TheVariants.{Gone, GoesOn, Forgets}
 use Rattle.location.specs.declared.outcome.Opening.{Opening}
 use Rattle.location.specs.declared.outcome.Outcome.{Outcome}
 
@@ -31,14 +31,14 @@ known found = option_map (λ s. machine_subscriber s.now) found
 abbrev pub after_of : (codes : List ℕ) → After → Option machine.Subscriber → Option machine.Subscriber
 after_of codes Same before = before
 after_of codes Purged before = option_map (λ (s : machine.Subscriber). record s { purged = true }) before
-after_of codes (Placed register purged current) before =
+after_of codes (Location register purged current) before =
     option_map (λ (s : machine.Subscriber). record s { register = option_map machine_register register; purged = purged; current = current }) before
 after_of codes NewCodes before = option_map (λ (s : machine.Subscriber). record s { codes = codes; current = None }) before
 after_of codes Withdrawn before =
     option_map (λ (s : machine.Subscriber). record s { register = None; purged = false; current = None; withdrawn = true }) before
 
 -- The named dialogue after, if it stays. It is given as the received message leaves it.
-abbrev pub stays_of : Option machine.Dialogue → Stays → Option machine.Dialogue
+abbrev pub stays_of : Option machine.Dialogue → DialogueChange → Option machine.Dialogue
 stays_of named (Gone opens) = None
 stays_of named GoesOn = named
 stays_of named (Forgets invoke) = option_map (λ (d : machine.Dialogue). record d { invocations = without invoke d.invocations }) named
@@ -48,20 +48,20 @@ abbrev pub opening_of : (clock : ℕ) → Opening → machine.Dialogue
 opening_of clock o = dialogue_with (first_invoked clock (o.invoked - 1)) o.dialogue
 
 -- the dialogue that opens at this clock, if any
-abbrev pub opens_of : (clock : ℕ) → Stays → Option machine.Dialogue
+abbrev pub opens_of : (clock : ℕ) → DialogueChange → Option machine.Dialogue
 opens_of clock (Gone opens) = option_map (opening_of clock) opens
 opens_of clock GoesOn = None
 opens_of clock (Forgets invoke) = None
 
 -- a message, if any
-abbrev pub one : Option Out → List sent.Out
+abbrev pub one : Option Addressed → List sent.Out
 one None = []
 one (Some o) = out o ∷ []
 
 -- the messages, in order
-abbrev pub sent_of : (first second : Option Out) → List sent.Out
-sent_of first None = one first
-sent_of first (Some o) = one first ++ out o ∷ []
+abbrev pub sent_of : (message cancel : Option Addressed) → List sent.Out
+sent_of message None = one message
+sent_of message (Some o) = one message ++ out o ∷ []
 
 -- The outcome as the definitions have it: `named` is the dialogue that the event names, as the received message leaves it, and
 -- `codes` are those of an operator's change.
@@ -70,7 +70,7 @@ outcome_of here named codes o = record {
   after = after_of codes o.after here.record_of;
   stays = stays_of named o.stays;
   opens = opens_of here.clock o.stays;
-  sent = sent_of o.first o.second;
+  sent = sent_of o.message o.cancel;
 }
 
 -- The effect of received components, with the invocations after them.

@@ -10,9 +10,9 @@ ghost use Rattle.location.specs.Seen.{one, outcome_of};
 ghost use Rattle.location.specs.Writing.{CanBeWritten};
 ghost use Rattle.records.specs.Subscriber.{Subscriber};
 
-use crate::outcome::{After, Outcome, Stays};
+use crate::outcome::{After, DialogueChange, Outcome};
 use hlr_types::{IsdnAddress, Peer, Tid};
-use outgoing::{Components, Out, SentMessage};
+use outgoing::{Addressed, Components, SentMessage};
 use q773_comp::Rejection;
 use tsl::Transaction;
 
@@ -24,17 +24,17 @@ pub(crate) fn peer_of(vlr: &IsdnAddress) -> Peer
 }
 
 /// An End, if the dialogue is Active. In Initiation Sent the dialogue ends without a frame.
-pub(crate) fn ended(
+pub(crate) fn end_in_dialogue(
     transaction: Transaction,
     rejects: Vec<Rejection>,
     sent: Components,
-) -> Option<Out>
+) -> Option<Addressed>
     ensures { one result
         ≡ ended (transaction_of transaction) transaction.remote (map rejection rejects.items) (components sent) }
 {
     let to = transaction.peer;
     match transaction.remote {
-        Some(destination) => Some(Out {
+        Some(destination) => Some(Addressed {
             to,
             message: SentMessage::End {
                 destination,
@@ -48,12 +48,16 @@ pub(crate) fn ended(
 }
 
 /// A Continue, if there is a Reject to send.
-pub(crate) fn continued(id: Tid, transaction: Transaction, rejects: Vec<Rejection>) -> Option<Out>
+pub(crate) fn continue_in_dialogue(
+    id: Tid,
+    transaction: Transaction,
+    rejects: Vec<Rejection>,
+) -> Option<Addressed>
     ensures { one result ≡ continued id (transaction_of transaction) transaction.remote (map rejection rejects.items) }
 {
     let to = transaction.peer;
     match transaction.remote {
-        Some(destination) if !rejects.is_empty() => Some(Out {
+        Some(destination) if !rejects.is_empty() => Some(Addressed {
             to,
             message: SentMessage::Continue {
                 origin: id,
@@ -68,14 +72,14 @@ pub(crate) fn continued(id: Tid, transaction: Transaction, rejects: Vec<Rejectio
 }
 
 /// Nothing changes, and this is sent.
-pub(crate) fn only(first: Out) -> Outcome
-    ensures leaves { (here : Local) → outcome_of here None [] result ≡ unchanged here (out first ∷ []) }
+pub(crate) fn only(message: Addressed) -> Outcome
+    ensures leaves { (here : Local) → outcome_of here None [] result ≡ unchanged here (out message ∷ []) }
     ensures writable { (s : Option Subscriber) → CanBeWritten result.after s }
 {
     Outcome {
         after: After::Same,
-        stays: Stays::Gone { opens: None },
-        first: Some(first),
-        second: None,
+        stays: DialogueChange::Gone { opens: None },
+        message: Some(message),
+        cancel: None,
     }
 }

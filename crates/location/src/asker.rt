@@ -7,7 +7,7 @@ ghost use Rattle.outgoing.specs.Seen.{component as component_of, components, out
 use dialogues::InvokeId;
 use hlr_types::{Peer, RemoteId};
 use mapctx::Context;
-use outgoing::{Components, Out, SentComponent, SentMessage};
+use outgoing::{Addressed, Components, SentComponent, SentMessage};
 use q773_comp::Rejection;
 
 /// The sender of a Begin: its address, the originating transaction id, and the application context.
@@ -32,7 +32,7 @@ impl Source {
     ghost use Rattle.location.specs.Asking.{source_with};
 
     /// The End that answers the Begin.
-    pub(crate) fn ended(self, rejects: Vec<Rejection>, sent: Components) -> Out
+    pub(crate) fn end_of_begin(self, rejects: Vec<Rejection>, sent: Components) -> Addressed
         ensures { out result ∷ [] ≡ answered (source_with self (map rejection rejects.items)) (components sent) }
     {
         let Source {
@@ -40,7 +40,7 @@ impl Source {
             origin,
             context,
         } = self;
-        Out {
+        Addressed {
             to: from,
             message: SentMessage::End {
                 destination: origin,
@@ -56,9 +56,10 @@ impl Asker {
     ghost use Rattle.location.specs.Asking.{asker_of};
 
     /// The End that answers the Begin with this component.
-    pub(crate) fn answers(self, component: SentComponent) -> Out
+    pub(crate) fn answers(self, component: SentComponent) -> Addressed
         ensures { out result ∷ [] ≡ answered (asker_of self) (component_of component ∷ []) }
     {
-        self.source.ended(self.rejects, Components::One(component))
+        self.source
+            .end_of_begin(self.rejects, Components::One(component))
     }
 }

@@ -31,7 +31,7 @@ use hlr_types::{RemoteId, Tid};
 use mapctx::{Context, operation_of};
 use mapdlg::{Accepted, accept};
 use msgarena::{Argument, Indication, Parameter};
-use outgoing::{Components, Out, SentComponent, SentMessage};
+use outgoing::{Addressed, Components, SentComponent, SentMessage};
 use q773_comp::{Component, Rejection};
 use records::Record;
 use smroute::route_sm;
@@ -100,7 +100,7 @@ fn not_started(source: Source, rejects: Vec<Rejection>) -> Outcome
         ≡ unchanged here (answered (source_with source (map rejection rejects.items)) []) }
     ensures writable { (s : Option Subscriber) → CanBeWritten result.after s }
 {
-    only(source.ended(rejects, Components::Nothing))
+    only(source.end_of_begin(rejects, Components::Nothing))
 }
 
 /// The procedure that started, if one did.
@@ -181,7 +181,7 @@ pub fn begins(
             };
             begins_in(alloc, source, components, subscriber, now, new)
         }
-        Accepted::Refuse(why) => Ok(only(Out {
+        Accepted::Refuse(why) => Ok(only(Addressed {
             to: from,
             message: SentMessage::Abort {
                 destination: origin,

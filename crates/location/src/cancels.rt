@@ -10,12 +10,12 @@ ghost use Rattle.location.specs.Seen.{after_of, one, opening_of, outcome_of};
 ghost use Rattle.location.specs.Cancelling.{then_cancel};
 ghost use Rattle.location.specs.Staying.{ForgetsNothing};
 
-use crate::outcome::{After, Opening, Outcome, Stays};
+use crate::outcome::{After, DialogueChange, Opening, Outcome};
 use dialogues::{Dialogue, Kind};
 use hlr_types::{Imsi, Peer, Tid};
 use mapargs_loc::CancellationType;
 use mapctx::Context;
-use outgoing::{Components, Out, SentComponent, SentMessage};
+use outgoing::{Addressed, Components, SentComponent, SentMessage};
 use tsl::Transaction;
 
 /// A cancel to be sent: the VLR digits, the attempt, and the cancellationType.
@@ -45,11 +45,11 @@ fn cancel(imsi: Imsi, vlr: Peer, attempt: u8, why: CancellationType) -> Opening
 }
 
 /// Its Begin.
-fn cancel_begin(imsi: Imsi, vlr: Peer, why: CancellationType, new: Tid) -> Out
+fn cancel_begin(imsi: Imsi, vlr: Peer, why: CancellationType, new: Tid) -> Addressed
     ensures { (here : Local) → imsi ≡ here.imsi → out result ∷ [] ≡ cancel_begin here vlr (cancellation why) new }
 {
     let cancel = SentComponent::Cancel { id: 1, imsi, why };
-    Out {
+    Addressed {
         to: vlr,
         message: SentMessage::Begin {
             origin: new,
@@ -62,30 +62,30 @@ fn cancel_begin(imsi: Imsi, vlr: Peer, why: CancellationType, new: Tid) -> Out
 /// The named dialogue, if any, closes with this message; a cancel may follow.
 pub(crate) fn then_cancel(
     after: After,
-    first: Option<Out>,
+    message: Option<Addressed>,
     imsi: Imsi,
     next: Option<Cancelling>,
     new: Tid,
 ) -> Outcome
     ensures leaves { (here : Local) (named : Option machine.Dialogue) (codes : List ℕ) → imsi ≡ here.imsi
-        → outcome_of here named codes result ≡ then_cancel here (after_of codes after here.record_of) (one first) next new }
+        → outcome_of here named codes result ≡ then_cancel here (after_of codes after here.record_of) (one message) next new }
     ensures record_after { result.after ≡ after }
     ensures keeps { ForgetsNothing result.stays }
 {
     match &next {
         Some(sent) => Outcome {
             after,
-            stays: Stays::Gone {
+            stays: DialogueChange::Gone {
                 opens: Some(cancel(imsi, sent.vlr, sent.attempt, sent.why)),
             },
-            first,
-            second: Some(cancel_begin(imsi, sent.vlr, sent.why, new)),
+            message,
+            cancel: Some(cancel_begin(imsi, sent.vlr, sent.why, new)),
         },
         None => Outcome {
             after,
-            stays: Stays::Gone { opens: None },
-            first,
-            second: None,
+            stays: DialogueChange::Gone { opens: None },
+            message,
+            cancel: None,
         },
     }
 }

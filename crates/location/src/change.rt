@@ -16,12 +16,12 @@ ghost use Rattle.records.specs.Subscriber.{Subscriber};
 use crate::answers::peer_of;
 use crate::cancels::{Cancelling, then_cancel};
 use crate::inserts::{inserting, subscriber_data};
-use crate::outcome::{After, Opening, Outcome, Stays};
+use crate::outcome::{After, DialogueChange, Opening, Outcome};
 use dialogues::{Dialogue, Kind};
 use hlr_types::{Imsi, Register, Tid};
 use mapargs_loc::CancellationType;
 use mapctx::Context;
-use outgoing::{Out, SentMessage};
+use outgoing::{Addressed, SentMessage};
 use records::Record;
 use tsl::Transaction;
 
@@ -32,9 +32,9 @@ fn nothing() -> Outcome
 {
     Outcome {
         after: After::Same,
-        stays: Stays::Gone { opens: None },
-        first: None,
-        second: None,
+        stays: DialogueChange::Gone { opens: None },
+        message: None,
+        cancel: None,
     }
 }
 
@@ -56,12 +56,12 @@ fn data_to(imsi: Imsi, register: &Register, codes: &[u8]) -> Opening
 }
 
 /// Its Begin.
-fn data_begin(subscriber: &Record, register: &Register, codes: &[u8], new: Tid) -> Out
+fn data_begin(subscriber: &Record, register: &Register, codes: &[u8], new: Tid) -> Addressed
     requires { length codes.now ≤ 32 }
     ensures { (here : Local) → subscriber.now.imsi ≡ here.imsi → out result ∷ []
         ≡ send register.now.vlr (SentBegin new SubscriberDataMngt (inserts (Some here.imsi) subscriber.now.msisdn codes.now)) }
 {
-    Out {
+    Addressed {
         to: peer_of(&register.vlr),
         message: SentMessage::Begin {
             origin: new,
@@ -83,17 +83,17 @@ fn codes_to(subscriber: &Record, codes: &[u8], new: Tid) -> Outcome
     match subscriber.register {
         Some(register) if !subscriber.purged => Outcome {
             after: After::NewCodes,
-            stays: Stays::Gone {
+            stays: DialogueChange::Gone {
                 opens: Some(data_to(subscriber.imsi, &register, codes)),
             },
-            first: Some(data_begin(subscriber, &register, codes, new)),
-            second: None,
+            message: Some(data_begin(subscriber, &register, codes, new)),
+            cancel: None,
         },
         _ => Outcome {
             after: After::NewCodes,
-            stays: Stays::Gone { opens: None },
-            first: None,
-            second: None,
+            stays: DialogueChange::Gone { opens: None },
+            message: None,
+            cancel: None,
         },
     }
 }

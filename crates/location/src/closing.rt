@@ -6,7 +6,7 @@ ghost use Rattle.machine.specs.Dialogues.{closes};
 ghost use Rattle.location.specs.Seen.{known, outcome_of};
 ghost use Rattle.location.specs.Writing.{CanBeWritten};
 
-use crate::outcome::{Outcome, Stays};
+use crate::outcome::{DialogueChange, Outcome};
 use crate::update_end::unmarked;
 use hlr_types::Tid;
 use records::Record;
@@ -19,8 +19,8 @@ pub fn closes(subscriber: Option<&Record>, id: Tid) -> Outcome
 {
     Outcome {
         after: unmarked(subscriber, id),
-        stays: Stays::Gone { opens: None },
-        first: None,
-        second: None,
+        stays: DialogueChange::Gone { opens: None },
+        message: None,
+        cancel: None,
     }
 }

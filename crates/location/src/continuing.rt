@@ -13,8 +13,8 @@ ghost use Rattle.location.specs.Staying.{ForgetsNothing};
 ghost use Rattle.location.specs.Writing.{CanBeWritten};
 ghost use Rattle.records.specs.Subscriber.{Subscriber};
 
-use crate::answers::{continued, ended};
-use crate::outcome::{After, Outcome, Stays};
+use crate::answers::{continue_in_dialogue, end_in_dialogue};
+use crate::outcome::{After, DialogueChange, Outcome};
 use crate::update_end::{Updating, update_completes, update_fails};
 use csl::{Conclusion, Effect, Offer};
 use dialogues::{Dialogue, Kind};
@@ -50,9 +50,9 @@ fn goes_on(id: Tid, dialogue: &Dialogue, rejects: Vec<Rejection>) -> Outcome
 {
     Outcome {
         after: After::Same,
-        stays: Stays::GoesOn,
-        first: continued(id, dialogue.transaction, rejects),
-        second: None,
+        stays: DialogueChange::GoesOn,
+        message: continue_in_dialogue(id, dialogue.transaction, rejects),
+        cancel: None,
     }
 }
 
@@ -68,9 +68,9 @@ fn other_continues(id: Tid, dialogue: &Dialogue, effect: Effect) -> Outcome
         Conclusion::GoesOn => goes_on(id, dialogue, effect.rejects),
         Conclusion::HasFailed | Conclusion::HasSucceeded => Outcome {
             after: After::Same,
-            stays: Stays::Gone { opens: None },
-            first: ended(dialogue.transaction, effect.rejects, Components::Nothing),
-            second: None,
+            stays: DialogueChange::Gone { opens: None },
+            message: end_in_dialogue(dialogue.transaction, effect.rejects, Components::Nothing),
+            cancel: None,
         },
     }
 }

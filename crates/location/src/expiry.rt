@@ -13,9 +13,9 @@ ghost use Rattle.location.specs.Seen.{known, outcome_of};
 ghost use Rattle.location.specs.Writing.{CanBeWritten};
 ghost use Rattle.records.specs.Subscriber.{Subscriber};
 
-use crate::answers::ended;
+use crate::answers::end_in_dialogue;
 use crate::cancels::{Cancelling, then_cancel};
-use crate::outcome::{After, Outcome, Stays};
+use crate::outcome::{After, DialogueChange, Outcome};
 use crate::update_end::update_fails;
 use csl::{Due, Was};
 use dialogues::{Dialogue, InvokeId, Kind};
@@ -26,7 +26,7 @@ use records::Record;
 use std::alloc::Global;
 
 /// How often a cancel is attempted (profile).
-const MOST_ATTEMPTS: u8 = 3;
+const MAX_ATTEMPTS: u8 = 3;
 
 /// The register of the dialogue, if it is an update of this subscriber.
 pub fn register_of(imsi: Imsi, dialogue: Option<Dialogue>) -> Option<Register>
@@ -68,7 +68,7 @@ fn is_wanted(vlr: &Peer, subscriber: Option<&Record>, current: Option<Register>)
 fn again(last: Cancelling, wanted: bool) -> Option<Cancelling>
     ensures { result ≡ again last wanted }
 {
-    if last.attempt >= MOST_ATTEMPTS || wanted {
+    if last.attempt >= MAX_ATTEMPTS || wanted {
         return None;
     }
     Some(Cancelling {
@@ -95,10 +95,10 @@ fn cancel_expires(
         ≡ cancel_expires here (dialogue_with vs dialogue.now) last.vlr last.attempt (cancellation last.why) new }
     ensures writable { (s : Option Subscriber) → CanBeWritten result.after s }
 {
-    let first = ended(dialogue.transaction, Vec::new(alloc), Components::Nothing);
+    let message = end_in_dialogue(dialogue.transaction, Vec::new(alloc), Components::Nothing);
     let wanted = is_wanted(&last.vlr, subscriber, current);
     let next = again(last, wanted);
-    then_cancel(After::Same, first, dialogue.subscriber, next, new)
+    then_cancel(After::Same, message, dialogue.subscriber, next, new)
 }
 
 /// An expiry in Operation Sent closes the dialogue. New subscriber data is not sent again (profile).
@@ -128,9 +128,9 @@ fn sent_expires(
         }
         Kind::Data => Outcome {
             after: After::Same,
-            stays: Stays::Gone { opens: None },
-            first: ended(dialogue.transaction, Vec::new(alloc), Components::Nothing),
-            second: None,
+            stays: DialogueChange::Gone { opens: None },
+            message: end_in_dialogue(dialogue.transaction, Vec::new(alloc), Components::Nothing),
+            cancel: None,
         },
     }
 }
@@ -156,9 +156,9 @@ pub fn expires(
         Was::Sent => sent_expires(alloc, subscriber, current, due.id, dialogue, new),
         Was::Waiting => Outcome {
             after: After::Same,
-            stays: Stays::Forgets(InvokeId::new(due.invoke)),
-            first: None,
-            second: None,
+            stays: DialogueChange::Forgets(InvokeId::new(due.invoke)),
+            message: None,
+            cancel: None,
         },
     }
 }

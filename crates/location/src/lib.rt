@@ -27,4 +27,4 @@ pub use change::{new_codes, withdraws};
 pub use closing::closes;
 pub use continuing::{continues, offer_to};
 pub use expiry::{expires, register_of};
-pub use outcome::{After, Opening, Outcome, Stays};
+pub use outcome::{After, DialogueChange, Opening, Outcome};

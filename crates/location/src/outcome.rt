@@ -4,7 +4,7 @@ ghost use Rattle.std.specs.Prelude.{◌<◌, ◌≤◌};
 
 use dialogues::{Dialogue, InvokeId};
 use hlr_types::{Register, Tid};
-use outgoing::Out;
+use outgoing::Addressed;
 
 /// How the subscriber's record changes (TS 23.012): only what is written, so that the rest of the record is not copied.
 #[derive(Clone, Copy, Debug, PartialEq, Eq)]
@@ -14,7 +14,7 @@ pub enum After {
     /// The serving register has purged the subscriber (Purge MS).
     Purged,
     /// It has this register, this purged flag and this current update.
-    Placed {
+    Location {
         register: Option<Register>,
         purged: bool,
         current: Option<Tid>,
@@ -37,7 +37,7 @@ pub struct Opening {
 
 /// What happens to the dialogue that an event names. Another may open only if it closes or none is named.
 #[derive(Clone, Copy, Debug)]
-pub enum Stays {
+pub enum DialogueChange {
     /// It closes, or none is named.
     Gone { opens: Option<Opening> },
     /// It goes on; its transaction and invocations are as the received message leaves them.
@@ -46,12 +46,12 @@ pub enum Stays {
     Forgets(InvokeId),
 }
 
-/// The outcome of a procedure: the change of the record, what happens to the named dialogue, the dialogue that opens, and at
-/// most two messages, the second being the Begin of a cancel. Building it does not allocate.
+/// The outcome of a procedure: the change of the record, what happens to the named dialogue, the dialogue that opens, a
+/// message, and the Begin of a cancel that follows it. Building it does not allocate.
 #[derive(Debug, Drop)]
 pub struct Outcome {
     pub after: After,
-    pub stays: Stays,
-    pub first: Option<Out>,
-    pub second: Option<Out>,
+    pub stays: DialogueChange,
+    pub message: Option<Addressed>,
+    pub cancel: Option<Addressed>,
 }

@@ -11,7 +11,7 @@ ghost use Rattle.location.specs.Writing.{CanBeWritten};
 use crate::asker::Asker;
 use crate::begin::failed;
 use crate::components::{DATA_MISSING, purge_result};
-use crate::outcome::{After, Outcome, Stays};
+use crate::outcome::{After, DialogueChange, Outcome};
 use hlr_types::IsdnAddress;
 use mapargs_loc::PurgeArg;
 use records::Record;
@@ -32,9 +32,9 @@ fn purge_known(who: Asker, vlr: IsdnAddress, subscriber: &Record) -> Outcome
     let result = purge_result(who.invoke, purges);
     Outcome {
         after: if purges { After::Purged } else { After::Same },
-        stays: Stays::Gone { opens: None },
-        first: Some(who.answers(result)),
-        second: None,
+        stays: DialogueChange::Gone { opens: None },
+        message: Some(who.answers(result)),
+        cancel: None,
     }
 }
 

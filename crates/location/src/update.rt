@@ -21,10 +21,10 @@ use crate::asker::{Asker, Source};
 use crate::begin::failed;
 use crate::components::ROAMING_NOT_ALLOWED;
 use crate::inserts::{inserting, subscriber_data};
-use crate::outcome::{After, Outcome, Stays};
+use crate::outcome::{After, DialogueChange, Outcome};
 use dialogues::{Dialogue, Kind};
 use hlr_types::{Digits, IsdnAddress, Register, Tid};
-use outgoing::{Out, SentMessage};
+use outgoing::{Addressed, SentMessage};
 use q773_comp::Rejection;
 use records::{Record, Roam};
 use smroute::UNKNOWN_SUBSCRIBER;
@@ -60,7 +60,7 @@ fn is_prefix(prefix: &Digits, digits: &Digits) -> bool
 }
 
 /// The Continue that carries the subscriber data (insertSubscriberData).
-fn data_sent(source: Source, rejects: Vec<Rejection>, subscriber: &Record, new: Tid) -> Out
+fn data_sent(source: Source, rejects: Vec<Rejection>, subscriber: &Record, new: Tid) -> Addressed
     ensures { out result ∷ [] ≡ send source.from (SentContinue new source.origin (Some (context source.context))
         (map rejection rejects.items) (inserts None subscriber.now.msisdn subscriber.now.codes)) }
 {
@@ -69,7 +69,7 @@ fn data_sent(source: Source, rejects: Vec<Rejection>, subscriber: &Record, new: 
         origin,
         context,
     } = source;
-    Out {
+    Addressed {
         to: from,
         message: SentMessage::Continue {
             origin: new,
@@ -105,16 +105,16 @@ fn update_opens(who: Asker, register: Register, subscriber: &Record, new: Tid) -
         kind: Kind::Update { register, invoke },
     };
     Outcome {
-        after: After::Placed {
+        after: After::Location {
             register: subscriber.register,
             purged: subscriber.purged,
             current: Some(new),
         },
-        stays: Stays::Gone {
+        stays: DialogueChange::Gone {
             opens: Some(inserting(dialogue, &subscriber.codes)),
         },
-        first: Some(data_sent(source, rejects, subscriber, new)),
-        second: None,
+        message: Some(data_sent(source, rejects, subscriber, new)),
+        cancel: None,
     }
 }
 

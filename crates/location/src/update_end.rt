@@ -16,10 +16,10 @@ ghost use Rattle.location.specs.Seen.{after_of, known, outcome_of};
 ghost use Rattle.location.specs.Staying.{ForgetsNothing};
 ghost use Rattle.location.specs.Writing.{CanBeWritten};
 
-use crate::answers::{ended, peer_of};
+use crate::answers::{end_in_dialogue, peer_of};
 use crate::cancels::{Cancelling, then_cancel};
 use crate::components::{SYSTEM_FAILURE, error, update_result};
-use crate::outcome::{After, Outcome, Stays};
+use crate::outcome::{After, DialogueChange, Outcome};
 use dialogues::{Dialogue, InvokeId};
 use hlr_types::{IsdnAddress, Register, Tid};
 use mapargs_loc::CancellationType;
@@ -49,7 +49,7 @@ pub(crate) fn unmarked(subscriber: Option<&Record>, id: Tid) -> After
     ensures writable { CanBeWritten result (option_copied subscriber.entry) }
 {
     match subscriber {
-        Some(subscriber) if is_marked(subscriber, id) => After::Placed {
+        Some(subscriber) if is_marked(subscriber, id) => After::Location {
             register: subscriber.register,
             purged: subscriber.purged,
             current: None,
@@ -75,9 +75,9 @@ pub(crate) fn update_fails(
     let failure = Components::One(error(invoke, SYSTEM_FAILURE));
     Outcome {
         after: unmarked(subscriber, id),
-        stays: Stays::Gone { opens: None },
-        first: ended(dialogue.transaction, rejects, failure),
-        second: None,
+        stays: DialogueChange::Gone { opens: None },
+        message: end_in_dialogue(dialogue.transaction, rejects, failure),
+        cancel: None,
     }
 }
 
@@ -116,15 +116,15 @@ fn update_done(
     ensures writable { CanBeWritten result.after (Some subscriber.now) }
     ensures keeps { ForgetsNothing result.stays }
 {
-    let after = After::Placed {
+    let after = After::Location {
         register: Some(update.register),
         purged: false,
         current: None,
     };
     let result = Components::One(update_result(update.invoke, hlr));
-    let first = ended(dialogue.transaction, rejects, result);
+    let message = end_in_dialogue(dialogue.transaction, rejects, result);
     let next = to_old(&update.register, subscriber.register);
-    then_cancel(after, first, dialogue.subscriber, next, new)
+    then_cancel(after, message, dialogue.subscriber, next, new)
 }
 
 /// An update whose inserts have all succeeded: it completes only if it is the current one.

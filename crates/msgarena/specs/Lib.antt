@@ -1,3 +1,3 @@
-pub mod Hearing
+pub mod JudgedFrame
 pub mod Seen
 pub mod Taken

@@ -11,7 +11,7 @@ pub enum RoundFault {
     #[error("out of memory")]
     Memory,
     /// The arena could not be reset. The frame was decoded, and this is its indication.
-    #[error("the arena did not give its memory back")]
+    #[error("the arena could not be reset")]
     ResetRefused(Indication),
 }
 

@@ -19,9 +19,9 @@ pub struct Indication {
 }
 
 impl Model for Indication {
-    ghost use Rattle.msgarena.specs.Hearing.{Hearing};
+    ghost use Rattle.msgarena.specs.JudgedFrame.{JudgedFrame};
 
-    ghost Value = { Hearing };
+    ghost Value = { JudgedFrame };
 
     ghost use Rattle.frames.specs.Frames.{IsVerdict};
     ghost use Rattle.msgarena.specs.Seen.{seen};

@@ -50,7 +50,7 @@ fn responded(dialogue: Option<&Node>) -> Option<Option<Response>>
 }
 
 /// The verdict on a Begin: refused if its dialogue portion is unreadable, then if it has too many components.
-fn begin(alloc: Global, origin: RemoteId, parts: Portions) -> Result<Verdict, AllocError>
+fn read_begin(alloc: Global, origin: RemoteId, parts: Portions) -> Result<Verdict, AllocError>
     ensures { IfOk result (λ found. let m = frames.Begin origin (portions parts.entry) in
         seen found ≡ checked m (read_in m)) }
 {
@@ -69,7 +69,7 @@ fn begin(alloc: Global, origin: RemoteId, parts: Portions) -> Result<Verdict, Al
 }
 
 /// The verdict on a Continue: refused as a Begin is.
-fn continued(
+fn read_continue(
     alloc: Global,
     origin: RemoteId,
     destination: RemoteId,
@@ -94,7 +94,7 @@ fn continued(
 }
 
 /// The verdict on an End: discarded where a Begin would be refused.
-fn ended(alloc: Global, destination: RemoteId, parts: Portions) -> Result<Verdict, AllocError>
+fn read_end(alloc: Global, destination: RemoteId, parts: Portions) -> Result<Verdict, AllocError>
     ensures { IfOk result (λ found. let m = frames.End destination (portions parts.entry) in
         seen found ≡ checked m (read_in m)) }
 {
@@ -132,16 +132,16 @@ pub(crate) fn verdict_of(alloc: Global, node: &Node) -> Result<Verdict, AllocErr
         Err(unread) => return Ok(refused(unread)),
     };
     match message {
-        q773_msg::Message::Begin { origin, portions } => begin(alloc, origin, portions),
+        q773_msg::Message::Begin { origin, portions } => read_begin(alloc, origin, portions),
         q773_msg::Message::Continue {
             origin,
             destination,
             portions,
-        } => continued(alloc, origin, destination, portions),
+        } => read_continue(alloc, origin, destination, portions),
         q773_msg::Message::End {
             destination,
             portions,
-        } => ended(alloc, destination, portions),
+        } => read_end(alloc, destination, portions),
         q773_msg::Message::Abort { destination } => {
             Ok(Verdict::Read(Message::Abort { destination }))
         }

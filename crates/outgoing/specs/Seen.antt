@@ -12,7 +12,7 @@ use Rattle.outgoing.specs.declared.component.Components.{Components}
 use Rattle.outgoing.specs.declared.component.Components.TheVariants.{Nothing, One, Data}
 use Rattle.outgoing.specs.declared.message.SentMessage.{SentMessage}
 use Rattle.outgoing.specs.declared.message.SentMessage.TheVariants.{Begin, Continue, End, Abort}
-use Rattle.outgoing.specs.declared.message.Out.{Out}
+use Rattle.outgoing.specs.declared.message.Addressed.{Addressed}
 
 abbrev pub component : SentComponent → machine.SentComponent
 component (Cancel id imsi why) = machine.Cancel id imsi (cancellation why)
@@ -34,5 +34,5 @@ message (Continue origin destination of rejects sent) =
 message (End destination of rejects sent) = machine.SentEnd destination (option_map context of) (map rejection rejects.items) (components sent)
 message (Abort destination said) = machine.SentAbort destination (why said)
 
-abbrev pub out : Out → machine.Out
+abbrev pub out : Addressed → machine.Out
 out o = record { to = o.to; message = message o.message }

@@ -10,5 +10,5 @@ mod octets;
 mod trees;
 
 pub use component::{Components, SentComponent, SubscriberData};
-pub use message::{Out, SentMessage};
+pub use message::{Addressed, SentMessage};
 pub use octets::octets_of;

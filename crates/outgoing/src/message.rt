@@ -36,7 +36,7 @@ pub enum SentMessage {
 
 /// A message with its destination address.
 #[derive(Debug, Drop)]
-pub struct Out {
+pub struct Addressed {
     pub to: Peer,
     pub message: SentMessage,
 }

@@ -12,7 +12,7 @@ use hex::FromHex;
 use std::alloc::{AllocError, Global};
 
 /// How many codes a subscriber may have (profile).
-const MOST_CODES: usize = 32;
+const MAX_CODES: usize = 32;
 
 /// The teleservice codes in a field of a records file: `-`, or 1 to 32 different octets of two hexadecimal digits, with
 /// commas. `None` if it is neither.
@@ -50,7 +50,7 @@ fn listed_codes(alloc: Global, field: &[u8]) -> Result<Option<Vec<u8>>, AllocErr
         if is_among(code, &codes) {
             return Ok(None);
         }
-        if codes.len() >= MOST_CODES {
+        if codes.len() >= MAX_CODES {
             return Ok(None);
         }
         codes.push(code)?;

@@ -12,7 +12,7 @@ use hlr_types::{Digits, Imsi, IsdnAddress, Lmsi, Register};
 use std::alloc::{AllocError, Global};
 
 /// How many roaming prefixes a subscriber may have (profile).
-const MOST_PREFIXES: usize = 8;
+const MAX_PREFIXES: usize = 8;
 
 /// An IMSI (E.212): its 5 to 15 digits.
 pub fn imsi_field(field: &[u8]) -> Option<Imsi>
@@ -46,7 +46,7 @@ fn listed_prefixes(alloc: Global, field: &[u8]) -> Result<Option<Vec<Digits>>, A
         let Some(digits) = Digits::from_text(part) else {
             return Ok(None);
         };
-        if prefixes.len() >= MOST_PREFIXES {
+        if prefixes.len() >= MAX_PREFIXES {
             return Ok(None);
         }
         prefixes.push(digits)?;

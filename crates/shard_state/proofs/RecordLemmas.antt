@@ -12,7 +12,7 @@ use Rattle.machine.specs.State as machine
 use Rattle.machine_laws.proofs.Keys.{put_again, put_cases}
 use Rattle.smroute.specs.Seen.{machine_subscriber}
 use Rattle.location.specs.declared.outcome.After.{After}
-use Rattle.location.specs.declared.outcome.After.TheVariants.{Same, Purged, Placed, NewCodes, Withdrawn}
+use Rattle.location.specs.declared.outcome.After.TheVariants.{Same, Purged, Location, NewCodes, Withdrawn}
 use Rattle.location.specs.Seen.{after_of}
 use Rattle.location.specs.Writing.{CanBeWritten}
 use Rattle.shard_state.specs.Changing.{written}
@@ -61,7 +61,7 @@ inserted_as codes a records new x s r there made e =
 not_written : (a : After) → CanBeWritten a None → (a ≡ Same → ⊥) → ⊥
 not_written Same can changes = changes refl
 not_written Purged can changes = can
-not_written (Placed register purged current) can changes = can
+not_written (Location register purged current) can changes = can
 not_written NewCodes can changes = can
 not_written Withdrawn can changes = can
 

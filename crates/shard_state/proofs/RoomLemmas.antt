@@ -13,7 +13,7 @@ own_dialogues s d e = ap dialogues_of (sym e)
 
 pub overflows : (s : ShardState) (plan : Plan) (d : OpenDialogues) (is_full : Bool) → d ≡ s.dialogues → s.dialogues.shard ≡ s.shard
     → ((S : State) → S.dialogues ≡ dialogues_of d → IsTrue is_full ↔ IsFull S d.shard)
-    → (Opens plan.left.stays × (id_of plan.named ≡ None))
+    → (Opens plan.outcome.stays × (id_of plan.named ≡ None))
     → (not is_full ≡ false) ↔ Overflows s plan
 overflows s plan d is_full e own full beside =
     let number : d.shard ≡ s.shard = ap (λ (x : OpenDialogues). x.shard) e ∙ own in

@@ -9,14 +9,14 @@ use Rattle.msgarena.specs.declared.parameter.Parameter.{Parameter}
 use Rattle.records.specs.Maps.{RecordMap}
 use Rattle.dialogues.specs.Dialogues.{OpenDialogues, IsNew, dialogues_of}
 use Rattle.location.specs.declared.outcome.Outcome.{Outcome}
-use Rattle.location.specs.declared.outcome.Stays.{Stays}
-use Rattle.location.specs.declared.outcome.Stays.TheVariants.{Gone, GoesOn, Forgets}
+use Rattle.location.specs.declared.outcome.DialogueChange.{DialogueChange}
+use Rattle.location.specs.declared.outcome.DialogueChange.TheVariants.{Gone, GoesOn, Forgets}
 use Rattle.location.specs.Seen.{outcome_of, opens_of, stays_of}
 use Rattle.shard_state.specs.declared.plan.Named.{Named}
 use Rattle.shard_state.specs.declared.plan.Named.TheVariants.{Nothing, Open, Continued}
 use Rattle.shard_state.specs.declared.plan.Plan.{Plan}
 use Rattle.shard_state.specs.Shards.{ShardState, shard_of_fields, records_of, directory_of, state_of}
-use Rattle.shard_state.specs.Plans.{CanSettle, IsNextId, Opens, here, id_of, named_as, settled}
+use Rattle.shard_state.specs.Plans.{CanSettle, IsNextId, Opens, here, id_of, named_as, state_after_plan}
 use Rattle.shard_state.specs.Changing.{IsNext, changed, named_among, written}
 
 -- ---- the id
@@ -38,7 +38,7 @@ same_named s cs (Open id) = refl
 same_named s cs (Continued id peer remote) = refl
 
 -- if none is named and none opens, nothing changes
-nothing_changes : (clock : ℕ) (cs : List (Component Parameter)) (stays : Stays) (new : List ℕ) (open_ones : List ℕ → Option machine.Dialogue) → (Opens stays → ⊥) → changed clock cs Nothing stays new open_ones ≡ open_ones
+nothing_changes : (clock : ℕ) (cs : List (Component Parameter)) (stays : DialogueChange) (new : List ℕ) (open_ones : List ℕ → Option machine.Dialogue) → (Opens stays → ⊥) → changed clock cs Nothing stays new open_ones ≡ open_ones
 nothing_changes clock cs (Gone None) new open_ones h = refl
 nothing_changes clock cs (Gone (Some opening)) new open_ones h = absurd (h tt)
 nothing_changes clock cs GoesOn new open_ones h = refl
@@ -86,11 +86,11 @@ module _ (s : ShardState) (cs : List (Component Parameter)) (named : Named) (new
       }
 
 pub settles : (s : ShardState) (cs : List (Component Parameter)) (plan : Plan) (records : RecordMap) (d : OpenDialogues) → CanSettle s plan
-    → records_of records ≡ written plan.codes.items plan.left.after plan.imsi (records_of s.records)
-    → dialogues_of d ≡ changed s.clock cs plan.named plan.left.stays plan.new (dialogues_of s.dialogues)
-    → state_of (shard_of_fields s.shard s.clock records d s.directory s.hlr) ≡ settled s cs plan
+    → records_of records ≡ written plan.codes.items plan.outcome.after plan.imsi (records_of s.records)
+    → dialogues_of d ≡ changed s.clock cs plan.named plan.outcome.stays plan.new (dialogues_of s.dialogues)
+    → state_of (shard_of_fields s.shard s.clock records d s.directory s.hlr) ≡ state_after_plan s cs plan
 settles s cs plan records d can written_so changed_so =
-    state_after s cs plan.named plan.new plan.codes.items plan.left records d plan.imsi can.concerned written_so changed_so
+    state_after s cs plan.named plan.new plan.codes.items plan.outcome records d plan.imsi can.concerned written_so changed_so
 
 -- ---- from what the calls tell
 
@@ -99,19 +99,19 @@ module _ (before s : ShardState) (plan : Plan) (clock : ℕ) (is : before ≡ s)
   next = subst (λ (t : ShardState). IsNext t.dialogues (id_of plan.named) plan.new) (sym is) (is_next s plan.named plan.new can.next_id)
 
   pub settled_by : (cs : List (Component Parameter)) (records : RecordMap) (d : OpenDialogues)
-      → records_of records ≡ written plan.codes.items plan.left.after plan.imsi (records_of before.records)
-      → ((new : List ℕ) → IsNext before.dialogues (id_of plan.named) new → dialogues_of d ≡ changed clock cs plan.named plan.left.stays new (dialogues_of before.dialogues))
-      → state_of (record before { records = records; dialogues = d }) ≡ settled s cs plan
+      → records_of records ≡ written plan.codes.items plan.outcome.after plan.imsi (records_of before.records)
+      → ((new : List ℕ) → IsNext before.dialogues (id_of plan.named) new → dialogues_of d ≡ changed clock cs plan.named plan.outcome.stays new (dialogues_of before.dialogues))
+      → state_of (record before { records = records; dialogues = d }) ≡ state_after_plan s cs plan
   settled_by cs records d written_so changed_so =
       ap (λ (t : ShardState). state_of (record t { records = records; dialogues = d })) is
       ∙ settles s cs plan records d can
-      (written_so ∙ ap (λ (t : ShardState). written plan.codes.items plan.left.after plan.imsi (records_of t.records)) is)
+      (written_so ∙ ap (λ (t : ShardState). written plan.codes.items plan.outcome.after plan.imsi (records_of t.records)) is)
       (changed_so plan.new next
-      ∙ ap (λ k. changed k cs plan.named plan.left.stays plan.new (dialogues_of before.dialogues)) at
-      ∙ ap (λ (t : ShardState). changed s.clock cs plan.named plan.left.stays plan.new (dialogues_of t.dialogues)) is)
+      ∙ ap (λ k. changed k cs plan.named plan.outcome.stays plan.new (dialogues_of before.dialogues)) at
+      ∙ ap (λ (t : ShardState). changed s.clock cs plan.named plan.outcome.stays plan.new (dialogues_of t.dialogues)) is)
 
   pub taken_by : (id : Option (List ℕ))
-      → ((new : List ℕ) → IsNext before.dialogues (id_of plan.named) new → id ≡ taken new (opens_of clock plan.left.stays))
-      → id ≡ taken plan.new (opens_of (here s plan).clock plan.left.stays)
+      → ((new : List ℕ) → IsNext before.dialogues (id_of plan.named) new → id ≡ taken new (opens_of clock plan.outcome.stays))
+      → id ≡ taken plan.new (opens_of (here s plan).clock plan.outcome.stays)
   taken_by id taken_so =
-      taken_so plan.new next ∙ ap (λ k. taken plan.new (opens_of k plan.left.stays)) (at ∙ sym (here_clock s plan.imsi))
+      taken_so plan.new next ∙ ap (λ k. taken plan.new (opens_of k plan.outcome.stays)) (at ∙ sym (here_clock s plan.imsi))

@@ -9,7 +9,7 @@ use Rattle.msgarena.specs.declared.parameter.Parameter.{Parameter}
 use Rattle.csl.specs.Seen.{heard}
 use Rattle.dialogues.specs.Dialogues.{OpenDialogues, gone_on}
 use Rattle.location.specs.declared.outcome.After.{After}
-use Rattle.location.specs.declared.outcome.Stays.{Stays}
+use Rattle.location.specs.declared.outcome.DialogueChange.{DialogueChange}
 use Rattle.location.specs.Seen.{after_of, stays_of, opens_of}
 use Rattle.shard_state.specs.declared.plan.Named.{Named}
 use Rattle.shard_state.specs.declared.plan.Named.TheVariants.{Nothing, Open, Continued}
@@ -28,7 +28,7 @@ named_among clock components (Continued id peer remote) open_ones =
     option_map (gone_on peer remote clock (map heard components)) (open_ones id)
 
 -- the open dialogues after: the named one as it stays, and the one that opens
-abbrev pub changed : (clock : ℕ) → List (Component Parameter) → Named → Stays → (new : List ℕ) → (List ℕ → Option machine.Dialogue) → List ℕ → Option machine.Dialogue
+abbrev pub changed : (clock : ℕ) → List (Component Parameter) → Named → DialogueChange → (new : List ℕ) → (List ℕ → Option machine.Dialogue) → List ℕ → Option machine.Dialogue
 changed clock components named stays new open_ones =
     new_opens new (opens_of clock stays) (named_stays (id_of named) (stays_of (named_among clock components named open_ones) stays) open_ones)
 

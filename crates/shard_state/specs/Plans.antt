@@ -11,8 +11,8 @@ use Rattle.csl.specs.Seen.{heard}
 use Rattle.dialogues.specs.Dialogues.{IsNew, dialogues_of, gone_on}
 use Rattle.records.specs.Subscriber.{AreAllowed}
 use Rattle.location.specs.declared.outcome.After.TheVariants.{NewCodes}
-use Rattle.location.specs.declared.outcome.Stays.{Stays}
-use Rattle.location.specs.declared.outcome.Stays.TheVariants.{Gone, Forgets}
+use Rattle.location.specs.declared.outcome.DialogueChange.{DialogueChange}
+use Rattle.location.specs.declared.outcome.DialogueChange.TheVariants.{Gone, Forgets}
 use Rattle.location.specs.Seen.{outcome_of}
 use Rattle.location.specs.Writing.{CanBeWritten}
 use Rattle.shard_state.specs.declared.plan.Named.{Named}
@@ -38,20 +38,20 @@ abbrev pub here : ShardState → Plan → Local
 here s plan = seen (state_of s) s.shard plan.imsi
 
 -- the procedure's outcome
-abbrev pub left : ShardState → List (Component Parameter) → Plan → Outcome
-left s components plan = outcome_of (here s plan) (named_as s components plan.named) plan.codes.items plan.left
+abbrev pub plan_outcome : ShardState → List (Component Parameter) → Plan → Outcome
+plan_outcome s components plan = outcome_of (here s plan) (named_as s components plan.named) plan.codes.items plan.outcome
 
 -- the state of the machine after
-abbrev pub settled : ShardState → List (Component Parameter) → Plan → machine.State
-settled s components plan = moved (state_of s) plan.imsi (id_of plan.named) plan.new (left s components plan)
+abbrev pub state_after_plan : ShardState → List (Component Parameter) → Plan → machine.State
+state_after_plan s components plan = moved (state_of s) plan.imsi (id_of plan.named) plan.new (plan_outcome s components plan)
 
 -- whether a dialogue opens
-abbrev pub Opens : Stays → Type 0
+abbrev pub Opens : DialogueChange → Type 0
 Opens (Gone (Some opening)) = Unit {0}
 Opens _ = ⊥
 
 -- An invocation is forgotten only in a dialogue that is otherwise unchanged.
-abbrev pub IsForgetting : Named → Stays → Type 0
+abbrev pub IsForgetting : Named → DialogueChange → Type 0
 IsForgetting (Continued id peer remote) (Forgets invoke) = ⊥
 IsForgetting named stays = Unit {0}
 
@@ -68,18 +68,18 @@ IsNextId s named new = after (id_of named)
 -- changes a dialogue has a subscriber.
 pub record CanSettle (s : ShardState) (plan : Plan) : Type 0 where
   pub is_open : IfSome (id_of plan.named) (λ id. dialogues_of s.dialogues id ≢ None)
-  pub writable : CanBeWritten plan.left.after (record_at s.records plan.imsi)
-  pub codes : plan.left.after ≡ NewCodes → AreAllowed plan.codes.items
-  pub forgetting : IsForgetting plan.named plan.left.stays
+  pub writable : CanBeWritten plan.outcome.after (record_at s.records plan.imsi)
+  pub codes : plan.outcome.after ≡ NewCodes → AreAllowed plan.codes.items
+  pub forgetting : IsForgetting plan.named plan.outcome.stays
   pub next_id : IsNextId s plan.named plan.new
-  pub concerned : plan.imsi ≡ None → (plan.named ≡ Nothing) × (Opens plan.left.stays → ⊥)
+  pub concerned : plan.imsi ≡ None → (plan.named ≡ Nothing) × (Opens plan.outcome.stays → ⊥)
 
 -- There is room: a dialogue that would open beside the open ones has an id.
 abbrev pub HasRoom : ShardState → Plan → Type 0
-HasRoom s plan = Opens plan.left.stays → id_of plan.named ≡ None → s.dialogues.next ≢ None
+HasRoom s plan = Opens plan.outcome.stays → id_of plan.named ≡ None → s.dialogues.next ≢ None
 
 -- A dialogue would open beside the open ones, and the shard is full.
 pub record Overflows (s : ShardState) (plan : Plan) : Type 0 where
-  pub opens : Opens plan.left.stays
+  pub opens : Opens plan.outcome.stays
   pub beside : id_of plan.named ≡ None
   pub full : IsFull (state_of s) s.shard

@@ -13,7 +13,7 @@ ghost use Rattle.msgarena.specs.declared.parameter.Parameter as parameter;
 use crate::plan::Named;
 use dialogues::{Dialogues, InvokeId};
 use hlr_types::Tid;
-use location::{Opening, Stays};
+use location::{DialogueChange, Opening};
 use msgarena::Parameter;
 use q773_comp::Component;
 use std::alloc::AllocError;
@@ -77,7 +77,7 @@ fn go_on(
 
 /// An invocation of the named dialogue, if any, becomes Idle. The rest of the dialogue stays the same.
 fn forget(dialogues: &mut Dialogues, named: Named, invoke: InvokeId)
-    requires { IsForgetting named (Stays.Forgets invoke) }
+    requires { IsForgetting named (DialogueChange.Forgets invoke) }
     ensures forgotten { (clock : ℕ) (cs : List (component.Component parameter.Parameter)) → dialogues_of dialogues.new
         ≡ named_stays (id_of named) (option_map (forgotten invoke) (named_among clock cs named (dialogues_of dialogues.old))) (dialogues_of dialogues.old) }
     ensures shard { dialogues.new.shard ≡ dialogues.old.shard }
@@ -93,7 +93,7 @@ pub(crate) fn change(
     dialogues: &mut Dialogues,
     clock: u64,
     named: Named,
-    stays: &Stays,
+    stays: &DialogueChange,
     components: &[Component<Parameter>],
 ) -> Result<Option<Tid>, AllocError>
     requires early { clock ≤ 2 ^ 62 }
@@ -108,18 +108,18 @@ pub(crate) fn change(
     ensures err { OnErr result (dialogues.new ≡ dialogues.old) }
 {
     match stays {
-        Stays::Gone {
+        DialogueChange::Gone {
             opens: Some(opening),
         } => Ok(Some(open(dialogues, clock, named.id(), opening)?)),
-        Stays::Gone { opens: None } => {
+        DialogueChange::Gone { opens: None } => {
             close(dialogues, named.id());
             Ok(None)
         }
-        Stays::GoesOn => {
+        DialogueChange::GoesOn => {
             go_on(dialogues, clock, named, components)?;
             Ok(None)
         }
-        Stays::Forgets(invoke) => {
+        DialogueChange::Forgets(invoke) => {
             forget(dialogues, named, *invoke);
             Ok(None)
         }

@@ -3,7 +3,7 @@
 ghost use Rattle.std.specs.Prelude.{◌≡◌, ◌↔◌, IsTrue, None};
 
 use hlr_types::{Imsi, Peer, RemoteId, Tid};
-use location::{Outcome, Stays};
+use location::{DialogueChange, Outcome};
 
 /// The open dialogue that an event names.
 #[derive(Clone, Copy, Debug)]
@@ -29,7 +29,7 @@ pub struct Plan {
     pub named: Named,
     pub new: Tid,
     pub codes: Vec<u8>,
-    pub left: Outcome,
+    pub outcome: Outcome,
 }
 
 impl Named {
@@ -51,10 +51,10 @@ impl Plan {
 
     /// Whether a dialogue opens beside the open ones.
     pub(crate) fn opens_beside(&self) -> bool
-        ensures { IsTrue result ↔ (Opens self.now.left.stays × (id_of self.now.named ≡ None)) }
+        ensures { IsTrue result ↔ (Opens self.now.outcome.stays × (id_of self.now.named ≡ None)) }
     {
-        match (self.left.stays, self.named) {
-            (Stays::Gone { opens: Some(_) }, Named::Nothing) => true,
+        match (self.outcome.stays, self.named) {
+            (DialogueChange::Gone { opens: Some(_) }, Named::Nothing) => true,
             _ => false,
         }
     }

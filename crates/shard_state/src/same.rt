@@ -2,12 +2,12 @@
 
 ghost use Rattle.std.specs.Prelude.{◌≡◌, ◌↔◌, IfOk, IsTrue};
 
-use crate::shard::Shard;
+use crate::parts::ShardParts;
 use std::alloc::AllocError;
 
-impl Shard {
+impl ShardParts {
     /// Whether the states are equal, the number of the shard included.
-    pub fn same(&self, other: &Shard) -> Result<bool, AllocError>
+    pub fn same(&self, other: &ShardParts) -> Result<bool, AllocError>
         ensures { IfOk result (λ same. IsTrue same ↔ (self.now ≡ other.now)) }
     {
         if self.number() != other.number() {
@@ -24,7 +24,7 @@ impl Shard {
 }
 
 /// Whether the clocks, the HLR numbers and the directories are equal.
-fn same_fixed(left: &Shard, right: &Shard) -> bool
+fn same_fixed(left: &ShardParts, right: &ShardParts) -> bool
     ensures { IsTrue result ↔ ((left.now.clock ≡ right.now.clock) × (left.now.hlr ≡ right.now.hlr) × (left.now.directory ≡ right.now.directory)) }
 {
     left.clock() == right.clock()

@@ -8,11 +8,11 @@ ghost use Rattle.shard_state.specs.Frames.{raw_out};
 
 use crate::answer::Out;
 use crate::sent_frames::Frames;
-use outgoing::{Out as Sent, octets_of};
+use outgoing::{Addressed, octets_of};
 use std::alloc::{AllocError, Global};
 
 /// A message as a frame.
-fn spelled(alloc: Global, sent: &Sent) -> Result<Out, AllocError>
+fn spelled(alloc: Global, sent: &Addressed) -> Result<Out, AllocError>
     ensures { IfOk result (λ frame. raw_out frame ≡ spelled_out (out sent.now)) }
 {
     let Ok(octets) = octets_of(alloc, &sent.message) else {
@@ -25,7 +25,7 @@ fn spelled(alloc: Global, sent: &Sent) -> Result<Out, AllocError>
 }
 
 /// Appends the frame of a message, if there is one.
-fn push(outs: &mut Vec<Out>, alloc: Global, sent: &Option<Sent>) -> Result<(), AllocError>
+fn push(outs: &mut Vec<Out>, alloc: Global, sent: &Option<Addressed>) -> Result<(), AllocError>
     ensures { OnOk result (map raw_out outs.new.items ≡ map raw_out outs.old.items ++ map spelled_out (one sent.now)) }
 {
     if let Some(sent) = sent {
@@ -37,13 +37,13 @@ fn push(outs: &mut Vec<Out>, alloc: Global, sent: &Option<Sent>) -> Result<(), A
 /// The messages as frames, in order.
 pub(crate) fn outs_of(
     alloc: Global,
-    first: &Option<Sent>,
-    second: &Option<Sent>,
+    message: &Option<Addressed>,
+    cancel: &Option<Addressed>,
 ) -> Result<Frames, AllocError>
-    ensures { IfOk result (λ outs. outs ≡ map spelled_out (sent_of first.now second.now)) }
+    ensures { IfOk result (λ outs. outs ≡ map spelled_out (sent_of message.now cancel.now)) }
 {
     let mut outs = Vec::new(alloc);
-    push(&mut outs, alloc, first)?;
-    push(&mut outs, alloc, second)?;
+    push(&mut outs, alloc, message)?;
+    push(&mut outs, alloc, cancel)?;
     Frames::of(alloc, outs)
 }

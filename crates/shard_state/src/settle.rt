@@ -3,20 +3,20 @@
 ghost use Rattle.std.specs.Prelude.{◌≡◌, ◌↔◌, IfOk, OnOk, OnErr, IsTrue, false};
 ghost use Rattle.machine.specs.Step.{taken};
 ghost use Rattle.shard_state.specs.Answers.{Says};
-ghost use Rattle.shard_state.specs.Plans.{CanSettle, HasRoom, Overflows, left, settled};
+ghost use Rattle.shard_state.specs.Plans.{CanSettle, HasRoom, Overflows, plan_outcome, state_after_plan};
 ghost use Rattle.shard_state.specs.Shards.{IsSameShard, state_of};
 
 use crate::answer::StepAnswer;
 use crate::changing::change;
+use crate::parts::ShardParts;
 use crate::plan::Plan;
 use crate::sending::outs_of;
-use crate::shard::Shard;
 use crate::writing::write;
 use msgarena::Parameter;
 use q773_comp::Component;
 use std::alloc::AllocError;
 
-impl Shard {
+impl ShardParts {
     /// Whether there is room for what a plan opens. There is none exactly if a dialogue would open beside the open ones and the
     /// shard is full.
     pub fn has_room(&self, plan: &Plan) -> bool
@@ -38,9 +38,9 @@ impl Shard {
     ) -> Result<StepAnswer, AllocError>
         requires can { CanSettle self.old plan }
         requires room { HasRoom self.old plan }
-        ensures settled { OnOk result (state_of self.new ≡ settled self.old components.now plan) }
-        ensures says { IfOk result (λ a. Says a (taken plan.new (left self.old components.now plan).opens) plan.subject
-            (left self.old components.now plan).sent) }
+        ensures settled { OnOk result (state_of self.new ≡ state_after_plan self.old components.now plan) }
+        ensures says { IfOk result (λ a. Says a (taken plan.new (plan_outcome self.old components.now plan).opens) plan.subject
+            (plan_outcome self.old components.now plan).sent) }
         // Its dialogues have ids of its own number.
         ensures own { self.old.dialogues.shard ≡ self.old.shard }
         ensures err { OnErr result (self.new ≡ self.old) }
@@ -51,13 +51,19 @@ impl Shard {
             subject,
             named,
             codes,
-            left,
+            outcome,
             ..
         } = plan;
-        let outs = outs_of(self.alloc, &left.first, &left.second)?;
+        let outs = outs_of(self.alloc, &outcome.message, &outcome.cancel)?;
         let clock = self.clock();
-        let id = change(&mut self.dialogues, clock, named, &left.stays, components)?;
-        write(&mut self.records, imsi, left.after, codes);
+        let id = change(
+            &mut self.dialogues,
+            clock,
+            named,
+            &outcome.stays,
+            components,
+        )?;
+        write(&mut self.records, imsi, outcome.after, codes);
         Ok(StepAnswer { outs, id, subject })
     }
 }

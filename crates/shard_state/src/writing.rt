@@ -56,7 +56,7 @@ pub(crate) fn write(records: &mut Records, imsi: Option<Imsi>, after: After, cod
     match after {
         After::Same => {}
         After::Purged => purge(records, &imsi),
-        After::Placed {
+        After::Location {
             register,
             purged,
             current,

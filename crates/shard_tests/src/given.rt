@@ -2,7 +2,7 @@
 
 use hlr_types::{Digits, Imsi, Peer, Tid};
 use records::read_records;
-use shard_state::{Out, Shard};
+use shard_state::{Out, ShardParts};
 use std::alloc::Global;
 
 /// The id that the first dialogue of shard 1 takes.
@@ -21,11 +21,11 @@ pub(crate) fn peer(text: &[u8]) -> Result<Peer, &'static str> {
 }
 
 /// Shard 1 as it begins with this records file, without open dialogues.
-pub(crate) fn shard(alloc: Global, records: &[u8]) -> Result<Shard, &'static str> {
+pub(crate) fn shard(alloc: Global, records: &[u8]) -> Result<ShardParts, &'static str> {
     let loaded = read_records(alloc, records).ok().ok_or("records")?;
     let part = loaded.part(1).ok().ok_or("part")?;
     let directory = loaded.shared_directory().ok().ok_or("directory")?;
-    let shard = Shard::of_part(alloc, 1, part, directory, *loaded.hlr()).ok();
+    let shard = ShardParts::of_part(alloc, 1, part, directory, *loaded.hlr()).ok();
     shard.ok_or("shard")
 }
 

@@ -161,7 +161,7 @@ fn are_alike(one: &Indication, other: &Indication) -> bool {
 /// Whether an outcome sends this first.
 fn sends(alloc: Global, left: Option<Outcome>, octets: &[u8]) -> Option<bool> {
     match left {
-        Some(left) => says(alloc, &left.first, octets),
+        Some(left) => says(alloc, &left.message, octets),
         None => Some(false),
     }
 }

@@ -5,7 +5,7 @@ use crate::octets::{RECORDS, ROUTE, ROUTE_ANSWER};
 use bumpalo::Bump;
 use hlrcore::{Event, RawEvent, ShardNumber, State};
 use records::read_records;
-use shardlog::{Entry, MOST_ENTRIES, Shard, ShardFault};
+use shardlog::{Entry, MAX_ENTRIES, Shard, ShardFault};
 use std::alloc::Global;
 use std::process::Abort;
 use std::test::Fail;
@@ -73,7 +73,7 @@ fn refuses(alloc: Global, shard: &mut Shard, given: Given) -> Option<ShardFault>
 
 fn fills(alloc: Global, shard: &mut Shard) -> Option<bool> {
     let tick = event(alloc, Given::Clock(1))?;
-    for _ in 0..MOST_ENTRIES {
+    for _ in 0..MAX_ENTRIES {
         if shard.handle(&tick).is_err() {
             return None;
         }
@@ -141,8 +141,8 @@ const OF_A_FULL_JOURNAL: [Step; 7] = [
     Step::Fills,
     Step::Refuses(Given::Clock(1), ShardFault::JournalFull),
     Step::Refuses(Given::Clock(2), ShardFault::NotMine),
-    Step::CountIs(MOST_ENTRIES),
-    Step::Cuts(MOST_ENTRIES),
+    Step::CountIs(MAX_ENTRIES),
+    Step::Cuts(MAX_ENTRIES),
     Step::CountIs(0),
     Step::Handles(Given::Clock(1), 0, &[]),
 ];

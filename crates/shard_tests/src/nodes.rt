@@ -6,7 +6,7 @@ use audit::{list_dialogues, list_journal, list_records, save_records};
 use bumpalo::Bump;
 use hlrcore::{RawEvent, ShardNumber};
 use records::read_records;
-use shardlog::MOST_ENTRIES;
+use shardlog::MAX_ENTRIES;
 use std::alloc::Global;
 use std::test::Fail;
 use wholenode::{Cause, Node};
@@ -99,13 +99,13 @@ fn a_full_journal_ends_a_run_until_it_is_cut(rt: HostRuntime) -> Result<(), Fail
     let mut node = node(alloc)?;
     let mut bump = Bump::new(alloc);
     let mut events = Vec::new(alloc);
-    for _ in 0..=MOST_ENTRIES {
+    for _ in 0..=MAX_ENTRIES {
         events.push(clock(3)?)?;
     }
     let refused = node.run(&mut bump, &events).err().ok_or("no fault")?;
     assert_eq!(rt;
         (refused.done.len(), refused.cause),
-        (MOST_ENTRIES, Cause::JournalFull)
+        (MAX_ENTRIES, Cause::JournalFull)
     );
     let _epoch = node.cut(3)?;
     events.truncate(1);

@@ -4,12 +4,12 @@ use crate::given::{FIRST, imsi, peer, shard};
 use crate::octets::{ROUTE, UNKNOWN, UPDATE};
 use bumpalo::Bump;
 use hlr_types::Imsi;
-use location::{After, Stays};
+use location::{After, DialogueChange};
 use msgarena::{Message, Round, Verdict};
 use records::read_codes;
-use shard_state::{Plan, Shard};
+use shard_state::{Plan, ShardParts};
 use std::alloc::Global;
-use turns::{begins, new_codes, withdraws};
+use turns::{plan_begin, plan_codes, plan_withdrawal};
 
 /// Two subscribers of shard 1: one with a register, one without.
 const RECORDS_OF_TWO: &[u8] = b"HLR1 447700900100
@@ -95,7 +95,7 @@ const ROWS: [Row; 7] = [
 ];
 
 /// The plan of a Begin of these octets.
-fn begun(alloc: Global, shard: &Shard, octets: &[u8]) -> Option<Plan> {
+fn begun(alloc: Global, shard: &ShardParts, octets: &[u8]) -> Option<Plan> {
     let mut bump = Bump::new(alloc);
     let from = peer(b"447700900012").ok()?;
     let indication = Round::take(alloc, &mut bump, from, octets).ok()?;
@@ -110,19 +110,19 @@ fn begun(alloc: Global, shard: &Shard, octets: &[u8]) -> Option<Plan> {
     else {
         return None;
     };
-    begins(alloc, shard, &indication, *origin, components).ok()
+    plan_begin(alloc, shard, &indication, *origin, components).ok()
 }
 
 /// The plan of new codes.
-fn changed(alloc: Global, shard: &Shard, imsi: Imsi) -> Option<Plan> {
+fn changed(alloc: Global, shard: &ShardParts, imsi: Imsi) -> Option<Plan> {
     let codes = read_codes(alloc, b"22").ok()??;
-    new_codes(alloc, shard, imsi, &codes).ok()
+    plan_codes(alloc, shard, imsi, &codes).ok()
 }
 
 /// Whether a Begin is answered, and new codes are the given ones.
 fn has_answer(plan: &Plan, given: &Given) -> bool {
     match given {
-        Given::Begin(_) => plan.left.first.is_some(),
+        Given::Begin(_) => plan.outcome.message.is_some(),
         Given::NewCodes => plan.codes.as_slice() == [0x22].as_slice(),
         Given::Withdrawal => true,
     }
@@ -131,14 +131,14 @@ fn has_answer(plan: &Plan, given: &Given) -> bool {
 fn is_left(after: &After, left: &Left) -> bool {
     match left {
         Left::Same => matches!(after, After::Same),
-        Left::Placed => matches!(after, After::Placed { .. }),
+        Left::Placed => matches!(after, After::Location { .. }),
         Left::NewCodes => matches!(after, After::NewCodes),
         Left::Withdrawn => matches!(after, After::Withdrawn),
     }
 }
 
 fn opens(plan: &Plan) -> bool {
-    matches!(plan.left.stays, Stays::Gone { opens: Some(_) })
+    matches!(plan.outcome.stays, DialogueChange::Gone { opens: Some(_) })
 }
 
 /// Whether a plan is as the row has it. A dialogue that opens has the first id.
@@ -148,7 +148,7 @@ fn is_plan(plan: &Plan, row: &Row, concerned: Imsi) -> bool {
         && plan.subject == subject
         && opens(plan) == row.opens
         && (plan.new == FIRST || !row.opens)
-        && is_left(&plan.left.after, &row.left)
+        && is_left(&plan.outcome.after, &row.left)
         && has_answer(plan, &row.given)
 }
 
@@ -158,7 +158,7 @@ fn is_so(alloc: Global, row: &Row) -> Option<bool> {
     let plan = match row.given {
         Given::Begin(octets) => begun(alloc, &shard, octets)?,
         Given::NewCodes => changed(alloc, &shard, concerned)?,
-        Given::Withdrawal => withdraws(alloc, &shard, concerned),
+        Given::Withdrawal => plan_withdrawal(alloc, &shard, concerned),
     };
     Some(is_plan(&plan, row, concerned))
 }

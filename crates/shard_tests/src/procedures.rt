@@ -6,10 +6,10 @@ use bumpalo::Bump;
 use csl::{Due, Was};
 use dialogues::{Dialogue, Kind};
 use hlr_types::Imsi;
-use location::{After, Outcome, Stays, begins, expires, withdraws};
+use location::{After, DialogueChange, Outcome, begins, expires, withdraws};
 use mapargs_loc::CancellationType;
 use msgarena::{Indication, Message, Round, Verdict};
-use outgoing::{Out, octets_of};
+use outgoing::{Addressed, octets_of};
 use records::{Records, read_records};
 use std::alloc::Global;
 use tsl::Transaction;
@@ -46,12 +46,12 @@ pub(crate) fn begun(alloc: Global, indication: &Indication, records: &Records) -
 }
 
 /// The outcome of a Begin of these octets.
-fn left(alloc: Global, octets: &[u8]) -> Option<Outcome> {
+fn outcome_of(alloc: Global, octets: &[u8]) -> Option<Outcome> {
     begun(alloc, &taken(alloc, octets)?, &records(alloc)?)
 }
 
 /// Whether this is sent.
-pub(crate) fn says(alloc: Global, sent: &Option<Out>, octets: &[u8]) -> Option<bool> {
+pub(crate) fn says(alloc: Global, sent: &Option<Addressed>, octets: &[u8]) -> Option<bool> {
     match sent {
         Some(out) => Some(octets_of(alloc, &out.message).ok()?.as_slice() == octets),
         None => Some(false),
@@ -59,9 +59,9 @@ pub(crate) fn says(alloc: Global, sent: &Option<Out>, octets: &[u8]) -> Option<b
 }
 
 /// How many operations a dialogue that opens invokes; 0 if none opens.
-fn invoked(left: &Outcome) -> u8 {
-    match &left.stays {
-        Stays::Gone {
+fn invoked(outcome: &Outcome) -> u8 {
+    match &outcome.stays {
+        DialogueChange::Gone {
             opens: Some(opening),
         } => opening.invoked,
         _ => 0,
@@ -70,16 +70,16 @@ fn invoked(left: &Outcome) -> u8 {
 
 /// Whether a route is answered, with the record unchanged and no dialogue opened.
 fn is_route_answered(alloc: Global) -> Option<bool> {
-    let left = left(alloc, &ROUTE)?;
-    let is_answer = says(alloc, &left.first, &ROUTE_ANSWER)?;
-    Some(is_answer && matches!(left.after, After::Same) && invoked(&left) == 0)
+    let outcome = outcome_of(alloc, &ROUTE)?;
+    let is_answer = says(alloc, &outcome.message, &ROUTE_ANSWER)?;
+    Some(is_answer && matches!(outcome.after, After::Same) && invoked(&outcome) == 0)
 }
 
 /// Whether an update changes the record and opens a dialogue with one insert.
 fn is_update_opened(alloc: Global) -> Option<bool> {
-    let left = left(alloc, &UPDATE_WITH_ONE_NUMBER)?;
-    let is_insert = says(alloc, &left.first, &INSERT)?;
-    Some(is_insert && matches!(left.after, After::Placed { .. }) && invoked(&left) == 1)
+    let outcome = outcome_of(alloc, &UPDATE_WITH_ONE_NUMBER)?;
+    let is_insert = says(alloc, &outcome.message, &INSERT)?;
+    Some(is_insert && matches!(outcome.after, After::Location { .. }) && invoked(&outcome) == 1)
 }
 
 #[test]

@@ -6,10 +6,10 @@ use crate::given::{self, FIRST, octets_at, shard};
 use crate::octets::RECORDS;
 use dialogues::{Dialogue, Kind};
 use hlr_types::{Imsi, Peer, RemoteId, Tid};
-use location::{After, Opening, Outcome, Stays};
+use location::{After, DialogueChange, Opening, Outcome};
 use mapargs_loc::CancellationType;
-use outgoing::{Components, Out, SentMessage};
-use shard_state::{Named, Plan, Shard, StepAnswer};
+use outgoing::{Addressed, Components, SentMessage};
+use shard_state::{Named, Plan, ShardParts, StepAnswer};
 use std::alloc::Global;
 use std::test::Fail;
 use tsl::Transaction;
@@ -42,8 +42,8 @@ fn cancel() -> Option<Dialogue> {
 }
 
 /// The End.
-fn end(alloc: Global) -> Option<Out> {
-    Some(Out {
+fn end(alloc: Global) -> Option<Addressed> {
+    Some(Addressed {
         to: peer()?,
         message: SentMessage::End {
             destination: RemoteId::read(&[0, 0, 0, 0x0B])?,
@@ -55,25 +55,25 @@ fn end(alloc: Global) -> Option<Out> {
 }
 
 /// The outcome that leaves the record unchanged and sends an End twice.
-fn only(alloc: Global, stays: Stays) -> Option<Outcome>
-    ensures { IfSome result (λ left. (left.after ≡ After.Same) × (left.stays ≡ stays)) }
+fn only(alloc: Global, stays: DialogueChange) -> Option<Outcome>
+    ensures { IfSome result (λ outcome. (outcome.after ≡ After.Same) × (outcome.stays ≡ stays)) }
 {
     Some(Outcome {
         after: After::Same,
         stays,
-        first: Some(end(alloc)?),
-        second: Some(end(alloc)?),
+        message: Some(end(alloc)?),
+        cancel: Some(end(alloc)?),
     })
 }
 
 /// A cancel opens beside the open dialogues.
-fn opens(alloc: Global, shard: &mut Shard) -> Option<StepAnswer> {
+fn opens(alloc: Global, shard: &mut ShardParts) -> Option<StepAnswer> {
     let new = shard.dialogues().next_id()?;
     let opening = Opening {
         dialogue: cancel()?,
         invoked: 1,
     };
-    let stays = Stays::Gone {
+    let stays = DialogueChange::Gone {
         opens: Some(opening),
     };
     let plan = Plan {
@@ -82,7 +82,7 @@ fn opens(alloc: Global, shard: &mut Shard) -> Option<StepAnswer> {
         named: Named::Nothing,
         new,
         codes: Vec::new(alloc),
-        left: only(alloc, stays)?,
+        outcome: only(alloc, stays)?,
     };
     if !shard.has_room(&plan) {
         return None;
@@ -91,7 +91,7 @@ fn opens(alloc: Global, shard: &mut Shard) -> Option<StepAnswer> {
 }
 
 /// The dialogue of this id closes.
-fn closes(alloc: Global, shard: &mut Shard, id: Tid) -> Option<StepAnswer> {
+fn closes(alloc: Global, shard: &mut ShardParts, id: Tid) -> Option<StepAnswer> {
     if shard.dialogues().get(id).is_none() {
         return None;
     }
@@ -102,13 +102,13 @@ fn closes(alloc: Global, shard: &mut Shard, id: Tid) -> Option<StepAnswer> {
         named: Named::Open(id),
         new,
         codes: Vec::new(alloc),
-        left: only(alloc, Stays::Gone { opens: None })?,
+        outcome: only(alloc, DialogueChange::Gone { opens: None })?,
     };
     shard.settle(plan, &[]).ok()
 }
 
 /// The subscriber is withdrawn, and nothing is sent.
-fn withdraws(alloc: Global, shard: &mut Shard) -> Option<StepAnswer> {
+fn withdraws(alloc: Global, shard: &mut ShardParts) -> Option<StepAnswer> {
     let subscriber = imsi()?;
     let new = shard.dialogues().next_id()?;
     if shard.records().get(&subscriber).is_none() {
@@ -120,11 +120,11 @@ fn withdraws(alloc: Global, shard: &mut Shard) -> Option<StepAnswer> {
         named: Named::Nothing,
         new,
         codes: Vec::new(alloc),
-        left: Outcome {
+        outcome: Outcome {
             after: After::Withdrawn,
-            stays: Stays::Gone { opens: None },
-            first: None,
-            second: None,
+            stays: DialogueChange::Gone { opens: None },
+            message: None,
+            cancel: None,
         },
     };
     shard.settle(plan, &[]).ok()
@@ -140,7 +140,7 @@ fn is_opened(answer: &StepAnswer) -> bool {
 }
 
 /// Whether a cancel is open after it opened, and is not after it closed.
-fn opens_and_closes(alloc: Global, shard: &mut Shard) -> Option<bool> {
+fn opens_and_closes(alloc: Global, shard: &mut ShardParts) -> Option<bool> {
     let opened = opens(alloc, shard)?;
     let was_open = shard.dialogues().get(FIRST) == Some(cancel()?);
     let closed = closes(alloc, shard, FIRST)?;
@@ -156,7 +156,7 @@ fn a_cancel_opens_and_closes(rt: HostRuntime) -> Result<(), Fail> {
 }
 
 /// Whether the record is withdrawn, and nothing was sent.
-fn ends(alloc: Global, shard: &mut Shard) -> Option<bool> {
+fn ends(alloc: Global, shard: &mut ShardParts) -> Option<bool> {
     let answer = withdraws(alloc, shard)?;
     let found = shard.records().get(&imsi()?)?;
     Some(answer.outs.as_slice().is_empty() && found.withdrawn && found.register == None)
@@ -170,7 +170,7 @@ fn a_subscription_ends(rt: HostRuntime) -> Result<(), Fail> {
 }
 
 /// Whether a copy stays as it was, and the clock never goes back.
-fn is_of_its_own(alloc: Global, shard: &mut Shard) -> Option<bool> {
+fn is_of_its_own(alloc: Global, shard: &mut ShardParts) -> Option<bool> {
     shard.tick(7);
     let copy = shard.try_copy().ok()?;
     let _answer = opens(alloc, shard)?;
@@ -187,7 +187,7 @@ fn a_copy_is_a_state_of_its_own(rt: HostRuntime) -> Result<(), Fail> {
 }
 
 /// Whether a cancel opens, or an allocation fails and nothing changes.
-fn opens_or_stays(alloc: Global, shard: &mut Shard) -> bool {
+fn opens_or_stays(alloc: Global, shard: &mut ShardParts) -> bool {
     let before = (shard.dialogues().len(), shard.dialogues().next_id());
     opens(alloc, shard).is_some()
         || (shard.dialogues().len(), shard.dialogues().next_id()) == before

@@ -3,21 +3,21 @@
 use crate::given::{peer, shard};
 use crate::octets::RECORDS;
 use hlr_types::RemoteId;
-use shard_state::Shard;
+use shard_state::ShardParts;
 use std::alloc::Global;
 use std::test::Fail;
-use turns::{closes, continues, expires};
+use turns::{plan_close, plan_continue, plan_expiry};
 
 /// A destination id of no open dialogue, in four octets and in one.
 const DESTINATIONS: [&[u8]; 2] = [&[1, 0, 0x10, 0], &[1]];
 
 /// Whether neither a Continue nor an End for this id is for a dialogue.
-fn is_for_none(alloc: Global, shard: &Shard, destination: &[u8]) -> Option<bool> {
+fn is_for_none(alloc: Global, shard: &ShardParts, destination: &[u8]) -> Option<bool> {
     let from = peer(b"447700900011").ok()?;
     let origin = RemoteId::read(&[7])?;
     let id = RemoteId::read(destination)?;
-    let continued = continues(alloc, shard, from, origin, id, &[]).ok()?;
-    Some(continued.is_none() && closes(alloc, shard, id).is_none())
+    let continued = plan_continue(alloc, shard, from, origin, id, &[]).ok()?;
+    Some(continued.is_none() && plan_close(alloc, shard, id).is_none())
 }
 
 #[test]
@@ -35,8 +35,8 @@ fn nothing_is_named(rt: HostRuntime) -> Result<(), Fail> {
 #[test]
 fn nothing_is_due(rt: HostRuntime) -> Result<(), Fail> {
     let mut shard = shard(rt.alloc(), RECORDS)?;
-    let was_due = expires(rt.alloc(), &shard).is_some();
+    let was_due = plan_expiry(rt.alloc(), &shard).is_some();
     shard.tick(60);
-    assert!(rt; !was_due && expires(rt.alloc(), &shard).is_none());
+    assert!(rt; !was_due && plan_expiry(rt.alloc(), &shard).is_none());
     Ok(())
 }

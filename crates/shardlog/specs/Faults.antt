@@ -1,6 +1,6 @@
 -- Why a shard did not handle an event that its state refused.
-use Rattle.hlrcore.specs.declared.answer.StepFault.{StepFault}
-use Rattle.hlrcore.specs.declared.answer.StepFault.TheVariants as step
+use Rattle.hlrcore.specs.declared.fault.StepFault.{StepFault}
+use Rattle.hlrcore.specs.declared.fault.StepFault.TheVariants as step
 use Rattle.shardlog.specs.declared.fault.ShardFault.{ShardFault}
 use Rattle.shardlog.specs.declared.fault.ShardFault.TheVariants.{NotMine, NoRoom, Memory}
 

@@ -14,7 +14,7 @@ pub enum ShardFault {
     #[error("the journal is full")]
     JournalFull,
     /// An operator's change would open a dialogue, and the shard is full: 4,096 dialogues are open.
-    #[error("as many dialogues are open as may be")]
+    #[error("the shard is full: 4,096 dialogues are open")]
     NoRoom,
     /// Out of memory.
     #[error("out of memory")]

@@ -10,4 +10,4 @@ mod shard;
 pub use entry::{Entry, Epoch, Handled};
 pub use fault::ShardFault;
 pub use laws::joined_journals_keep;
-pub use shard::{MOST_ENTRIES, Shard};
+pub use shard::{MAX_ENTRIES, Shard};

@@ -19,7 +19,7 @@ use std::marker::Model;
 use std::mem;
 
 /// How many entries a journal may have (profile).
-pub const MOST_ENTRIES: usize = 65_536;
+pub const MAX_ENTRIES: usize = 65_536;
 
 /// A shard with its journal, which is legal: its entries lead from the base to the state.
 #[derive(Drop)]
@@ -78,7 +78,7 @@ impl Shard {
         ensures no_step { HasNoRoom (state_of self.old.state) (event_of event.now) → OnOk result ⊥ }
         ensures err { OnErr result (self.new ≡ self.old) }
     {
-        if self.entries.len() >= MOST_ENTRIES {
+        if self.entries.len() >= MAX_ENTRIES {
             return Err(self.refusal(event));
         }
         let raw = event.try_raw(self.alloc)?;

@@ -108,7 +108,7 @@ const OF_A_FULL_SHARD: [Step; 8] = [
 #[test]
 fn full_shard(rt: HostRuntime) -> Result<(), Fail> {
     let mut ids = Ids::new(rt.alloc(), 15)?;
-    for _number in 0..Ids::ROOM {
+    for _number in 0..Ids::MAX_IDS {
         let _id = ids.take()?;
     }
     play(&rt, &mut ids, &OF_A_FULL_SHARD);

@@ -92,7 +92,7 @@ const OF_A_FULL_SHARD: [Step; 3] = [
 /// A full table.
 fn full(alloc: Global, to: Peer) -> Result<Transactions, TslFault> {
     let mut table = Transactions::new(alloc, 15)?;
-    for _number in 0..Transactions::ROOM {
+    for _number in 0..Transactions::MAX_TRANSACTIONS {
         let _id = table.begin(to)?;
     }
     Ok(table)

@@ -58,7 +58,7 @@ impl Model for Ids {
 
 impl Ids {
     /// How many ids can be live at once; also the number of slots.
-    pub const ROOM: usize = 4096;
+    pub const MAX_IDS: usize = 4096;
 
     /// The ids of a shard, none of which is live. Allocates what `give_back` needs.
     pub fn new(alloc: Global, shard: u8) -> Result<Self, AllocError>
@@ -68,7 +68,7 @@ impl Ids {
         Ok(Ids {
             shard,
             slots: Vec::new(alloc),
-            free: Vec::with_capacity(alloc, Self::ROOM)?,
+            free: Vec::with_capacity(alloc, Self::MAX_IDS)?,
             freed_last: None,
         })
     }
@@ -95,7 +95,7 @@ impl Ids {
             return Ok(());
         }
         let slot = self.slots.len();
-        if slot >= Self::ROOM {
+        if slot >= Self::MAX_IDS {
             return Err(IdFault::NoRoom);
         }
         self.slots.push(Slot {
@@ -139,7 +139,7 @@ impl Ids {
             Some(slot) => usize::from(*slot),
             None => self.slots.len(),
         };
-        if slot >= Self::ROOM {
+        if slot >= Self::MAX_IDS {
             return None;
         }
         let generation = self.slots.get(slot).map_or(0, |slot| slot.generation);
@@ -182,7 +182,7 @@ impl Ids {
         }
     }
 
-    /// The slot of a live id, below `ROOM`: its last twelve bits, in which no two live ids agree.
+    /// The slot of a live id, below `MAX_IDS`: its last twelve bits, in which no two live ids agree.
     pub fn slot(&self, id: Tid) -> Option<usize>
         ensures slot { result ≡ slot_if_live self.now id }
         ensures small { IfSome result (λ slot. slot < 4096) }
@@ -208,7 +208,7 @@ impl Ids {
         ensures { IfOk result (λ ids. ids ≡ self.now) }
     {
         let alloc = *self.slots.allocator();
-        let mut free = Vec::with_capacity(alloc, Self::ROOM)?;
+        let mut free = Vec::with_capacity(alloc, Self::MAX_IDS)?;
         free.extend_from_slice(&self.free)?;
         Ok(Ids {
             shard: self.shard,

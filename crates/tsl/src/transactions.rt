@@ -88,7 +88,7 @@ impl Transactions {
     ghost use Rattle.tsl.specs.Received.{received, after, told_continue, told_close, activated};
 
     /// How many transactions can be open at once.
-    pub const ROOM: usize = Ids::ROOM;
+    pub const MAX_TRANSACTIONS: usize = Ids::MAX_IDS;
 
     /// No transaction is open.
     pub fn new(alloc: Global, shard: u8) -> Result<Self, AllocError>
@@ -97,7 +97,7 @@ impl Transactions {
     {
         Ok(Transactions {
             ids: Ids::new(alloc, shard)?,
-            keys: vec![in alloc; 0; Self::ROOM]?,
+            keys: vec![in alloc; 0; Self::MAX_TRANSACTIONS]?,
             entries: Slab::new(alloc),
             room: 0,
         })
@@ -357,7 +357,7 @@ impl Transactions {
         Ok(ids)
     }
 
-    /// The slot of an open transaction, below `ROOM`. No two share a slot.
+    /// The slot of an open transaction, below `MAX_TRANSACTIONS`. No two share a slot.
     pub fn slot(&self, id: Tid) -> Option<usize>
         ensures slot { result ≡ slot_if_open self.now id }
         ensures small { IfSome result (λ slot. slot < 4096) }
@@ -386,7 +386,7 @@ impl Transactions {
     pub fn is_full(&self) -> bool
         ensures { IsTrue result ↔ (count self.now ≡ 4096) }
     {
-        self.len() == Self::ROOM
+        self.len() == Self::MAX_TRANSACTIONS
     }
 
     /// An equal copy.

@@ -27,8 +27,8 @@ use Rattle.dialogues.specs.Dialogues.{dialogues_of, gone_on, invocations_in}
 use Rattle.dialogues.specs.Looking.{looked}
 use Rattle.dialogues.specs.Seen.{dialogue_with, kind_of}
 use Rattle.location.specs.declared.outcome.Outcome.{Outcome}
-use Rattle.location.specs.declared.outcome.Stays.{Stays}
-use Rattle.location.specs.declared.outcome.Stays.TheVariants.{Gone, GoesOn, Forgets}
+use Rattle.location.specs.declared.outcome.DialogueChange.{DialogueChange}
+use Rattle.location.specs.declared.outcome.DialogueChange.TheVariants.{Gone, GoesOn, Forgets}
 use Rattle.location.specs.Seen.{known, outcome_of}
 use Rattle.location.specs.Staying.{ForgetsNothing}
 use Rattle.location.specs.Writing.{CanBeWritten}
@@ -84,7 +84,7 @@ module _ (s : ShardState) (o : Opened) (after : Transaction) (origin : List ℕ)
       ∙ sym (leaves here before done (imsi_seen s imsi) (hlr_seen s imsi) (record_seen s (Some imsi) found copied) did)
       ∙ ap (λ (d : Option machine.Dialogue). outcome_of here d [] does) left_open)
     where
-      forgets : (stays : Stays) → ForgetsNothing stays → IsForgetting (Continued o.id after.peer origin) stays
+      forgets : (stays : DialogueChange) → ForgetsNothing stays → IsForgetting (Continued o.id after.peer origin) stays
       forgets (Gone opens) h = tt
       forgets GoesOn h = tt
       forgets (Forgets invoke) h = h

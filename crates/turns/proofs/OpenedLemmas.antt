@@ -26,7 +26,7 @@ use Rattle.turns.proofs.SeenLemmas.{none_allowed}
 
 abbrev with_parts : Plan → (subscriber : List ℕ) → Named → (new : List ℕ) → Outcome → Plan
 with_parts plan subscriber name new o =
-    record plan { imsi = Some subscriber; subject = Some subscriber; named = name; new = new; left = o }
+    record plan { imsi = Some subscriber; subject = Some subscriber; named = name; new = new; outcome = o }
 
 from_parts : (plan : Plan) (subscriber : List ℕ) (name : Named) (new : List ℕ) (o : Outcome) → IsPlanFor subscriber name new o plan
     → with_parts plan subscriber name new o ≡ plan
@@ -35,7 +35,7 @@ from_parts plan subscriber name new o h = λ i. record plan {
   subject = sym h.subject_is i;
   named = sym h.named_is i;
   new = sym h.new_is i;
-  left = sym h.left_is i;
+  outcome = sym h.outcome_is i;
 }
 
 some≢none : {X : Type 0} {x : X} → Some x ≡ None → ⊥

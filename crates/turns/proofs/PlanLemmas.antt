@@ -17,8 +17,8 @@ use Rattle.smroute.specs.Seen.{machine_subscriber}
 use Rattle.dialogues.specs.Dialogues.{IsNew}
 use Rattle.location.specs.declared.outcome.After.TheVariants.{NewCodes}
 use Rattle.location.specs.declared.outcome.Outcome.{Outcome}
-use Rattle.location.specs.declared.outcome.Stays.{Stays}
-use Rattle.location.specs.declared.outcome.Stays.TheVariants.{Gone, GoesOn, Forgets}
+use Rattle.location.specs.declared.outcome.DialogueChange.{DialogueChange}
+use Rattle.location.specs.declared.outcome.DialogueChange.TheVariants.{Gone, GoesOn, Forgets}
 use Rattle.location.specs.Seen.{known, opens_of, outcome_of}
 use Rattle.location.specs.Writing.{CanBeWritten}
 use Rattle.shard_state.specs.declared.plan.Plan.{Plan}
@@ -44,7 +44,7 @@ subject_is s (Some x) (Some f) is own = sym own ∙ ap (λ o. if_known x (option
 
 -- ---- what opens
 
-opens_some : (clock : ℕ) (stays : Stays) → Opens stays → IsTrue (is_some (opens_of clock stays))
+opens_some : (clock : ℕ) (stays : DialogueChange) → Opens stays → IsTrue (is_some (opens_of clock stays))
 opens_some clock (Gone None) h = absurd h
 opens_some clock (Gone (Some opening)) h = refl
 opens_some clock GoesOn h = absurd h
@@ -56,19 +56,19 @@ nobody_known s (Some x) e h = absurd cc
 
 -- ---- the plans
 
-module _ (s : ShardState) (imsi : Option (List ℕ)) (found : Option (Bor Subscriber)) (new : List ℕ) (codes : Vec ℕ) (left : Outcome) (plan : Plan)
-    (plan_is : plan ≡ unnamed_plan imsi found new codes left)
+module _ (s : ShardState) (imsi : Option (List ℕ)) (found : Option (Bor Subscriber)) (new : List ℕ) (codes : Vec ℕ) (outcome : Outcome) (plan : Plan)
+    (plan_is : plan ≡ unnamed_plan imsi found new codes outcome)
     (found_is : option_copied found ≡ record_at s.records imsi)
     (own : IfSome found (λ f. imsi ≡ Some f.now.imsi))
     (next : IfSome s.dialogues.next (λ id. (id ≡ new) × IsNew s.dialogues id))
-    (writable : CanBeWritten left.after (option_copied found)) where
+    (writable : CanBeWritten outcome.after (option_copied found)) where
   abbrev here : Local
   here = seen (state_of s) s.shard imsi
 
-  can_settle : (left.after ≡ NewCodes → AreAllowed codes.items) → (imsi ≡ None → Opens left.stays → ⊥) → CanSettle s (unnamed_plan imsi found new codes left)
+  can_settle : (outcome.after ≡ NewCodes → AreAllowed codes.items) → (imsi ≡ None → Opens outcome.stays → ⊥) → CanSettle s (unnamed_plan imsi found new codes outcome)
   can_settle allowed concerned = record {
     is_open = tt;
-    writable = subst (CanBeWritten left.after) found_is writable;
+    writable = subst (CanBeWritten outcome.after) found_is writable;
     codes = allowed;
     forgetting = tt;
     next_id = next;
@@ -77,8 +77,8 @@ module _ (s : ShardState) (imsi : Option (List ℕ)) (found : Option (Bor Subscr
 
   -- The plan is what the turn does.
   made : (turn : Turn) → concern (directory_of s.directory) turn ≡ imsi → named turn ≡ None → subject_of (state_of s) turn ≡ known_in (state_of s) imsi
-      → (left.after ≡ NewCodes → AreAllowed codes.items) → (imsi ≡ None → Opens left.stays → ⊥)
-      → outcome_in (state_of s) s.shard turn new ≡ outcome_of here None codes.items left → IsPlan s turn [] plan
+      → (outcome.after ≡ NewCodes → AreAllowed codes.items) → (imsi ≡ None → Opens outcome.stays → ⊥)
+      → outcome_in (state_of s) s.shard turn new ≡ outcome_of here None codes.items outcome → IsPlan s turn [] plan
   made turn concern_is named_is subject allowed concerned leaves = subst (IsPlan s turn []) (sym plan_is) (record {
     can = can_settle allowed concerned;
     concern_is = concern_is;
@@ -90,30 +90,30 @@ module _ (s : ShardState) (imsi : Option (List ℕ)) (found : Option (Bor Subscr
   -- A Begin.
   pub begin_plan : (from origin : List ℕ) (name : Option (List ℕ)) (cs : List Component) → imsi ≡ asked (directory_of s.directory) cs → codes.items ≡ []
       → ((here : Local) → here.clock ≡ s.clock → IfSome found (λ f. f.now.imsi ≡ here.imsi) → here.record_of ≡ known found
-      → outcome_of here None [] left ≡ begins here from origin name cs new)
+      → outcome_of here None [] outcome ≡ begins here from origin name cs new)
       → IsPlan s (Begins from origin name cs) [] plan
   unfolding state_of
   begin_plan from origin name cs asked_is none leaves =
-      let left_here : outcome_of here None [] left ≡ begins here from origin name cs new
+      let outcome_here : outcome_of here None [] outcome ≡ begins here from origin name cs new
       = leaves here (clock_seen s imsi) (own_here s imsi found own) (record_seen s imsi found found_is) in
       made (Begins from origin name cs) (sym asked_is) refl (ap (known_in (state_of s)) (sym asked_is)) (λ _. subst AreAllowed (sym none) none_allowed)
       (λ nobody opens. nobody_known s imsi nobody
-      (begins_opens here new from origin name cs (sym (ap (λ o. is_some o.opens) left_here) ∙ opens_some here.clock left.stays opens)).known)
-      (ap (λ c. begins (seen (state_of s) s.shard c) from origin name cs new) (sym asked_is) ∙ sym left_here ∙ ap (λ items. outcome_of here None items left) (sym none))
+      (begins_opens here new from origin name cs (sym (ap (λ o. is_some o.opens) outcome_here) ∙ opens_some here.clock outcome.stays opens)).known)
+      (ap (λ c. begins (seen (state_of s) s.shard c) from origin name cs new) (sym asked_is) ∙ sym outcome_here ∙ ap (λ items. outcome_of here None items outcome) (sym none))
 
   -- An operator's change, of these codes or of none.
   pub change_plan : (x items : List ℕ) (change : Change) → imsi ≡ Some x → codes.items ≡ items → AreAllowed items
-      → ((here : Local) → IfSome found (λ f. f.now.imsi ≡ here.imsi) → here.record_of ≡ known found → outcome_of here None items left ≡ changes here change (known found) new)
+      → ((here : Local) → IfSome found (λ f. f.now.imsi ≡ here.imsi) → here.record_of ≡ known found → outcome_of here None items outcome ≡ changes here change (known found) new)
       → IsPlan s (Changes x change) [] plan
   unfolding state_of
   change_plan x items change imsi_is has allowed leaves =
       let known_is = record_seen s imsi found found_is in
       made (Changes x change) (sym imsi_is) refl (ap (known_in (state_of s)) (sym imsi_is)) (λ _. subst AreAllowed (sym has) allowed) (λ nobody. absurd cc)
       (ap (λ c. changes (seen (state_of s) s.shard c) change (seen (state_of s) s.shard c).record_of new) (sym imsi_is) ∙ ap (λ r. changes here change r new) known_is
-      ∙ sym (leaves here (own_here s imsi found own) known_is) ∙ ap (λ is. outcome_of here None is left) (sym has))
+      ∙ sym (leaves here (own_here s imsi found own) known_is) ∙ ap (λ is. outcome_of here None is outcome) (sym has))
 
   -- The end of a subscription.
   pub withdrawal_plan : (x : List ℕ) → imsi ≡ Some x → codes.items ≡ []
-      → ((here : Local) → IfSome found (λ f. f.now.imsi ≡ here.imsi) → here.record_of ≡ known found → outcome_of here None [] left ≡ changes here Withdraw (known found) new)
+      → ((here : Local) → IfSome found (λ f. f.now.imsi ≡ here.imsi) → here.record_of ≡ known found → outcome_of here None [] outcome ≡ changes here Withdraw (known found) new)
       → IsPlan s (Changes x Withdraw) [] plan
   withdrawal_plan x imsi_is none leaves = change_plan x [] Withdraw imsi_is none none_allowed leaves

@@ -44,10 +44,10 @@ IsFor d head None = (from : List ℕ) → looked from head (dialogues_of d (dest
 IsFor d head (Some o) = IsForIt d head o
 
 -- A plan for an open dialogue of this subscriber, without codes.
-pub record IsPlanFor (subscriber : List ℕ) (named : Named) (new : List ℕ) (left : Outcome) (plan : Plan) : Type 0 where
+pub record IsPlanFor (subscriber : List ℕ) (named : Named) (new : List ℕ) (outcome : Outcome) (plan : Plan) : Type 0 where
   pub imsi_is : plan.imsi ≡ Some subscriber
   pub subject_is : plan.subject ≡ Some subscriber
   pub named_is : plan.named ≡ named
   pub new_is : plan.new ≡ new
-  pub left_is : plan.left ≡ left
+  pub outcome_is : plan.outcome ≡ outcome
   pub no_codes : plan.codes.items ≡ []

@@ -6,7 +6,7 @@ use Rattle.machine.specs.Step.{outcome_in, subject_of}
 use Rattle.q773_comp.specs.declared.component.Component.{Component}
 use Rattle.msgarena.specs.declared.parameter.Parameter.{Parameter}
 use Rattle.shard_state.specs.declared.plan.Plan.{Plan}
-use Rattle.shard_state.specs.Plans.{CanSettle, id_of, left}
+use Rattle.shard_state.specs.Plans.{CanSettle, id_of, plan_outcome}
 use Rattle.shard_state.specs.Shards.{ShardState, state_of, directory_of}
 
 -- The plan is what the turn does: the same subscriber, the same open dialogue, and the same outcome, with the plan's id for a
@@ -15,7 +15,7 @@ pub record IsPlan (s : ShardState) (turn : Turn) (components : List (Component P
   pub can : CanSettle s plan
   pub concern_is : concern (directory_of s.directory) turn ≡ plan.imsi
   pub named_is : named turn ≡ id_of plan.named
-  pub leaves : outcome_in (state_of s) s.shard turn plan.new ≡ left s components plan
+  pub leaves : outcome_in (state_of s) s.shard turn plan.new ≡ plan_outcome s components plan
   pub subject_is : plan.subject ≡ subject_of (state_of s) turn
 
 -- The same, or the event is for no open dialogue, and this is sent.

@@ -13,11 +13,11 @@ known_imsi found = option_map (λ f. f.now.imsi) found
 
 -- The plan for this subscriber, with or without a record.
 abbrev pub unnamed_plan : (imsi : Option (List ℕ)) → (found : Option (Bor Subscriber)) → (new : List ℕ) → Vec ℕ → Outcome → Plan
-unnamed_plan imsi found new codes left = record {
+unnamed_plan imsi found new codes outcome = record {
   imsi = imsi;
   subject = known_imsi found;
   named = Nothing;
   new = new;
   codes = codes;
-  left = left;
+  outcome = outcome;
 }

@@ -9,20 +9,20 @@ ghost use Rattle.msgarena.specs.Seen.{parameter};
 ghost use Rattle.location.specs.Asking.{IsBeginOf};
 ghost use Rattle.turns.specs.Planning.{IsPlan};
 
-use crate::naming::asked;
 use crate::new_id::next_or_any;
+use crate::subject::asked;
 use crate::subscriber::record_of;
 use crate::unnamed::unnamed;
 use hlr_types::RemoteId;
 use msgarena::{Indication, Parameter};
 use q773_comp::Component;
-use shard_state::{Plan, Shard};
+use shard_state::{Plan, ShardParts};
 use std::alloc::{AllocError, Global};
 
 /// The plan of a received Begin.
-pub fn begins(
+pub fn plan_begin(
     alloc: Global,
-    shard: &Shard,
+    shard: &ShardParts,
     indication: &Indication,
     origin: RemoteId,
     components: &[Component<Parameter>],
@@ -36,6 +36,6 @@ pub fn begins(
     let subscriber = record_of(shard, imsi.as_ref());
     let new = next_or_any(shard);
     let now = shard.clock();
-    let left = location::begins(alloc, indication, origin, components, subscriber, now, new)?;
-    Ok(unnamed(imsi, subscriber, new, Vec::new(alloc), left))
+    let outcome = location::begins(alloc, indication, origin, components, subscriber, now, new)?;
+    Ok(unnamed(imsi, subscriber, new, Vec::new(alloc), outcome))
 }

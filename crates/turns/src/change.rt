@@ -10,27 +10,32 @@ use crate::new_id::next_or_any;
 use crate::subscriber::record_of;
 use crate::unnamed::unnamed;
 use hlr_types::Imsi;
-use shard_state::{Plan, Shard};
+use shard_state::{Plan, ShardParts};
 use std::alloc::{AllocError, Global};
 
 /// The plan of an operator's new codes for a subscriber.
-pub fn new_codes(alloc: Global, shard: &Shard, imsi: Imsi, codes: &[u8]) -> Result<Plan, AllocError>
+pub fn plan_codes(
+    alloc: Global,
+    shard: &ShardParts,
+    imsi: Imsi,
+    codes: &[u8],
+) -> Result<Plan, AllocError>
     requires { AreAllowed codes.now }
     ensures { IfOk result (λ plan. IsPlan shard.now (Changes imsi (events.Codes codes.now)) [] plan) }
 {
     let kept = codes.to_vec(alloc)?;
     let subscriber = record_of(shard, Some(&imsi));
     let new = next_or_any(shard);
-    let left = location::new_codes(subscriber, codes, new);
-    Ok(unnamed(Some(imsi), subscriber, new, kept, left))
+    let outcome = location::new_codes(subscriber, codes, new);
+    Ok(unnamed(Some(imsi), subscriber, new, kept, outcome))
 }
 
 /// The plan of an operator's withdrawal of a subscriber.
-pub fn withdraws(alloc: Global, shard: &Shard, imsi: Imsi) -> Plan
+pub fn plan_withdrawal(alloc: Global, shard: &ShardParts, imsi: Imsi) -> Plan
     ensures { IsPlan shard.now (Changes imsi events.Withdraw) [] result }
 {
     let subscriber = record_of(shard, Some(&imsi));
     let new = next_or_any(shard);
-    let left = location::withdraws(subscriber, new);
-    unnamed(Some(imsi), subscriber, new, Vec::new(alloc), left)
+    let outcome = location::withdraws(subscriber, new);
+    unnamed(Some(imsi), subscriber, new, Vec::new(alloc), outcome)
 }

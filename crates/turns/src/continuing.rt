@@ -20,7 +20,7 @@ use hlr_types::{Peer, RemoteId};
 use location::offer_to;
 use msgarena::Parameter;
 use q773_comp::Component;
-use shard_state::{Named, Plan, Shard};
+use shard_state::{Named, Plan, ShardParts};
 use std::alloc::{AllocError, Global};
 use tsl::{Head, Transaction};
 
@@ -44,7 +44,7 @@ fn heard_from(transaction: Transaction, from: Peer, origin: RemoteId) -> Transac
 /// The plan of a Continue for an open dialogue.
 fn continued(
     alloc: Global,
-    shard: &Shard,
+    shard: &ShardParts,
     opened: Opened,
     from: Peer,
     origin: RemoteId,
@@ -72,15 +72,15 @@ fn continued(
         .dialogues()
         .effect(id, &offer, components, shard.clock())?;
     let subscriber = shard.records().get(&dialogue.subscriber);
-    let left = location::continues(shard.hlr(), subscriber, id, &dialogue, effect, new);
-    Ok(plan_for(alloc, &dialogue, named, new, left))
+    let outcome = location::continues(shard.hlr(), subscriber, id, &dialogue, effect, new);
+    Ok(plan_for(alloc, &dialogue, named, new, outcome))
 }
 
 /// The plan of a received Continue. `None` if it is for no open dialogue; it is then answered with an Abort, P-Abort cause
 /// unrecognizedTransactionID.
-pub fn continues(
+pub fn plan_continue(
     alloc: Global,
-    shard: &Shard,
+    shard: &ShardParts,
     from: Peer,
     origin: RemoteId,
     destination: RemoteId,

@@ -11,11 +11,15 @@ use crate::opened::{Opened, opened_at, plan_for};
 use hlr_types::{Imsi, Register};
 use location::register_of;
 use records::Record;
-use shard_state::{Named, Plan, Shard};
+use shard_state::{Named, Plan, ShardParts};
 use std::alloc::Global;
 
 /// The register of a subscriber's current update.
-fn current_register(shard: &Shard, imsi: &Imsi, subscriber: Option<&Record>) -> Option<Register>
+fn current_register(
+    shard: &ShardParts,
+    imsi: &Imsi,
+    subscriber: Option<&Record>,
+) -> Option<Register>
     ensures { IfSome subscriber.entry (λ s. current_register (local_of (state_of shard.now) shard.now.shard imsi.now) s.now.current
         ≡ option_map machine_register result) }
 {
@@ -24,13 +28,13 @@ fn current_register(shard: &Shard, imsi: &Imsi, subscriber: Option<&Record>) -> 
 }
 
 /// The plan of an expiry. `None` if nothing is due.
-pub fn expires(alloc: Global, shard: &Shard) -> Option<Plan>
+pub fn plan_expiry(alloc: Global, shard: &ShardParts) -> Option<Plan>
     ensures { IsExpiry shard.now result }
 {
     let due = shard.dialogues().least_due(shard.clock())?;
     let Opened { id, dialogue, new } = opened_at(shard, due.id)?;
     let subscriber = shard.records().get(&dialogue.subscriber);
     let current = current_register(shard, &dialogue.subscriber, subscriber);
-    let left = location::expires(alloc, subscriber, current, &dialogue, due, new);
-    Some(plan_for(alloc, &dialogue, Named::Open(id), new, left))
+    let outcome = location::expires(alloc, subscriber, current, &dialogue, due, new);
+    Some(plan_for(alloc, &dialogue, Named::Open(id), new, outcome))
 }

@@ -6,7 +6,7 @@ ghost use Rattle.turns.specs.OpenOnes.{IsFor, IsOpenAt, IsPlanFor};
 use dialogues::Dialogue;
 use hlr_types::Tid;
 use location::Outcome;
-use shard_state::{Named, Plan, Shard};
+use shard_state::{Named, Plan, ShardParts};
 use std::alloc::Global;
 use tsl::{Head, Received};
 
@@ -19,7 +19,7 @@ pub(crate) struct Opened {
 }
 
 /// The open dialogue with this id, if there is one.
-pub(crate) fn opened_at(shard: &Shard, id: Tid) -> Option<Opened>
+pub(crate) fn opened_at(shard: &ShardParts, id: Tid) -> Option<Opened>
     ensures { IsOpenAt shard.now.dialogues id result }
 {
     let dialogues = shard.dialogues();
@@ -32,7 +32,7 @@ pub(crate) fn opened_at(shard: &Shard, id: Tid) -> Option<Opened>
 }
 
 /// The open dialogue that a Continue, an End or an Abort is for, if any (Q.774).
-pub(crate) fn opened_for(shard: &Shard, head: &Head) -> Option<Opened>
+pub(crate) fn opened_for(shard: &ShardParts, head: &Head) -> Option<Opened>
     ensures { IsFor shard.now.dialogues head.now result }
 {
     match shard.dialogues().look(head) {
@@ -47,9 +47,9 @@ pub(crate) fn plan_for(
     dialogue: &Dialogue,
     named: Named,
     new: Tid,
-    left: Outcome,
+    outcome: Outcome,
 ) -> Plan
-    ensures { IsPlanFor dialogue.now.subscriber named new left result }
+    ensures { IsPlanFor dialogue.now.subscriber named new outcome result }
 {
     Plan {
         imsi: Some(dialogue.subscriber),
@@ -57,6 +57,6 @@ pub(crate) fn plan_for(
         named,
         new,
         codes: Vec::new(alloc),
-        left,
+        outcome,
     }
 }

@@ -5,10 +5,10 @@ ghost use Rattle.shard_state.specs.Shards.{record_at};
 
 use hlr_types::Imsi;
 use records::Record;
-use shard_state::Shard;
+use shard_state::ShardParts;
 
 /// The record of a subscriber, if there is one.
-pub(crate) fn record_of<'a>(shard: &'a Shard, imsi: Option<&Imsi>) -> Option<&'a Record>
+pub(crate) fn record_of<'a>(shard: &'a ShardParts, imsi: Option<&Imsi>) -> Option<&'a Record>
     ensures found { option_copied result ≡ record_at shard.now.records (option_copied imsi.entry) }
     ensures own { IfSome result (λ found. option_copied imsi.entry ≡ Some found.now.imsi) }
 {

@@ -24,9 +24,9 @@ pub(crate) fn unnamed(
     subscriber: Option<&Record>,
     new: Tid,
     codes: Vec<u8>,
-    left: Outcome,
+    outcome: Outcome,
 ) -> Plan
-    ensures { result ≡ unnamed_plan imsi subscriber.entry new codes left }
+    ensures { result ≡ unnamed_plan imsi subscriber.entry new codes outcome }
 {
     Plan {
         imsi,
@@ -34,6 +34,6 @@ pub(crate) fn unnamed(
         named: Named::Nothing,
         new,
         codes,
-        left,
+        outcome,
     }
 }

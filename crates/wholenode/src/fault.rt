@@ -18,10 +18,10 @@ pub enum Cause {
     #[error("the journal is full")]
     JournalFull,
     /// The arena could not be reset.
-    #[error("the arena did not give its memory back")]
+    #[error("the arena could not be reset")]
     ResetRefused,
     /// An operator's change would open a dialogue, and the shard is full: 4,096 dialogues are open.
-    #[error("as many dialogues are open as may be")]
+    #[error("the shard is full: 4,096 dialogues are open")]
     NoRoom,
 }
 

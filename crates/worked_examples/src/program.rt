@@ -11,7 +11,7 @@ use std::thread::Threads;
 const NEVER: u32 = u32::MAX;
 
 /// How many octets a file may have (profile).
-const MOST_OCTETS: usize = 16_777_216;
+const MAX_FILE_OCTETS: usize = 16_777_216;
 
 /// A reader that returns a text a few octets at a time, and fails at one read.
 #[derive(Drop)]
@@ -274,8 +274,8 @@ fn a_flush_fails(rt: HostRuntime) -> Result<(), Fail> {
 fn files_over_the_limit(rt: HostRuntime) -> Result<(), Fail> {
     let alloc = rt.alloc();
     let lines: [(usize, &[u8]); 2] = [
-        (MOST_OCTETS, b"hlr: records line 1\n"),
-        (MOST_OCTETS + 1, b"hlr: cannot read records\n"),
+        (MAX_FILE_OCTETS, b"hlr: records line 1\n"),
+        (MAX_FILE_OCTETS + 1, b"hlr: cannot read records\n"),
     ];
     for (left, line) in lines {
         let mut out = Kept::new(alloc, NEVER);
@@ -292,7 +292,7 @@ fn files_over_the_limit(rt: HostRuntime) -> Result<(), Fail> {
         rest: RECORDS,
         reads_left: NEVER,
     };
-    let left = MOST_OCTETS + 1;
+    let left = MAX_FILE_OCTETS + 1;
     let mut out = Kept::new(alloc, NEVER);
     let (_, err) = ends(&rt, "hlr a b", &mut records, &mut Zeros { left }, &mut out)?;
     assert_eq!(rt; err.as_slice(), b"hlr: cannot read script\n".as_slice());

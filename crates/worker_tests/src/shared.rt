@@ -13,7 +13,7 @@ use std::thread::Threads;
 use workers::{SharedFault, SharedRegister};
 
 /// How many dialogues a shard may have open (profile).
-const MOST_OPEN: usize = 4_096;
+const MAX_OPEN: usize = 4_096;
 
 /// Has workers handle a part.
 fn take<R: Threads + Wait + Sync>(
@@ -108,15 +108,12 @@ fn no_room(rt: HostRuntime) -> Result<(), Fail> {
     let mut register = SharedRegister::new(alloc, read_records(alloc, RECORDS)?)?;
     let mut sent = Vec::new(alloc);
     let mut changes = Vec::new(alloc);
-    for _ in 0..MOST_OPEN {
+    for _ in 0..MAX_OPEN {
         changes.push(change(alloc)?)?;
     }
     take(&mut register, &rt, 2, changes, &mut sent)??;
     let more = vec![in alloc; clock(3, 1)?, change(alloc)?]?;
     let stopped = take(&mut register, &rt, 2, more, &mut sent)?;
-    assert_eq!(rt;
-        (sent.len(), stopped),
-        (MOST_OPEN, Err(SharedFault::NoRoom))
-    );
+    assert_eq!(rt; (sent.len(), stopped), (MAX_OPEN, Err(SharedFault::NoRoom)));
     Ok(())
 }

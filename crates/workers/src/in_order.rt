@@ -11,7 +11,7 @@ use crate::job::Job;
 use crate::marks::{WORDS, is_marked, mark};
 use crate::receipt::Receipt;
 use crate::same::{same_event, same_outs};
-use shardlog::{MOST_ENTRIES, Shard};
+use shardlog::{MAX_ENTRIES, Shard};
 
 /// Whether the receipt is for the job, and its entry has the job's event and the receipt's frames.
 fn is_pair(shards: &[Shard], job: &Job, receipt: &Receipt) -> bool
@@ -62,7 +62,7 @@ fn position_in(receipt: &Receipt, shard: usize) -> Option<usize>
 fn names_once(count: usize, receipts: &[Receipt], shard: usize) -> bool
     ensures { IsTrue result → (k : ℕ) → k < count → count_by (names_place shard k) receipts.now ≡ 1 }
 {
-    if count > MOST_ENTRIES {
+    if count > MAX_ENTRIES {
         return false;
     }
     let mut words = [0; WORDS];

@@ -16,7 +16,7 @@ use hlrcore::{Out, RawEvent};
 use std::alloc::{AllocError, Global};
 
 /// How many entries a journal may have (profile).
-pub(crate) const MOST_ENTRIES: usize = 65_536;
+pub(crate) const MAX_ENTRIES: usize = 65_536;
 
 /// The events as jobs, numbered from `first` on.
 pub(crate) fn number_jobs(
@@ -103,7 +103,7 @@ fn end_of(receipt: &Receipt) -> usize
     ensures { result ≡ end_at receipt.now.place }
 {
     match &receipt.answer {
-        Ok(placed) if placed.position < MOST_ENTRIES => placed.position + 1,
+        Ok(placed) if placed.position < MAX_ENTRIES => placed.position + 1,
         _ => 0,
     }
 }

@@ -14,13 +14,13 @@ pub enum Refusal {
     #[error("the journal is full")]
     JournalFull,
     /// An operator's change would open a dialogue, and the shard is full: 4,096 dialogues are open.
-    #[error("as many dialogues are open as may be")]
+    #[error("the shard is full: 4,096 dialogues are open")]
     NoRoom,
     /// Out of memory.
     #[error("out of memory")]
     Memory,
     /// The worker's arena could not be reset. The event went to no shard.
-    #[error("the arena did not give its memory back")]
+    #[error("the arena could not be reset")]
     ResetRefused,
 }
 

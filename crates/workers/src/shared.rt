@@ -4,7 +4,7 @@ use crate::batch::run_batch;
 use crate::gate::OpenGate;
 use crate::job::Job;
 use crate::office::Office;
-use crate::part::{MOST_ENTRIES, copy_sent, first_fault, longest_with, number_jobs};
+use crate::part::{MAX_ENTRIES, copy_sent, first_fault, longest_with, number_jobs};
 use crate::receipt::Receipt;
 use crate::settle::{cut_all, settle};
 use crate::shared_fault::SharedFault;
@@ -117,7 +117,7 @@ impl SharedRegister {
         requires { count ≤ 65536 }
         ensures { OnOk result (GoesOn self.old [] [] self.new) }
     {
-        if self.longest > MOST_ENTRIES - count {
+        if self.longest > MAX_ENTRIES - count {
             return self.cut();
         }
         Ok(())

@@ -12,7 +12,7 @@ pub enum SharedFault {
     #[error("out of memory")]
     Memory,
     /// An operator's change would open a dialogue, and the shard is full: 4,096 dialogues are open.
-    #[error("as many dialogues are open as may be")]
+    #[error("the shard is full: 4,096 dialogues are open")]
     NoRoom,
     /// The job with this number is unaccounted for; 0 if an entry is left over, a shard has another base, or the shards are gone
     /// after an earlier fault.

@@ -18,21 +18,21 @@ returns-in_default-parse-clause-only c = λ n is.
     let whole : c.in-Ok.digits.now ≡ c.args.text.now = search rules in
     absurd (cc (ticks_parsed c.args.text.now n c.parse.result is (rw whole at c.parse.ensures.value.0), c.in_default-parse.is))
 
-pub returns-then-ticks-le-MOST_TICKS-clause-found : goal.returns-then-ticks-le-MOST_TICKS-clause-found
-returns-then-ticks-le-MOST_TICKS-clause-found c =
+pub returns-then-ticks-le-MAX_TICKS-clause-found : goal.returns-then-ticks-le-MAX_TICKS-clause-found
+returns-then-ticks-le-MAX_TICKS-clause-found c =
     let whole : c.in-Ok.digits.now ≡ c.args.text.now = search rules in
     let plain : is_plain c.args.text.now ≡ true = search rules in
     let most : c.in-Ok-parse.ticks ≤ 2 ^ 62 = search rules in
     ticks_found c.args.text.now c.in-Ok-parse.ticks c.parse.result (search rules) plain (rw whole at c.parse.ensures.value.0) most
 
-pub returns-then-ticks-le-MOST_TICKS-clause-only : goal.returns-then-ticks-le-MOST_TICKS-clause-only
-returns-then-ticks-le-MOST_TICKS-clause-only c = λ n is.
+pub returns-then-ticks-le-MAX_TICKS-clause-only : goal.returns-then-ticks-le-MAX_TICKS-clause-only
+returns-then-ticks-le-MAX_TICKS-clause-only c = λ n is.
     let whole : c.in-Ok.digits.now ≡ c.args.text.now = search rules in
     let same = ticks_parsed c.args.text.now n c.parse.result is (rw whole at c.parse.ensures.value.0) in
     cc
 
-pub returns-else-ticks-le-MOST_TICKS-clause-only : goal.returns-else-ticks-le-MOST_TICKS-clause-only
-returns-else-ticks-le-MOST_TICKS-clause-only c = λ n is.
+pub returns-else-ticks-le-MAX_TICKS-clause-only : goal.returns-else-ticks-le-MAX_TICKS-clause-only
+returns-else-ticks-le-MAX_TICKS-clause-only c = λ n is.
     let whole : c.in-Ok.digits.now ≡ c.args.text.now = search rules in
     let same = ticks_parsed c.args.text.now n c.parse.result is (rw whole at c.parse.ensures.value.0) in
     let equal : c.in-Ok-parse.ticks ≡ n = cc in

@@ -9,6 +9,6 @@ returns-in-Some-clause-leaves c = λ here named codes own.
       after = after_of codes c.args.after here.record_of;
       stays = None;
       opens = Some (c.cancel.ensures here own i);
-      sent = one c.args.first ++ c.cancel_begin.ensures here own i;
+      sent = one c.args.message ++ c.cancel_begin.ensures here own i;
     })
-    ∙ ap (λ next. then_cancel here (after_of codes c.args.after here.record_of) (one c.args.first) next c.args.new) (sym c.in-Some.is)
+    ∙ ap (λ next. then_cancel here (after_of codes c.args.after here.record_of) (one c.args.message) next c.args.new) (sym c.in-Some.is)

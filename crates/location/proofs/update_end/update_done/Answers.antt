@@ -17,7 +17,7 @@ returns-clause-leaves c = λ here named own is.
     let view = c.subscriber.view_is in
     let d = c.args.dialogue.now in
     let ended_with : SentComponent → List Out = λ k. ended (transaction_of d.transaction) d.transaction.remote (map rejection c.args.rejects.items) (k ∷ []) in
-    let sent : one c.ended-first.result ≡ ended_with (UpdateResult c.args.update.invoke c.args.hlr) = c.ended-first.ensures ∙ ap ended_with c.update_result.ensures in
+    let sent : one c.end_in_dialogue-message.result ≡ ended_with (UpdateResult c.args.update.invoke c.args.hlr) = c.end_in_dialogue-message.ensures ∙ ap ended_with c.update_result.ensures in
     let next : c.to_old-next.result ≡ to_old (register_of c.args.update.register) (option_map machine_register c.args.subscriber.now.register) =
     c.to_old-next.ensures ∙ ap (λ (s : Subscriber). to_old (register_of c.args.update.register) (option_map machine_register s.register)) view in
     c.then_cancel.ensures.leaves here named [] own

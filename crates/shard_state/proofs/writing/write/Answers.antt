@@ -1,6 +1,6 @@
 use Rattle.std.proofs.Common.{refl}
 use Rattle.records.specs.Subscriber.{placed, ended}
-use Rattle.location.specs.declared.outcome.After.TheVariants.{Placed, Withdrawn}
+use Rattle.location.specs.declared.outcome.After.TheVariants.{Location, Withdrawn}
 use Rattle.shard_state.specs.Shards.{records_of}
 use Rattle.shard_state.proofs.RecordLemmas.{same_written, written_by}
 use Rattle.shard_state.proofs.writing.write.Goals as goal
@@ -8,10 +8,10 @@ use Rattle.shard_state.proofs.writing.write.Goals as goal
 pub returns-in-Same : goal.returns-in-Same
 returns-in-Same c = same_written c.args.codes.items c.args.after c.args.imsi c.in-Some.imsi (records_of c.args.records.now) c.in-Some.is c.in-Same.is
 
-pub returns-in-Placed : goal.returns-in-Placed
-returns-in-Placed c =
-    written_by c.args.codes.items c.args.after (Placed c.in-Placed.register c.in-Placed.purged c.in-Placed.current) c.args.imsi c.in-Some.imsi c.args.records.now c.set.new.self
-    (λ s. placed s c.in-Placed.register c.in-Placed.purged c.in-Placed.current) c.in-Some.is c.in-Placed.is (λ e. absurd (cc e)) c.requires.writable (λ s. refl) c.set.ensures
+pub returns-in-Location : goal.returns-in-Location
+returns-in-Location c =
+    written_by c.args.codes.items c.args.after (Location c.in-Location.register c.in-Location.purged c.in-Location.current) c.args.imsi c.in-Some.imsi c.args.records.now c.set.new.self
+    (λ s. placed s c.in-Location.register c.in-Location.purged c.in-Location.current) c.in-Some.is c.in-Location.is (λ e. absurd (cc e)) c.requires.writable (λ s. refl) c.set.ensures
 
 pub returns-in-Withdrawn : goal.returns-in-Withdrawn
 returns-in-Withdrawn c =

@@ -20,8 +20,8 @@ returns c = λ t is.
     ≡ effect s.clock (offer_to (kind_of o.dialogue.kind)) (invocations_in (dialogues_of s.dialogues o.id)) (map heard cs) =
     λ i. effect (c.clock.ensures.value i) (c.offer_to-offer.ensures i) (invocations_in (dialogues_of (c.dialogues.ensures.value i) o.id)) (map heard cs) in
     continuing_planned s o c.heard_from-transaction.result c.args.origin cs c.requires c.heard_from-transaction.ensures.active t
-    c.get-subscriber.result c.in_ok-effect.effect c.continues-left.result c.plan_for.result (c.heard_from-transaction.ensures.row t is)
+    c.get-subscriber.result c.in_ok-effect.effect c.continues-outcome.result c.plan_for.result (c.heard_from-transaction.ensures.row t is)
     (c.get-subscriber.ensures.found ∙ ap (λ (m : RecordMap). finite.get m o.dialogue.subscriber) c.records.ensures)
     (subst (λ (w : effects.Effect). IsEffect c.in_ok-effect.effect w) same c.in_ok-effect.ensures)
-    (λ here vs did own hlr known does. c.continues-left.ensures.leaves here vs did own (hlr ∙ sym c.hlr.ensures) known does)
-    c.continues-left.ensures.writable c.continues-left.ensures.keeps c.plan_for.ensures
+    (λ here vs did own hlr known does. c.continues-outcome.ensures.leaves here vs did own (hlr ∙ sym c.hlr.ensures) known does)
+    c.continues-outcome.ensures.writable c.continues-outcome.ensures.keeps c.plan_for.ensures

@@ -2,7 +2,7 @@ use Rattle.std.proofs.Common.{◌≡◌, ◌<◌, ◌+◌, ◌++◌, ◌∷◌, 
 use Rattle.std.specs.Prelude.{Err}
 use Rattle.shard_state.specs.declared.answer.StepAnswer.{StepAnswer}
 use Rattle.shard_state.specs.Shards.{ShardState}
-use Rattle.hlrcore.specs.declared.answer.StepFault.TheVariants.{Memory, NotMine}
+use Rattle.hlrcore.specs.declared.fault.StepFault.TheVariants.{Memory, NotMine}
 use Rattle.hlrcore.specs.Running.{BreaksOff, RunsTo}
 use Rattle.hlrcore.proofs.RunningLemmas as lemma
 use Rattle.hlrcore.proofs.state.State.run.Goals as goal

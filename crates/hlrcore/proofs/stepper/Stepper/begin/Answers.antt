@@ -1,23 +1,23 @@
 use Rattle.std.proofs.Common.{◌≡◌, map, false, true, rules}
 use Rattle.q773_comp.specs.Seen.{component}
 use Rattle.msgarena.specs.Seen.{parameter}
-use Rattle.hlrcore.proofs.HearLemmas.{begin_refused, begin_taken, both_ok, has_no}
+use Rattle.hlrcore.proofs.ReceivingLemmas.{begin_refused, begin_taken, both_ok, has_no}
 use Rattle.hlrcore.proofs.TakenLemmas.{then_ok}
 use Rattle.hlrcore.proofs.stepper.Stepper.begin.Goals as goal
 
 pub settle-requires-clause-can : goal.settle-requires-clause-can
 settle-requires-clause-can c = (c.in_ok-plan.ensures c.requires.begin.0 c.requires.begin.1).can
 
-pub returns-then-not-has_room-clause-heard : goal.returns-then-not-has_room-clause-heard
-returns-then-not-has_room-clause-heard c =
+pub returns-then-not-has_room-clause-received : goal.returns-then-not-has_room-clause-received
+returns-then-not-has_room-clause-received c =
     let none : c.has_room.result ≡ false = search rules in
     then_ok c.aborted.result
     (λ a says. begin_refused c.self.inside.shard c.args.self.now c.args.indication.now c.from-from.result c.args.origin (map (component parameter) c.args.components.now) c.in_ok-plan.plan a
     c.self.view_is c.requires.mine c.requires.begin c.from-from.ensures c.in_ok-plan.ensures (c.has_room.ensures.full.0 none) says)
     c.aborted.ensures
 
-pub returns-clause-heard : goal.returns-clause-heard
-returns-clause-heard c =
+pub returns-clause-received : goal.returns-clause-received
+returns-clause-received c =
     let some : c.has_room.result ≡ true = search rules in
     both_ok c.settle.result
     (λ a settled says. begin_taken c.self.inside.shard c.args.self.now c.settle.new.self c.args.indication.now c.args.origin (map (component parameter) c.args.components.now) c.in_ok-plan.plan a

@@ -2,7 +2,7 @@ use Rattle.std.proofs.Common.{◌≡◌, false, true, rules, sym, subst}
 use Rattle.hlrcore.specs.Events.{change as said}
 use Rattle.shard_state.specs.Plans.{CanSettle, Overflows}
 use Rattle.shard_state.specs.Shards.{ShardState}
-use Rattle.hlrcore.proofs.HearLemmas.{change_taken, has_no}
+use Rattle.hlrcore.proofs.ReceivingLemmas.{change_taken, has_no}
 use Rattle.hlrcore.proofs.SettledLemmas.{no_room}
 use Rattle.hlrcore.proofs.stepper.Stepper.change.Goals as goal
 

@@ -1,20 +1,20 @@
-use Rattle.hlrcore.proofs.HearLemmas.{both_ok, close_left, close_taken, closed_can, closed_room}
+use Rattle.hlrcore.proofs.ReceivingLemmas.{both_ok, close_left, close_taken, closed_can, closed_room}
 use Rattle.hlrcore.proofs.stepper.Stepper.close.Goals as goal
 
 pub settle-requires-clause-can : goal.settle-requires-clause-can
-settle-requires-clause-can c = closed_can c.self.inside.shard c.args.destination c.closes.result c.in-Some.plan c.closes.ensures c.in-Some.is
+settle-requires-clause-can c = closed_can c.self.inside.shard c.args.destination c.plan_close.result c.in-Some.plan c.plan_close.ensures c.in-Some.is
 
 pub settle-requires-clause-room : goal.settle-requires-clause-room
-settle-requires-clause-room c = closed_room c.self.inside.shard c.args.destination c.closes.result c.in-Some.plan c.closes.ensures c.in-Some.is
+settle-requires-clause-room c = closed_room c.self.inside.shard c.args.destination c.plan_close.result c.in-Some.plan c.plan_close.ensures c.in-Some.is
 
-pub returns-in-Some-clause-heard : goal.returns-in-Some-clause-heard
-returns-in-Some-clause-heard c =
+pub returns-in-Some-clause-received : goal.returns-in-Some-clause-received
+returns-in-Some-clause-received c =
     both_ok c.settle.result
-    (λ a settled says. close_taken c.self.inside.shard c.args.self.now c.settle.new.self c.args.indication.now c.args.destination c.closes.result c.in-Some.plan a
-    c.self.view_is c.requires.mine c.requires.closes c.closes.ensures c.in-Some.is c.settle.ensures.own (settled, says))
+    (λ a settled says. close_taken c.self.inside.shard c.args.self.now c.settle.new.self c.args.indication.now c.args.destination c.plan_close.result c.in-Some.plan a
+    c.self.view_is c.requires.mine c.requires.closes c.plan_close.ensures c.in-Some.is c.settle.ensures.own (settled, says))
     c.settle.ensures.settled c.settle.ensures.says
 
-pub returns-in-None-clause-heard : goal.returns-in-None-clause-heard
-returns-in-None-clause-heard c =
-    close_left c.self.inside.shard c.args.self.now c.args.indication.now c.args.destination c.closes.result c.silent.result
-    c.self.view_is c.requires.mine c.requires.closes c.closes.ensures c.in-None.is c.silent.ensures
+pub returns-in-None-clause-received : goal.returns-in-None-clause-received
+returns-in-None-clause-received c =
+    close_left c.self.inside.shard c.args.self.now c.args.indication.now c.args.destination c.plan_close.result c.silent.result
+    c.self.view_is c.requires.mine c.requires.closes c.plan_close.ensures c.in-None.is c.silent.ensures

@@ -10,14 +10,14 @@ use Rattle.hlrcore.specs.Leading.{Leads}
 use Rattle.hlrcore.proofs.TakenLemmas.{then_ok, tick_step}
 use Rattle.hlrcore.proofs.stepper.Stepper.step.Goals as goal
 
-pub hear-requires : goal.hear-requires
-hear-requires c =
+pub receive-requires : goal.receive-requires
+receive-requires c =
     let mine : route (directory_of c.args.self.now.directory) (event_of c.args.event.now) ≡ c.args.self.now.shard = search rules in
     subst (λ (e : Event). route (directory_of c.args.self.now.directory) (event_of e) ≡ c.args.self.now.shard) c.in-Frame.is mine
 
-pub returns-in_ok-hear-in-Frame-clause-stepped : goal.returns-in_ok-hear-in-Frame-clause-stepped
-returns-in_ok-hear-in-Frame-clause-stepped c =
-    subst (λ (e : Event). Leads c.args.self.now (raw_of e) c.in_ok-hear-in-Frame.field-0 c.hear.new.self) (sym c.in-Frame.is) c.in_ok-hear-in-Frame.ensures.heard
+pub returns-in_ok-receive-in-Frame-clause-stepped : goal.returns-in_ok-receive-in-Frame-clause-stepped
+returns-in_ok-receive-in-Frame-clause-stepped c =
+    subst (λ (e : Event). Leads c.args.self.now (raw_of e) c.in_ok-receive-in-Frame.field-0 c.receive.new.self) (sym c.in-Frame.is) c.in_ok-receive-in-Frame.ensures.received
 
 pub returns-in-Clock-clause-stepped : goal.returns-in-Clock-clause-stepped
 returns-in-Clock-clause-stepped c =

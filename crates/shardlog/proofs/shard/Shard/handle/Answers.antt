@@ -10,8 +10,8 @@ use Rattle.shardlog.specs.Log.{IsLog, LogKeeps, log}
 use Rattle.shardlog.proofs.LogLemmas.{entries_after, entry_is, handled_log, handles, keeps_seen, log_keeps}
 use Rattle.shardlog.proofs.shard.Shard.handle.Goals as goal
 
-pub returns-then-len-ge-MOST_ENTRIES-clause-keeps : goal.returns-then-len-ge-MOST_ENTRIES-clause-keeps
-returns-then-len-ge-MOST_ENTRIES-clause-keeps c = keeps_seen _ _ c.self.view_is c.self.invariant
+pub returns-then-len-ge-MAX_ENTRIES-clause-keeps : goal.returns-then-len-ge-MAX_ENTRIES-clause-keeps
+returns-then-len-ge-MAX_ENTRIES-clause-keeps c = keeps_seen _ _ c.self.view_is c.self.invariant
 
 pub returns-in_err-raw-clause-keeps : goal.returns-in_err-raw-clause-keeps
 returns-in_err-raw-clause-keeps c = keeps_seen _ _ c.self.view_is c.self.invariant

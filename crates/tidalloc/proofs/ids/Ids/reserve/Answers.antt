@@ -14,7 +14,7 @@ invariant_of-self-2 c =
     let a : AreSlots i.shard i.slots.items [] i.freed_last (vec_capacity i.free) =
     subst (λ (f : List ℕ). AreSlots i.shard i.slots.items f i.freed_last (vec_capacity i.free)) none c.self.invariant in
     let number : c.len-slot.result ≡ length i.slots.items = omega (arith, c.len-slot.ensures, i.slots.ok.0) in
-    let few : length i.slots.items < 4096 = omega (arith, c.if-slot-ge-ROOM.false, number) in
+    let few : length i.slots.items < 4096 = omega (arith, c.if-slot-ge-MAX_IDS.false, number) in
     rw (c.push_reserved.ensures.capacity, c.push_reserved.ensures.items, none, number, c.in_ok-push.ensures.items)
     (AreSlots-reserve i.shard i.slots.items i.freed_last (vec_capacity i.free) a few)
 
@@ -26,7 +26,7 @@ returns-clause-ok c =
     let a : AreSlots i.shard i.slots.items [] i.freed_last (vec_capacity i.free) =
     subst (λ (f : List ℕ). AreSlots i.shard i.slots.items f i.freed_last (vec_capacity i.free)) none c.self.invariant in
     let number : c.len-slot.result ≡ length i.slots.items = omega (arith, c.len-slot.ensures, i.slots.ok.0) in
-    let few : length i.slots.items < 4096 = omega (arith, c.if-slot-ge-ROOM.false, number) in
+    let few : length i.slots.items < 4096 = omega (arith, c.if-slot-ge-MAX_IDS.false, number) in
     let items : c.push_reserved.new.self.items ≡ length i.slots.items ∷ [] = c.push_reserved.ensures.items ∙ ap (λ f. f ++ c.len-slot.result ∷ []) none ∙ ap (λ n. n ∷ []) number in
     rw (items, c.in_ok-push.ensures.items)
     (ids_of-reserve i.shard i.slots.items i.freed_last (vec_capacity i.free) a few

@@ -16,12 +16,12 @@ use std::marker::Model;
 use std::sync::Arc;
 
 /// A greater clock value counts as this one, 2^62 (profile).
-const LATEST_CLOCK: u64 = 1 << 62;
+const MAX_CLOCK: u64 = 1 << 62;
 
 /// The state of one shard: its records, its open dialogues and its clock, with the directory, which all shards share, and the
 /// HLR number.
 #[derive(Drop)]
-pub struct Shard {
+pub struct ShardParts {
     pub(crate) alloc: Global,
     number: u8,
     clock: u64,
@@ -31,7 +31,7 @@ pub struct Shard {
     hlr: IsdnAddress,
 }
 
-impl Model for Shard {
+impl Model for ShardParts {
     ghost use Rattle.std.specs.Arc.{arc_value};
     ghost use Rattle.shard_state.specs.Shards.{ShardState, shard_state_code, shard_of_fields, IsShardState};
 
@@ -44,7 +44,7 @@ impl Model for Shard {
     ghost invariant = { λ s. IsShardState (shard_of_fields s.number s.clock s.records s.dialogues (arc_value s.directory) s.hlr) };
 }
 
-impl Shard {
+impl ShardParts {
     /// A shard that begins with these records, which are already its part. It has no open dialogue, and its clock is 0.
     #[tactic(auto, using(crate::proofs::OpeningLemmas::opens_part))]
     pub fn of_part(
@@ -53,13 +53,13 @@ impl Shard {
         records: Records,
         directory: Arc<Directory>,
         hlr: IsdnAddress,
-    ) -> Result<Shard, AllocError>
+    ) -> Result<ShardParts, AllocError>
         requires { number < 16 }
         ensures opening { IfOk result (IsOpening number records (arc_value directory) hlr) }
         ensures part { IfOk result (λ shard. (all : RecordMap) → records ≡ part_of all number
             → state_of shard ≡ part (opening (records_of all) (directory_of (arc_value directory)) hlr) number) }
     {
-        Ok(Shard {
+        Ok(ShardParts {
             alloc,
             number,
             clock: 0,
@@ -116,10 +116,10 @@ impl Shard {
     }
 
     /// An equal copy.
-    pub fn try_copy(&self) -> Result<Shard, AllocError>
+    pub fn try_copy(&self) -> Result<ShardParts, AllocError>
         ensures { IfOk result (λ copy. copy ≡ self.now) }
     {
-        Ok(Shard {
+        Ok(ShardParts {
             alloc: self.alloc,
             number: self.number,
             clock: self.clock,
@@ -134,6 +134,6 @@ impl Shard {
     pub fn tick(&mut self, now: u64)
         ensures { self.new ≡ record self.old { clock = max self.old.clock (min now latest_clock) } }
     {
-        self.clock = self.clock.max(now.min(LATEST_CLOCK));
+        self.clock = self.clock.max(now.min(MAX_CLOCK));
     }
 }

@@ -5,11 +5,11 @@ ghost use Rattle.frames.specs.Frames.{IsVerdict};
 ghost use Rattle.machine.specs.Events.{Frame};
 ghost use Rattle.machine.specs.Received.{Read};
 ghost use Rattle.machine.specs.Routing.{route};
-ghost use Rattle.msgarena.specs.Seen.{message as heard, parameter};
+ghost use Rattle.msgarena.specs.Seen.{message as message_of, parameter};
 ghost use Rattle.q773_comp.specs.Seen.{component};
 ghost use Rattle.location.specs.Asking.{IsBeginOf};
 ghost use Rattle.shard_state.specs.Shards.{IsSameShard, directory_of};
-ghost use Rattle.hlrcore.specs.Hearing.{Hears, IsForMe, IsClosing, IsContinueOf};
+ghost use Rattle.hlrcore.specs.Receiving.{Receives, IsForMe, IsClosing, IsContinueOf};
 
 use crate::sending::{aborted, silent};
 use crate::stepper::Stepper;
@@ -18,7 +18,7 @@ use msgarena::{Indication, Message, Parameter, Verdict};
 use q773_comp::Component;
 use shard_state::StepAnswer;
 use std::alloc::AllocError;
-use turns::{begins, closes, continues};
+use turns::{plan_begin, plan_close, plan_continue};
 
 /// P-Abort causes (Q.773).
 const UNRECOGNIZED_TRANSACTION_ID: u8 = 1;
@@ -27,9 +27,9 @@ const RESOURCE_LIMITATION: u8 = 4;
 
 impl Stepper {
     /// Handles a received frame.
-    pub(crate) fn hear(&mut self, indication: &Indication) -> Result<StepAnswer, AllocError>
+    pub(crate) fn receive(&mut self, indication: &Indication) -> Result<StepAnswer, AllocError>
         requires { route (directory_of self.old.directory) (Frame indication.now.from indication.now.verdict) ≡ self.old.shard }
-        ensures heard { IfOk result (λ a. Hears self.old indication.now a self.new) }
+        ensures received { IfOk result (λ a. Receives self.old indication.now a self.new) }
         ensures judged { IsVerdict indication.now.octets indication.now.verdict }
         ensures err { OnErr result (self.new ≡ self.old) }
         ensures same_shard { IsSameShard self.old self.new }
@@ -39,19 +39,19 @@ impl Stepper {
             Verdict::Refuse(origin, cause) => {
                 aborted(self.alloc, indication.from(), *origin, *cause, None)
             }
-            Verdict::Read(message) => self.hear_message(indication, message),
+            Verdict::Read(message) => self.receive_message(indication, message),
         }
     }
 
     /// Handles a received message.
-    fn hear_message(
+    fn receive_message(
         &mut self,
         indication: &Indication,
         message: &Message,
     ) -> Result<StepAnswer, AllocError>
         requires mine { IsForMe self.old indication.now }
-        requires message { indication.now.verdict ≡ Read (heard message.now) }
-        ensures heard { IfOk result (λ a. Hears self.old indication.now a self.new) }
+        requires message { indication.now.verdict ≡ Read (message_of message.now) }
+        ensures received { IfOk result (λ a. Receives self.old indication.now a self.new) }
         ensures err { OnErr result (self.new ≡ self.old) }
         ensures same_shard { IsSameShard self.old self.new }
     {
@@ -83,11 +83,11 @@ impl Stepper {
     ) -> Result<StepAnswer, AllocError>
         requires mine { IsForMe self.old indication.now }
         requires begin { IsBeginOf indication.now.verdict origin (map (component parameter) components.now) }
-        ensures heard { IfOk result (λ a. Hears self.old indication.now a self.new) }
+        ensures received { IfOk result (λ a. Receives self.old indication.now a self.new) }
         ensures err { OnErr result (self.new ≡ self.old) }
         ensures same_shard { IsSameShard self.old self.new }
     {
-        let plan = begins(self.alloc, &self.shard, indication, origin, components)?;
+        let plan = plan_begin(self.alloc, &self.shard, indication, origin, components)?;
         if !self.shard.has_room(&plan) {
             let from = indication.from();
             return aborted(self.alloc, from, origin, RESOURCE_LIMITATION, plan.subject);
@@ -105,12 +105,12 @@ impl Stepper {
     ) -> Result<StepAnswer, AllocError>
         requires mine { IsForMe self.old indication.now }
         requires continues { IsContinueOf indication.now.verdict origin destination (map (component parameter) components.now) }
-        ensures heard { IfOk result (λ a. Hears self.old indication.now a self.new) }
+        ensures received { IfOk result (λ a. Receives self.old indication.now a self.new) }
         ensures err { OnErr result (self.new ≡ self.old) }
         ensures same_shard { IsSameShard self.old self.new }
     {
         let from = indication.from();
-        let found = continues(
+        let found = plan_continue(
             self.alloc,
             &self.shard,
             from,
@@ -135,11 +135,11 @@ impl Stepper {
     ) -> Result<StepAnswer, AllocError>
         requires mine { IsForMe self.old indication.now }
         requires closes { IsClosing indication.now.verdict destination }
-        ensures heard { IfOk result (λ a. Hears self.old indication.now a self.new) }
+        ensures received { IfOk result (λ a. Receives self.old indication.now a self.new) }
         ensures err { OnErr result (self.new ≡ self.old) }
         ensures same_shard { IsSameShard self.old self.new }
     {
-        match closes(self.alloc, &self.shard, destination) {
+        match plan_close(self.alloc, &self.shard, destination) {
             Some(plan) => self.shard.settle(plan, &[]),
             None => Ok(silent(self.alloc)),
         }

@@ -7,19 +7,19 @@ use Rattle.machine.specs.Turns.{turn_of_verdict, close_at}
 use Rattle.machine.specs.Routing.{route}
 use Rattle.frames.specs.Frames.{IsVerdict}
 use Rattle.frames.specs.Octets.{RawFrame}
-use Rattle.msgarena.specs.Hearing.{Hearing}
+use Rattle.msgarena.specs.JudgedFrame.{JudgedFrame}
 use Rattle.shard_state.specs.declared.answer.StepAnswer.{StepAnswer}
 use Rattle.shard_state.specs.Shards.{ShardState, directory_of}
 use Rattle.hlrcore.specs.Leading.{Leads}
 
 -- The frame is for this shard, and its verdict is that of its octets.
-pub record IsForMe (s : ShardState) (heard : Hearing) : Type 0 where
-  pub routed : route (directory_of s.directory) (Frame heard.from heard.verdict) ≡ s.shard
-  pub judged : IsVerdict heard.octets heard.verdict
+pub record IsForMe (s : ShardState) (indication : JudgedFrame) : Type 0 where
+  pub routed : route (directory_of s.directory) (Frame indication.from indication.verdict) ≡ s.shard
+  pub judged : IsVerdict indication.octets indication.verdict
 
 -- The shard handles the frame with this answer.
-abbrev pub Hears : ShardState → Hearing → StepAnswer → ShardState → Type 0
-Hears s heard a t = Leads s (RawFrame heard.from heard.octets) a t
+abbrev pub Receives : ShardState → JudgedFrame → StepAnswer → ShardState → Type 0
+Receives s indication a t = Leads s (RawFrame indication.from indication.octets) a t
 
 -- A Continue with these ids and components, from whatever source.
 abbrev pub IsContinueOf : Verdict → (origin destination : List ℕ) → List Component → Type 0

@@ -1,7 +1,7 @@
 use Rattle.std.proofs.Common.{◌≡◌, refl, subst}
 use Rattle.shard_state.specs.Shards.{ShardState}
 use Rattle.shard_state.proofs.SettleLemmas.{settled_by, taken_by}
-use Rattle.shard_state.proofs.shard.Shard.settle.Goals as goal
+use Rattle.shard_state.proofs.parts.ShardParts.settle.Goals as goal
 
 pub returns-clause-settled : goal.returns-clause-settled
 returns-clause-settled c =

@@ -1,5 +1,5 @@
 use Rattle.shard_state.proofs.RoomLemmas.{overflows}
-use Rattle.shard_state.proofs.shard.Shard.has_room.Goals as goal
+use Rattle.shard_state.proofs.parts.ShardParts.has_room.Goals as goal
 
 pub returns-clause-full : goal.returns-clause-full
 returns-clause-full c =

@@ -4,7 +4,7 @@ use Rattle.msgarena.specs.Seen.{parameter}
 use Rattle.dialogues.specs.Dialogues.{dialogues_of}
 use Rattle.turns.proofs.ContinuingLemmas.{continue_planned}
 use Rattle.turns.proofs.LookLemmas.{continue_for_none}
-use Rattle.turns.proofs.continuing.continues.Goals as goal
+use Rattle.turns.proofs.continuing.plan_continue.Goals as goal
 
 pub returns-in_default : goal.returns-in_default
 returns-in_default c =

@@ -6,7 +6,7 @@ use Rattle.msgarena.specs.Seen.{parameter}
 use Rattle.records.specs.Maps.{DirectoryMap}
 use Rattle.shard_state.specs.Shards.{directory_of, record_at}
 use Rattle.turns.proofs.PlanLemmas.{begin_plan}
-use Rattle.turns.proofs.begin.begins.Goals as goal
+use Rattle.turns.proofs.begin.plan_begin.Goals as goal
 
 pub returns : goal.returns
 returns c name is =
@@ -14,9 +14,9 @@ returns c name is =
     let cs = map (component parameter) c.args.components.now in
     let imsi = c.as_ref.ensures.value in
     let concerned = c.asked-imsi.ensures ∙ ap (λ (d : DirectoryMap). asked (directory_of d) cs) c.directory.ensures in
-    begin_plan s c.asked-imsi.result c.record_of-subscriber.result c.next_or_any-new.result c.new.result c.in_ok-left.left c.unnamed.result c.unnamed.ensures
+    begin_plan s c.asked-imsi.result c.record_of-subscriber.result c.next_or_any-new.result c.new.result c.in_ok-outcome.outcome c.unnamed.result c.unnamed.ensures
     (c.record_of-subscriber.ensures.found ∙ ap (record_at s.records) imsi)
     (subst (λ (i : Option (List ℕ)). IfSome c.record_of-subscriber.result (λ f. i ≡ Some f.now.imsi)) imsi c.record_of-subscriber.ensures.own)
-    c.next_or_any-new.ensures c.in_ok-left.ensures.writable
+    c.next_or_any-new.ensures c.in_ok-outcome.ensures.writable
     c.args.indication.now.from c.args.origin name cs concerned c.new.ensures.items
-    (λ here clock own known_is. c.in_ok-left.ensures.leaves here name (clock ∙ sym c.clock-now.ensures.value) is own known_is)
+    (λ here clock own known_is. c.in_ok-outcome.ensures.leaves here name (clock ∙ sym c.clock-now.ensures.value) is own known_is)

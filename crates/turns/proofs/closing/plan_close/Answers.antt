@@ -4,7 +4,7 @@ use Rattle.records.specs.Maps.{RecordMap}
 use Rattle.dialogues.specs.Dialogues.{dialogues_of}
 use Rattle.turns.proofs.ClosingLemmas.{closing_planned}
 use Rattle.turns.proofs.LookLemmas.{close_for_none}
-use Rattle.turns.proofs.closing.closes.Goals as goal
+use Rattle.turns.proofs.closing.plan_close.Goals as goal
 
 pub returns-in_err-id : goal.returns-in_err-id
 returns-in_err-id c =
@@ -13,6 +13,6 @@ returns-in_err-id c =
 pub returns : goal.returns
 returns c =
     let o = c.in_ok-id.field-0 in
-    closing_planned c.args.shard.now c.args.destination o c.get-subscriber.result c.closes-left.result c.plan_for.result c.in_ok-id.ensures
+    closing_planned c.args.shard.now c.args.destination o c.get-subscriber.result c.closes-outcome.result c.plan_for.result c.in_ok-id.ensures
     (c.get-subscriber.ensures.found ∙ ap (λ (m : RecordMap). finite.get m o.dialogue.subscriber) c.records.ensures)
-    c.closes-left.ensures.leaves c.closes-left.ensures.writable c.plan_for.ensures
+    c.closes-outcome.ensures.leaves c.closes-outcome.ensures.writable c.plan_for.ensures

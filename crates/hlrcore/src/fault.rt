@@ -12,7 +12,7 @@ pub enum StepFault {
     #[error("the event is for another shard")]
     NotMine,
     /// An operator's change would open a dialogue, and the shard is full: 4,096 dialogues are open.
-    #[error("as many dialogues are open as may be")]
+    #[error("the shard is full: 4,096 dialogues are open")]
     NoRoom,
     /// Out of memory.
     #[error("out of memory")]
@@ -21,7 +21,7 @@ pub enum StepFault {
 
 impl From<AllocError> for StepFault {
     ghost use Rattle.std.specs.Prelude.{◌≡◌};
-    ghost use Rattle.hlrcore.specs.declared.answer.StepFault.TheVariants.{Memory};
+    ghost use Rattle.hlrcore.specs.declared.fault.StepFault.TheVariants.{Memory};
 
     ghost from_gives = { λ _ fault. fault ≡ Memory };
 
@@ -32,7 +32,7 @@ impl From<AllocError> for StepFault {
 
 impl<T: Drop> From<AllocFailed<T>> for StepFault {
     ghost use Rattle.std.specs.Prelude.{◌≡◌};
-    ghost use Rattle.hlrcore.specs.declared.answer.StepFault.TheVariants.{Memory};
+    ghost use Rattle.hlrcore.specs.declared.fault.StepFault.TheVariants.{Memory};
 
     ghost from_gives = { λ _ fault. fault ≡ Memory };
 

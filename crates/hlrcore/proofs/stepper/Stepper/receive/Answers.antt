@@ -4,19 +4,19 @@ use Rattle.machine.specs.Sent.{SentAbort, Cause}
 use Rattle.machine.specs.Outcome.{send}
 use Rattle.msgarena.specs.Seen.{seen}
 use Rattle.shard_state.specs.Answers.{Says}
-use Rattle.hlrcore.proofs.HearLemmas.{heard_as}
+use Rattle.hlrcore.proofs.ReceivingLemmas.{received_as}
 use Rattle.hlrcore.proofs.TakenLemmas.{then_ok}
-use Rattle.hlrcore.proofs.stepper.Stepper.hear.Goals as goal
+use Rattle.hlrcore.proofs.stepper.Stepper.receive.Goals as goal
 
-pub returns-in-Discard-clause-heard : goal.returns-in-Discard-clause-heard
-returns-in-Discard-clause-heard c =
-    heard_as _ c.args.indication.now Discard [] _ (record { routed = c.requires; judged = c.verdict.ensures.judged }) (sym c.verdict.ensures.value ∙ ap seen c.in-Discard.is) (λ d. refl) c.silent.ensures
+pub returns-in-Discard-clause-received : goal.returns-in-Discard-clause-received
+returns-in-Discard-clause-received c =
+    received_as _ c.args.indication.now Discard [] _ (record { routed = c.requires; judged = c.verdict.ensures.judged }) (sym c.verdict.ensures.value ∙ ap seen c.in-Discard.is) (λ d. refl) c.silent.ensures
 
-pub returns-in-Refuse-clause-heard : goal.returns-in-Refuse-clause-heard
-returns-in-Refuse-clause-heard c =
+pub returns-in-Refuse-clause-received : goal.returns-in-Refuse-clause-received
+returns-in-Refuse-clause-received c =
     let abort = SentAbort c.in-Refuse.origin (Cause c.in-Refuse.cause) in
     then_ok c.aborted.result
-    (λ a says. heard_as _ c.args.indication.now (Refuse c.in-Refuse.origin c.in-Refuse.cause) (send c.args.indication.now.from abort) a
+    (λ a says. received_as _ c.args.indication.now (Refuse c.in-Refuse.origin c.in-Refuse.cause) (send c.args.indication.now.from abort) a
     (record { routed = c.requires; judged = c.verdict.ensures.judged }) (sym c.verdict.ensures.value ∙ ap seen c.in-Refuse.is) (λ d. refl)
     (subst (λ (to : List ℕ). Says a None None (send to abort)) c.from.ensures says))
     c.aborted.ensures

@@ -13,16 +13,16 @@ use Rattle.q773_comp.specs.declared.component.Component as code
 use Rattle.q773_comp.specs.Seen.{component}
 use Rattle.msgarena.specs.declared.parameter.Parameter.{Parameter}
 use Rattle.msgarena.specs.Seen.{parameter}
-use Rattle.msgarena.specs.Hearing.{Hearing}
+use Rattle.msgarena.specs.JudgedFrame.{JudgedFrame}
 use Rattle.dialogues.specs.Dialogues.{dialogues_of}
 use Rattle.location.specs.Asking.{IsBeginOf}
 use Rattle.shard_state.specs.declared.answer.StepAnswer.{StepAnswer}
 use Rattle.shard_state.specs.declared.plan.Plan.{Plan}
 use Rattle.shard_state.specs.Answers.{Says}
-use Rattle.shard_state.specs.Plans.{CanSettle, HasRoom, Overflows, left, settled}
+use Rattle.shard_state.specs.Plans.{CanSettle, HasRoom, Overflows, plan_outcome, state_after_plan}
 use Rattle.shard_state.specs.Shards.{ShardState, state_of}
 use Rattle.turns.specs.Planning.{IsExpiry, IsPlan, IsPlanOr}
-use Rattle.hlrcore.specs.Hearing.{Hears, IsClosing, IsContinueOf, IsForMe}
+use Rattle.hlrcore.specs.Receiving.{Receives, IsClosing, IsContinueOf, IsForMe}
 use Rattle.hlrcore.specs.Leading.{IsMine, Leads}
 use Rattle.hlrcore.proofs.TakenLemmas.{dismissed_step}
 use Rattle.hlrcore.proofs.SettledLemmas.{open_has_room, open_never_overflows, settled_step, turned_step}
@@ -31,7 +31,7 @@ use Rattle.hlrcore.proofs.TurnLemmas.{close_for_open, close_still, continue_for_
 -- what is settled
 abbrev pub IsSettled : (s t : ShardState) → List (code.Component Parameter) → Plan → StepAnswer → Type 0
 IsSettled s t cs plan a =
-    (state_of t ≡ settled s cs plan) × Says a (taken plan.new (left s cs plan).opens) plan.subject (left s cs plan).sent
+    (state_of t ≡ state_after_plan s cs plan) × Says a (taken plan.new (plan_outcome s cs plan).opens) plan.subject (plan_outcome s cs plan).sent
 
 pub both_ok : {A E X : Type 0} {P Q : A → Type 0} (r : Result A E) → ((a : A) → X → P a → Q a) → OnOk r X → IfOk r P → IfOk r Q
 both_ok (Ok a) f x p = f a x p
@@ -40,7 +40,7 @@ both_ok (Err e) f x p = tt
 pub has_no : (b : Bool) {X : Type 0} → b ≡ true → (X → b ≡ false) → X → ⊥
 has_no b e f x = let t = e in let u = f x in absurd cc
 
-mine_frame : (s : ShardState) (h : Hearing) → IsForMe s h → IsMine s (RawFrame h.from h.octets) (Frame h.from h.verdict)
+mine_frame : (s : ShardState) (h : JudgedFrame) → IsForMe s h → IsMine s (RawFrame h.from h.octets) (Frame h.from h.verdict)
 mine_frame s h mine = record { is_event = (refl, mine.judged); routed = mine.routed }
 
 -- the turn of a verdict in a shard
@@ -49,28 +49,28 @@ unfolding state_of
 turned s from v turn e = e
 
 -- a frame that is answered without a change of state
-pub heard_as : (s : ShardState) (h : Hearing) (w : Verdict) (sent : List Out) (a : StepAnswer) → IsForMe s h → h.verdict ≡ w
-    → ((dialogues : List ℕ → Option Dialogue) → turn_of_verdict dialogues h.from w ≡ Dismissed sent) → Says a None None sent → Hears s h a s
-heard_as s h w sent a mine e turns says =
+pub received_as : (s : ShardState) (h : JudgedFrame) (w : Verdict) (sent : List Out) (a : StepAnswer) → IsForMe s h → h.verdict ≡ w
+    → ((dialogues : List ℕ → Option Dialogue) → turn_of_verdict dialogues h.from w ≡ Dismissed sent) → Says a None None sent → Receives s h a s
+received_as s h w sent a mine e turns says =
     dismissed_step s (RawFrame h.from h.octets) (Frame h.from h.verdict) sent a (mine_frame s h mine)
     (turned s h.from h.verdict (Dismissed sent) (sym (ap (turn_of_verdict (dialogues_of s.dialogues) h.from) e ∙ turns (dialogues_of s.dialogues)))) says
 
 -- ---- a Begin
 
-abbrev IsBeginPlan : ShardState → Hearing → (origin : List ℕ) → List Component → Plan → Type 0
+abbrev IsBeginPlan : ShardState → JudgedFrame → (origin : List ℕ) → List Component → Plan → Type 0
 IsBeginPlan s h origin cs plan =
     (name : Option (List ℕ)) → h.verdict ≡ Read (Begin origin name cs) → IsPlan s (Begins h.from origin name cs) [] plan
 
-pub begin_settled : (s t : ShardState) (h : Hearing) (origin : List ℕ) (cs : List Component) (plan : Plan) (a : StepAnswer) → IsForMe s h → IsBeginOf h.verdict origin cs
+pub begin_settled : (s t : ShardState) (h : JudgedFrame) (origin : List ℕ) (cs : List Component) (plan : Plan) (a : StepAnswer) → IsForMe s h → IsBeginOf h.verdict origin cs
     → IsBeginPlan s h origin cs plan → s.dialogues.shard ≡ s.shard → HasRoom s plan → (Overflows s plan → ⊥)
-    → IsSettled s t [] plan a → Hears s h a t
+    → IsSettled s t [] plan a → Receives s h a t
 begin_settled s t h origin cs plan a mine begin is own room never done =
     let (name, e) = begin in
     settled_step s t (RawFrame h.from h.octets) (Frame h.from h.verdict) (Begins h.from origin name cs) [] plan a (mine_frame s h mine)
     (turned s h.from h.verdict (Begins h.from origin name cs) (sym (ap (turn_of_verdict (dialogues_of s.dialogues) h.from) e))) own (λ S. refl) (is name e) room never done.0 done.1
 
-pub begin_turned_away : (s : ShardState) (h : Hearing) (origin : List ℕ) (cs : List Component) (plan : Plan) (a : StepAnswer) → IsForMe s h → IsBeginOf h.verdict origin cs
-    → IsBeginPlan s h origin cs plan → Overflows s plan → Says a None plan.subject (send h.from (SentAbort origin (Cause 4))) → Hears s h a s
+pub begin_turned_away : (s : ShardState) (h : JudgedFrame) (origin : List ℕ) (cs : List Component) (plan : Plan) (a : StepAnswer) → IsForMe s h → IsBeginOf h.verdict origin cs
+    → IsBeginPlan s h origin cs plan → Overflows s plan → Says a None plan.subject (send h.from (SentAbort origin (Cause 4))) → Receives s h a s
 begin_turned_away s h origin cs plan a mine begin is over says =
     let (name, e) = begin in
     turned_step s (RawFrame h.from h.octets) (Frame h.from h.verdict) h.from origin name cs plan a (mine_frame s h mine)
@@ -81,10 +81,10 @@ begin_turned_away s h origin cs plan a mine begin is over says =
 abbrev seen : List (code.Component Parameter) → List Component
 seen cs = map (component parameter) cs
 
-pub continue_settled : (s t : ShardState) (h : Hearing) (origin destination : List ℕ) (cs : List (code.Component Parameter)) (plan : Plan) (a : StepAnswer) → IsForMe s h
+pub continue_settled : (s t : ShardState) (h : JudgedFrame) (origin destination : List ℕ) (cs : List (code.Component Parameter)) (plan : Plan) (a : StepAnswer) → IsForMe s h
     → IsContinueOf h.verdict origin destination (seen cs)
     → IsPlan s (continue_at h.from origin destination (seen cs) (dialogues_of s.dialogues destination)) cs plan → s.dialogues.shard ≡ s.shard
-    → IsSettled s t cs plan a → Hears s h a t
+    → IsSettled s t cs plan a → Receives s h a t
 continue_settled s t h origin destination cs plan a mine continue is own done =
     let d = dialogues_of s.dialogues destination in
     let turn = continue_at h.from origin destination (seen cs) d in
@@ -98,15 +98,15 @@ pub continue_room : (s : ShardState) (from origin destination : List ℕ) (cs : 
 continue_room s from origin destination cs plan is =
     open_has_room s _ cs plan is (continue_for_open from origin destination (seen cs) (dialogues_of s.dialogues destination))
 
-pub continue_dismissed : (s : ShardState) (h : Hearing) (origin destination : List ℕ) (cs : List (code.Component Parameter)) (sent : List Out) (a : StepAnswer) → IsForMe s h
+pub continue_dismissed : (s : ShardState) (h : JudgedFrame) (origin destination : List ℕ) (cs : List (code.Component Parameter)) (sent : List Out) (a : StepAnswer) → IsForMe s h
     → IsContinueOf h.verdict origin destination (seen cs)
-    → continue_at h.from origin destination (seen cs) (dialogues_of s.dialogues destination) ≡ Dismissed sent → Says a None None sent → Hears s h a s
+    → continue_at h.from origin destination (seen cs) (dialogues_of s.dialogues destination) ≡ Dismissed sent → Says a None None sent → Receives s h a s
 continue_dismissed s h origin destination cs sent a mine continue is says =
     dismissed_step s (RawFrame h.from h.octets) (Frame h.from h.verdict) sent a (mine_frame s h mine)
     (turned s h.from h.verdict (Dismissed sent) (sym (ap (turn_of_verdict (dialogues_of s.dialogues) h.from) continue.1 ∙ is))) says
 
-pub close_settled : (s t : ShardState) (h : Hearing) (destination : List ℕ) (plan : Plan) (a : StepAnswer) → IsForMe s h → IsClosing h.verdict destination
-    → IsPlan s (close_at destination (dialogues_of s.dialogues destination)) [] plan → s.dialogues.shard ≡ s.shard → IsSettled s t [] plan a → Hears s h a t
+pub close_settled : (s t : ShardState) (h : JudgedFrame) (destination : List ℕ) (plan : Plan) (a : StepAnswer) → IsForMe s h → IsClosing h.verdict destination
+    → IsPlan s (close_at destination (dialogues_of s.dialogues destination)) [] plan → s.dialogues.shard ≡ s.shard → IsSettled s t [] plan a → Receives s h a t
 close_settled s t h destination plan a mine closing is own done =
     let d = dialogues_of s.dialogues destination in
     let for = close_for_open destination d in
@@ -117,8 +117,8 @@ close_settled s t h destination plan a mine closing is own done =
 pub close_room : (s : ShardState) (destination : List ℕ) (plan : Plan) → IsPlan s (close_at destination (dialogues_of s.dialogues destination)) [] plan → HasRoom s plan
 close_room s destination plan is = open_has_room s _ [] plan is (close_for_open destination (dialogues_of s.dialogues destination))
 
-pub close_dismissed : (s : ShardState) (h : Hearing) (destination : List ℕ) (a : StepAnswer) → IsForMe s h → IsClosing h.verdict destination
-    → close_at destination (dialogues_of s.dialogues destination) ≡ Dismissed [] → Says a None None [] → Hears s h a s
+pub close_dismissed : (s : ShardState) (h : JudgedFrame) (destination : List ℕ) (a : StepAnswer) → IsForMe s h → IsClosing h.verdict destination
+    → close_at destination (dialogues_of s.dialogues destination) ≡ Dismissed [] → Says a None None [] → Receives s h a s
 close_dismissed s h destination a mine closing is says =
     dismissed_step s (RawFrame h.from h.octets) (Frame h.from h.verdict) [] a (mine_frame s h mine)
     (turned s h.from h.verdict (Dismissed []) (sym (closing (dialogues_of s.dialogues) h.from ∙ is))) says
@@ -151,17 +151,17 @@ change_settled s t imsi change plan a mine is own room never done =
 
 -- ---- the same, of the state that the shard is part of, and of what was found
 
-pub begin_taken : (s0 s t : ShardState) (h : Hearing) (origin : List ℕ) (cs : List Component) (plan : Plan) (a : StepAnswer) → s0 ≡ s → IsForMe s h
+pub begin_taken : (s0 s t : ShardState) (h : JudgedFrame) (origin : List ℕ) (cs : List Component) (plan : Plan) (a : StepAnswer) → s0 ≡ s → IsForMe s h
     → IsBeginOf h.verdict origin cs → IsBeginPlan s0 h origin cs plan → s0.dialogues.shard ≡ s0.shard → HasRoom s0 plan → (Overflows s0 plan → ⊥)
-    → IsSettled s0 t [] plan a → Hears s h a t
+    → IsSettled s0 t [] plan a → Receives s h a t
 begin_taken s0 s t h origin cs plan a view mine begin is own room never done =
-    subst (λ x. Hears x h a t) view (begin_settled s0 t h origin cs plan a (subst (λ x. IsForMe x h) (sym view) mine) begin is own room never done)
+    subst (λ x. Receives x h a t) view (begin_settled s0 t h origin cs plan a (subst (λ x. IsForMe x h) (sym view) mine) begin is own room never done)
 
-pub begin_refused : (s0 s : ShardState) (h : Hearing) (from origin : List ℕ) (cs : List Component) (plan : Plan) (a : StepAnswer) → s0 ≡ s → IsForMe s h
+pub begin_refused : (s0 s : ShardState) (h : JudgedFrame) (from origin : List ℕ) (cs : List Component) (plan : Plan) (a : StepAnswer) → s0 ≡ s → IsForMe s h
     → IsBeginOf h.verdict origin cs → from ≡ h.from → IsBeginPlan s0 h origin cs plan → Overflows s0 plan
-    → Says a None plan.subject (send from (SentAbort origin (Cause 4))) → Hears s h a s
+    → Says a None plan.subject (send from (SentAbort origin (Cause 4))) → Receives s h a s
 begin_refused s0 s h from origin cs plan a view mine begin source is over says =
-    subst (λ x. Hears x h a x) view (begin_turned_away s0 h origin cs plan a (subst (λ x. IsForMe x h) (sym view) mine) begin is over
+    subst (λ x. Receives x h a x) view (begin_turned_away s0 h origin cs plan a (subst (λ x. IsForMe x h) (sym view) mine) begin is over
     (subst (λ to. Says a None plan.subject (send to (SentAbort origin (Cause 4)))) source says))
 
 -- the turn of a Continue from this source
@@ -177,18 +177,18 @@ pub found_room : (s : ShardState) (from origin destination : List ℕ) (cs : Lis
     → IsFound s from origin destination cs found → found ≡ Some plan → HasRoom s plan
 found_room s from origin destination cs found plan is e = continue_room s from origin destination cs plan (subst (IsFound s from origin destination cs) e is)
 
-pub continue_taken : (s0 s t : ShardState) (h : Hearing) (from origin destination : List ℕ) (cs : List (code.Component Parameter)) (found : Option Plan) (plan : Plan) (a : StepAnswer)
+pub continue_taken : (s0 s t : ShardState) (h : JudgedFrame) (from origin destination : List ℕ) (cs : List (code.Component Parameter)) (found : Option Plan) (plan : Plan) (a : StepAnswer)
     → s0 ≡ s → IsForMe s h → IsContinueOf h.verdict origin destination (seen cs) → from ≡ h.from → IsFound s0 from origin destination cs found → found ≡ Some plan
-    → s0.dialogues.shard ≡ s0.shard → IsSettled s0 t cs plan a → Hears s h a t
+    → s0.dialogues.shard ≡ s0.shard → IsSettled s0 t cs plan a → Receives s h a t
 continue_taken s0 s t h from origin destination cs found plan a view mine continue source is e own done =
-    subst (λ x. Hears x h a t) view (continue_settled s0 t h origin destination cs plan a (subst (λ x. IsForMe x h) (sym view) mine) continue
+    subst (λ x. Receives x h a t) view (continue_settled s0 t h origin destination cs plan a (subst (λ x. IsForMe x h) (sym view) mine) continue
     (subst (λ f. IsFound s0 f origin destination cs (Some plan)) source (subst (IsFound s0 from origin destination cs) e is)) own done)
 
-pub continue_left : (s0 s : ShardState) (h : Hearing) (from origin destination : List ℕ) (cs : List (code.Component Parameter)) (found : Option Plan) (a : StepAnswer)
+pub continue_left : (s0 s : ShardState) (h : JudgedFrame) (from origin destination : List ℕ) (cs : List (code.Component Parameter)) (found : Option Plan) (a : StepAnswer)
     → s0 ≡ s → IsForMe s h → IsContinueOf h.verdict origin destination (seen cs) → from ≡ h.from → IsFound s0 from origin destination cs found → found ≡ None
-    → Says a None None (send from (SentAbort origin (Cause 1))) → Hears s h a s
+    → Says a None None (send from (SentAbort origin (Cause 1))) → Receives s h a s
 continue_left s0 s h from origin destination cs found a view mine continue source is e says =
-    subst (λ x. Hears x h a x) view (continue_dismissed s0 h origin destination cs (send h.from (SentAbort origin (Cause 1))) a (subst (λ x. IsForMe x h) (sym view) mine) continue
+    subst (λ x. Receives x h a x) view (continue_dismissed s0 h origin destination cs (send h.from (SentAbort origin (Cause 1))) a (subst (λ x. IsForMe x h) (sym view) mine) continue
     (subst (λ f. IsFound s0 f origin destination cs None) source (subst (IsFound s0 from origin destination cs) e is))
     (subst (λ to. Says a None None (send to (SentAbort origin (Cause 1)))) source says))
 
@@ -202,15 +202,15 @@ closed_can s destination found plan is e = (subst (IsClosed s destination) e is)
 pub closed_room : (s : ShardState) (destination : List ℕ) (found : Option Plan) (plan : Plan) → IsClosed s destination found → found ≡ Some plan → HasRoom s plan
 closed_room s destination found plan is e = close_room s destination plan (subst (IsClosed s destination) e is)
 
-pub close_taken : (s0 s t : ShardState) (h : Hearing) (destination : List ℕ) (found : Option Plan) (plan : Plan) (a : StepAnswer) → s0 ≡ s → IsForMe s h
-    → IsClosing h.verdict destination → IsClosed s0 destination found → found ≡ Some plan → s0.dialogues.shard ≡ s0.shard → IsSettled s0 t [] plan a → Hears s h a t
+pub close_taken : (s0 s t : ShardState) (h : JudgedFrame) (destination : List ℕ) (found : Option Plan) (plan : Plan) (a : StepAnswer) → s0 ≡ s → IsForMe s h
+    → IsClosing h.verdict destination → IsClosed s0 destination found → found ≡ Some plan → s0.dialogues.shard ≡ s0.shard → IsSettled s0 t [] plan a → Receives s h a t
 close_taken s0 s t h destination found plan a view mine closing is e own done =
-    subst (λ x. Hears x h a t) view (close_settled s0 t h destination plan a (subst (λ x. IsForMe x h) (sym view) mine) closing (subst (IsClosed s0 destination) e is) own done)
+    subst (λ x. Receives x h a t) view (close_settled s0 t h destination plan a (subst (λ x. IsForMe x h) (sym view) mine) closing (subst (IsClosed s0 destination) e is) own done)
 
-pub close_left : (s0 s : ShardState) (h : Hearing) (destination : List ℕ) (found : Option Plan) (a : StepAnswer) → s0 ≡ s → IsForMe s h → IsClosing h.verdict destination
-    → IsClosed s0 destination found → found ≡ None → Says a None None [] → Hears s h a s
+pub close_left : (s0 s : ShardState) (h : JudgedFrame) (destination : List ℕ) (found : Option Plan) (a : StepAnswer) → s0 ≡ s → IsForMe s h → IsClosing h.verdict destination
+    → IsClosed s0 destination found → found ≡ None → Says a None None [] → Receives s h a s
 close_left s0 s h destination found a view mine closing is e says =
-    subst (λ x. Hears x h a x) view (close_dismissed s0 h destination a (subst (λ x. IsForMe x h) (sym view) mine) closing (subst (IsClosed s0 destination) e is) says)
+    subst (λ x. Receives x h a x) view (close_dismissed s0 h destination a (subst (λ x. IsForMe x h) (sym view) mine) closing (subst (IsClosed s0 destination) e is) says)
 
 -- the turn of an expiry
 pub expiry_can : (s : ShardState) (found : Option Plan) (plan : Plan) → IsExpiry s found → found ≡ Some plan → CanSettle s plan
