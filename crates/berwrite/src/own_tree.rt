@@ -14,7 +14,7 @@ use x690::Tag;
 /// An element that is to be sent: its tag with its contents, or with its children.
 ///
 /// Limitation: writing, copying and dropping recurse over the levels, whose number is not limited.
-#[derive(Debug, Drop)]
+#[derive(Drop)]
 pub enum OwnTree {
     Primitive(Tag, Vec<u8>),
     Constructed(Tag, Vec<OwnTree>),

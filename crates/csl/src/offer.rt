@@ -5,7 +5,7 @@ use hlr_types::Tid;
 use q773_comp::Rejection;
 
 /// What the peer may invoke in a dialogue.
-#[derive(Clone, Copy, Debug, PartialEq, Eq)]
+#[derive(Clone, Copy, PartialEq, Eq)]
 pub struct Offer {
     /// The invoke id of the peer's own open Invoke.
     pub open_id: Option<i8>,
@@ -18,7 +18,7 @@ pub struct Offer {
 }
 
 /// The own invocations of a dialogue after received components (profile).
-#[derive(Clone, Copy, Debug, PartialEq, Eq)]
+#[derive(Clone, Copy, PartialEq, Eq)]
 pub enum Conclusion {
     /// One was concluded by an error or a Reject.
     HasFailed,
@@ -29,7 +29,7 @@ pub enum Conclusion {
 }
 
 /// What received components do to the own invocations of a dialogue.
-#[derive(Debug, Drop)]
+#[derive(Drop)]
 pub struct Effect {
     /// The Rejects to be sent, in the order of what they reject.
     pub rejects: Vec<Rejection>,
@@ -40,7 +40,7 @@ pub struct Effect {
 }
 
 /// An own invocation whose timer is due.
-#[derive(Clone, Copy, Debug, PartialEq, Eq)]
+#[derive(Clone, Copy, PartialEq, Eq)]
 pub struct Due {
     /// The local transaction id of its dialogue.
     pub id: Tid,

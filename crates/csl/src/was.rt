@@ -1,7 +1,7 @@
 //! The states of an own invocation.
 
 /// The state of an own invocation that is not Idle (Q.774, operations of class 1).
-#[derive(Clone, Copy, Debug, PartialEq, Eq)]
+#[derive(Clone, Copy, PartialEq, Eq)]
 pub enum Was {
     /// Operation Sent: it waits for its answer.
     Sent,

@@ -8,7 +8,7 @@ use hlr_types::Imsi;
 use tsl::Transaction;
 
 /// An open dialogue, without its invocations.
-#[derive(Clone, Copy, Debug, PartialEq, Eq)]
+#[derive(Clone, Copy, PartialEq, Eq)]
 pub struct Dialogue {
     pub subscriber: Imsi,
     pub transaction: Transaction,

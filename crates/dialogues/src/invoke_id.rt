@@ -6,7 +6,7 @@ ghost use Rattle.std.specs.Int.{w8};
 use std::marker::Model;
 
 /// An invoke id (Q.773), -128 to 127.
-#[derive(Clone, Copy, PartialEq, Eq, Debug)]
+#[derive(Clone, Copy, PartialEq, Eq)]
 pub struct InvokeId {
     number: i8,
 }

@@ -5,7 +5,7 @@ use hlr_types::{Peer, Register};
 use mapargs_loc::CancellationType;
 
 /// The MAP operation that a dialogue is for (TS 29.002).
-#[derive(Clone, Copy, Debug, PartialEq, Eq)]
+#[derive(Clone, Copy, PartialEq, Eq)]
 pub enum Kind {
     /// updateLocation (8.1.2), opened by the peer: the register in its argument, and the invoke id to answer.
     Update {

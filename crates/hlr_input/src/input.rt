@@ -9,7 +9,7 @@ use std::io::{ErrorKind, Read};
 pub const MAX_FILE_OCTETS: usize = 16_777_216;
 
 /// Why a file was not read.
-#[derive(Clone, Copy, PartialEq, Eq, Debug, Drop)]
+#[derive(Clone, Copy, PartialEq, Eq, Drop)]
 pub enum InputFault {
     /// A read failed, or the file is longer than the limit.
     Unreadable,

@@ -21,7 +21,7 @@ pub enum Item<'a> {
 }
 
 /// Why a line was not read.
-#[derive(Clone, Copy, PartialEq, Eq, Debug, Drop)]
+#[derive(Clone, Copy, PartialEq, Eq, Drop)]
 pub enum LineFault {
     /// The line has none of the forms.
     Bad,

@@ -24,7 +24,7 @@ pub struct Options {
 }
 
 /// Why the words were not read.
-#[derive(Clone, Copy, PartialEq, Eq, Debug, Drop)]
+#[derive(Clone, Copy, PartialEq, Eq, Drop)]
 pub enum WordsFault {
     /// The words are no command line of the program.
     Line,

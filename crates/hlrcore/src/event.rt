@@ -16,7 +16,7 @@ use thiserror::Error;
 
 /// An event as received: a frame with its source address, a clock value for a shard, the expiry of a shard's least timer that is
 /// due, or an operator's change.
-#[derive(Debug, Drop)]
+#[derive(Drop)]
 pub enum RawEvent {
     Frame { from: Peer, octets: Vec<u8> },
     Clock { shard: ShardNumber, now: u64 },

@@ -7,7 +7,7 @@ use hlr_types::{Register, Tid};
 use outgoing::Addressed;
 
 /// How the subscriber's record changes (TS 23.012): only what is written, so that the rest of the record is not copied.
-#[derive(Clone, Copy, Debug, PartialEq, Eq)]
+#[derive(Clone, Copy, PartialEq, Eq)]
 pub enum After {
     /// It stays the same, or there is none.
     Same,
@@ -26,7 +26,7 @@ pub enum After {
 }
 
 /// A dialogue that opens with the new id.
-#[derive(Clone, Copy, Debug)]
+#[derive(Clone, Copy)]
 pub struct Opening {
     pub dialogue: Dialogue,
     /// How many operations are invoked in it at once, with the invoke ids 1, 2, ..
@@ -36,7 +36,7 @@ pub struct Opening {
 }
 
 /// What happens to the dialogue that an event names. Another may open only if it closes or none is named.
-#[derive(Clone, Copy, Debug)]
+#[derive(Clone, Copy)]
 pub enum DialogueChange {
     /// It closes, or none is named.
     Gone { opens: Option<Opening> },
@@ -48,7 +48,7 @@ pub enum DialogueChange {
 
 /// The outcome of a procedure: the change of the record, what happens to the named dialogue, the dialogue that opens, a
 /// message, and the Begin of a cancel that follows it. Building it does not allocate.
-#[derive(Debug, Drop)]
+#[derive(Drop)]
 pub struct Outcome {
     pub after: After,
     pub stays: DialogueChange,

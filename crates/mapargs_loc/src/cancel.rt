@@ -12,7 +12,7 @@ use hlr_types::Imsi;
 use std::alloc::Global;
 
 /// Why a location is cancelled (TS 29.002, CancellationType).
-#[derive(Clone, Copy, Debug, PartialEq, Eq)]
+#[derive(Clone, Copy, PartialEq, Eq)]
 pub enum CancellationType {
     UpdateProcedure,
     SubscriptionWithdraw,

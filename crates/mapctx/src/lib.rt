@@ -17,7 +17,7 @@ pub enum Context {
 }
 
 /// What the name of a context says.
-#[derive(Clone, Copy, Debug, PartialEq, Eq)]
+#[derive(Clone, Copy, PartialEq, Eq)]
 pub enum Named {
     /// It is the name of this context.
     Known(Context),

@@ -17,7 +17,7 @@ use msgarena::{ContextName, Indication, Message, Parameter, Verdict};
 use q773_comp::Component;
 
 /// What is decided on a Begin before its components are handled.
-#[derive(Clone, Copy, Debug, PartialEq, Eq)]
+#[derive(Clone, Copy, PartialEq, Eq)]
 pub enum Accepted {
     /// It begins in this context, in which a peer may begin.
     Go(Context),

@@ -3,7 +3,7 @@
 use msgarena::ContextName;
 
 /// What an Abort carries.
-#[derive(Clone, Copy, Debug, PartialEq, Eq)]
+#[derive(Clone, Copy, PartialEq, Eq)]
 pub enum Why {
     /// Nothing.
     NoCause,

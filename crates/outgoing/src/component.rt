@@ -4,7 +4,7 @@ use hlr_types::{Imsi, IsdnAddress, Lmsi, ShortList};
 use mapargs_loc::CancellationType;
 
 /// A component that a procedure sends, except a subscriber's data.
-#[derive(Clone, Copy, Debug, PartialEq, Eq)]
+#[derive(Clone, Copy, PartialEq, Eq)]
 pub enum SentComponent {
     /// An Invoke of cancelLocation (8.1.3, MAP_CANCEL_LOCATION).
     Cancel {
@@ -38,7 +38,7 @@ pub enum SentComponent {
 
 /// A subscriber's data, in one or more insertSubscriberData (8.8.1): the codes in order, eight to an insert, and the MSISDN in
 /// the first. The IMSI is included if no update names the subscriber.
-#[derive(Clone, Copy, Debug, PartialEq, Eq)]
+#[derive(Clone, Copy, PartialEq, Eq)]
 pub struct SubscriberData {
     pub imsi: Option<Imsi>,
     pub msisdn: IsdnAddress,
@@ -46,7 +46,7 @@ pub struct SubscriberData {
 }
 
 /// What a message carries from a procedure.
-#[derive(Clone, Copy, Debug, PartialEq, Eq)]
+#[derive(Clone, Copy, PartialEq, Eq)]
 pub enum Components {
     Nothing,
     One(SentComponent),

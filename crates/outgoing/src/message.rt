@@ -8,7 +8,7 @@ use q773_comp::Rejection;
 
 /// A message that is sent. The Rejects come first, then the procedure's own components. A context in a Begin is that of its
 /// AARQ, in a Continue or an End that of the accepting AARE.
-#[derive(Debug, Drop)]
+#[derive(Drop)]
 pub enum SentMessage {
     Begin {
         origin: Tid,
@@ -35,7 +35,7 @@ pub enum SentMessage {
 }
 
 /// A message with its destination address.
-#[derive(Debug, Drop)]
+#[derive(Drop)]
 pub struct Addressed {
     pub to: Peer,
     pub message: SentMessage,

@@ -16,7 +16,7 @@ use frames::tags::{
 use std::alloc::Global;
 
 /// A Reject that is sent. Without an id it rejects a component that had none.
-#[derive(Clone, Copy, Debug, PartialEq, Eq)]
+#[derive(Clone, Copy, PartialEq, Eq)]
 pub struct Rejection {
     pub id: Option<i8>,
     pub side: Side,
@@ -24,7 +24,7 @@ pub struct Rejection {
 }
 
 /// A component that is sent, with the tree of its parameter.
-#[derive(Debug, Drop)]
+#[derive(Drop)]
 pub enum OutComponent {
     Invoke {
         id: i8,

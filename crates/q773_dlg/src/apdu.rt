@@ -22,7 +22,7 @@ pub struct Response<'a> {
 /// A dialogue APDU.
 ///
 /// Limitation: user information, which may end each of them, is accepted and not kept (profile).
-#[derive(Clone, Copy, Debug, PartialEq, Eq)]
+#[derive(Clone, Copy, PartialEq, Eq)]
 pub enum Apdu<'a> {
     /// A request, with the application context's name.
     Aarq(&'a [u8]),

@@ -16,7 +16,7 @@ use std::alloc::Global;
 ///
 /// Its dialogue portion is given whole, `6B` and what it holds, and its components one by one, in order. Both are moved
 /// into it; if an allocation fails they are dropped.
-#[derive(Debug, Drop)]
+#[derive(Drop)]
 pub struct OutMessage {
     tree: OwnTree,
 }

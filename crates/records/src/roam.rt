@@ -4,7 +4,7 @@ use hlr_types::Digits;
 use std::alloc::AllocError;
 
 /// Which VLRs may serve a subscriber.
-#[derive(Debug, Drop)]
+#[derive(Drop)]
 pub enum Roam {
     /// Every VLR.
     Everywhere,

@@ -4,14 +4,14 @@ use crate::sent_frames::Frames;
 use hlr_types::{Imsi, Peer, Tid};
 
 /// A frame to send, with its destination address.
-#[derive(Debug, PartialEq, Eq, Drop)]
+#[derive(PartialEq, Eq, Drop)]
 pub struct Out {
     pub to: Peer,
     pub octets: Vec<u8>,
 }
 
 /// The answer of a step: the frames to send, in order; the local id that it took; its subject.
-#[derive(Debug, Drop)]
+#[derive(Drop)]
 pub struct StepAnswer {
     pub outs: Frames,
     pub id: Option<Tid>,

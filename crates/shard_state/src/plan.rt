@@ -6,7 +6,7 @@ use hlr_types::{Imsi, Peer, RemoteId, Tid};
 use location::{DialogueChange, Outcome};
 
 /// The open dialogue that an event names.
-#[derive(Clone, Copy, Debug)]
+#[derive(Clone, Copy)]
 pub enum Named {
     /// None.
     Nothing,
@@ -22,7 +22,7 @@ pub enum Named {
 
 /// What an event results in: the IMSI that it concerns, and the subject of its step; the open dialogue that it names; the id for
 /// a dialogue that opens; the codes of an operator's change; and the procedure's outcome.
-#[derive(Debug, Drop)]
+#[derive(Drop)]
 pub struct Plan {
     pub imsi: Option<Imsi>,
     pub subject: Option<Imsi>,

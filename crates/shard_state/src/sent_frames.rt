@@ -9,7 +9,7 @@ use std::marker::Model;
 
 /// The frames that a step sends, in order. There are two copies, one to send and one for the journal. Both are made before
 /// anything changes, since a step cannot fail once it has begun to change the state.
-#[derive(Debug, Drop)]
+#[derive(Drop)]
 pub struct Frames {
     sent: Vec<Out>,
     kept: Vec<Out>,

@@ -4,7 +4,7 @@ use hlr_types::{Imsi, Tid};
 use hlrcore::{Out, RawEvent, State};
 
 /// A handled event: the event as received, the local id that its step took, its subject, and the frames sent, in order.
-#[derive(Debug, Drop)]
+#[derive(Drop)]
 pub struct Entry {
     pub event: RawEvent,
     pub id: Option<Tid>,
@@ -13,7 +13,7 @@ pub struct Entry {
 }
 
 /// The position of an event's entry in the journal, counted from 0, and the frames to send, in order.
-#[derive(Debug, Drop)]
+#[derive(Drop)]
 pub struct Handled {
     pub position: usize,
     pub outs: Vec<Out>,

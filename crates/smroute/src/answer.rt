@@ -3,7 +3,7 @@
 use hlr_types::{Imsi, IsdnAddress, Lmsi};
 
 /// The answer to a sendRoutingInfoForSM (TS 29.002, 12.1): an error code, or the route.
-#[derive(Clone, Copy, Debug, PartialEq, Eq)]
+#[derive(Clone, Copy, PartialEq, Eq)]
 pub enum RouteAnswer {
     /// The code of unknownSubscriber, absentSubscriberSM or teleserviceNotProvisioned.
     NoRoute(u8),

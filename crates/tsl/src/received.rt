@@ -5,7 +5,7 @@ ghost use Rattle.tsl.specs.Received.{AreReceivedRows};
 use hlr_types::{RemoteId, Tid};
 
 /// The transaction ids of a received Continue, End or Abort (Q.773). The destination id is as received, 1 to 4 octets.
-#[derive(Clone, Copy, Debug, PartialEq, Eq)]
+#[derive(Clone, Copy, PartialEq, Eq)]
 pub enum Head {
     Continue {
         origin: RemoteId,
@@ -20,7 +20,7 @@ pub enum Head {
 }
 
 /// The transaction that a message is for (Q.774).
-#[derive(Clone, Copy, Debug, PartialEq, Eq)]
+#[derive(Clone, Copy, PartialEq, Eq)]
 pub enum Received {
     /// The open transaction with this id.
     For(Tid),

@@ -6,7 +6,7 @@ ghost use Rattle.tsl.specs.Received.{takes};
 use hlr_types::{Peer, RemoteId};
 
 /// An open transaction (Q.774): in Initiation Sent while the peer's id is not known, otherwise Active. Frames go to the peer.
-#[derive(Clone, Copy, Debug, PartialEq, Eq)]
+#[derive(Clone, Copy, PartialEq, Eq)]
 pub struct Transaction {
     pub peer: Peer,
     pub remote: Option<RemoteId>,

@@ -51,7 +51,7 @@ impl From<AllocError> for TslFault {
 }
 
 /// A transaction and its id.
-#[derive(Clone, Copy, Debug)]
+#[derive(Clone, Copy)]
 struct Entry {
     id: Tid,
     transaction: Transaction,

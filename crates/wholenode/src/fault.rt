@@ -26,7 +26,7 @@ pub enum Cause {
 }
 
 /// A run that stopped early: the events handled, in order, and why the next one was not.
-#[derive(Debug, Drop)]
+#[derive(Drop)]
 pub struct NodeFault {
     pub done: Vec<Handled>,
     pub cause: Cause,

@@ -40,7 +40,7 @@ impl Read for Given<'_> {
 }
 
 /// The result of a run: its status, and what it prints on standard output and standard error.
-#[derive(Debug, PartialEq, Eq, Drop)]
+#[derive(PartialEq, Eq, Drop)]
 pub struct Ran {
     pub status: u8,
     pub printed: Vec<u8>,

@@ -7,7 +7,7 @@ use std::alloc::{AllocError, Global};
 use std::marker::Model;
 
 /// The number of a job, at least 1.
-#[derive(Clone, Copy, PartialEq, Eq, PartialOrd, Ord, Debug)]
+#[derive(Clone, Copy, PartialEq, Eq, PartialOrd, Ord)]
 pub struct JobNumber {
     value: u64,
 }
@@ -47,7 +47,7 @@ impl JobNumber {
 }
 
 /// An event to be handled, as received, with a number by which its receipt is found.
-#[derive(Debug, Drop)]
+#[derive(Drop)]
 pub struct Job {
     pub number: JobNumber,
     pub event: RawEvent,

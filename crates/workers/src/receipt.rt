@@ -8,7 +8,7 @@ use std::marker::Model;
 /// The result of a job: where its entry stands and what to send, or why it has none. A refused job has changed nothing.
 ///
 /// Limitation: that the entry stands there is known only from `reconcile`.
-#[derive(Debug, Drop)]
+#[derive(Drop)]
 pub struct Receipt {
     pub job: JobNumber,
     pub answer: Result<Placed, Refusal>,

@@ -9,7 +9,7 @@ use crossbeam_channel::{Pass, RuledReceiver, RuledSender};
 use std::collections::LinkedList;
 
 /// A message to a worker: a job, or the order to stop.
-#[derive(Debug, Drop)]
+#[derive(Drop)]
 pub enum Work {
     Do(Job),
     Stop,

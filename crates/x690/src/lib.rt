@@ -9,7 +9,7 @@ pub mod examples;
 ghost use Rattle.x690.specs.Laws.{OneTree, EncSpells, EncIsOctets, FewestLengthOctets, FewestOctets, OneReading};
 
 /// The class of a tag (X.690, 8.1.2.2).
-#[derive(Clone, Copy, Debug, PartialEq, Eq)]
+#[derive(Clone, Copy, PartialEq, Eq)]
 pub enum Class {
     Universal,
     Application,
@@ -20,7 +20,7 @@ pub enum Class {
 /// A tag, with whether its element is constructed (X.690, 8.1.2).
 ///
 /// Limitation: a tag that is read has a number below 2^28, since at most four octets of a long number are read.
-#[derive(Clone, Copy, Debug, PartialEq, Eq)]
+#[derive(Clone, Copy, PartialEq, Eq)]
 pub struct Tag {
     pub class: Class,
     pub constructed: bool,
