@@ -118,7 +118,7 @@ fn expired(alloc: Global, vlr: &[u8]) -> Option<Outcome> {
 fn is_repeated(alloc: Global) -> Option<bool> {
     let elsewhere = expired(alloc, b"447700900012")?;
     let serving = expired(alloc, b"447700900011")?;
-    Some(invoked(&elsewhere) == 1 && elsewhere.second.is_some() && invoked(&serving) == 0)
+    Some(invoked(&elsewhere) == 1 && elsewhere.cancel.is_some() && invoked(&serving) == 0)
 }
 
 /// Whether a withdrawal opens a cancel.
