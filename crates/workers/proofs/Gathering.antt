@@ -18,9 +18,11 @@ one_more : (shares joined : ℕ) (jobs : List Job) (workers : ℕ) (others mine 
 one_more shares joined jobs workers others mine all v u x h served is now =
     let taken : x.taken ≡ v.taken ++ u.taken = ap (λ (y : Hand). y.taken) now in
     record {
+      lots = h.lots;
+      all = h.all;
       sent = now
           ∙ ap₂ (λ (y z : Hand). hand y.sends (y.shares + z.shares) y.sent (v.taken ++ u.taken)) h.sent served.own
-          ∙ ap (hand true (shares + 1) (batch_of jobs workers)) (sym taken);
+          ∙ ap (hand true (shares + 1) (batch_of h.lots workers)) (sym taken);
       stopped = let a = ap stops_in taken in let b = stops_in-append v.taken u.taken in let c = h.stopped in let d = served.stopped in omega arith;
       answered = ap numbers_of taken ∙ numbers_of-append v.taken u.taken ∙ ap₂ ◌++◌ h.answered (sym (served.answered.1 refl)) ∙ sym (map-append (λ r. r.job) others mine) ∙ ap jobs_of (sym is);
     }

@@ -2,13 +2,14 @@
 use Rattle.std.proofs.Common.{◌≡◌, ℕ, zero, suc, ◌<◌, eqb, cond, List, [], ◌∷◌, ◌++◌, map, replicate, sym, refl, ap, ◌∙◌, arith, append-nil}
 use Rattle.std.specs.Prelude.{sum_by}
 use Rattle.std.specs.List.Sorted.{IsPermutation}
-use Rattle.std.proofs.lemmas.List.Sums.{sum_by-cons}
+use Rattle.std.proofs.lemmas.List.{map-append}
+use Rattle.std.proofs.lemmas.List.Sums.{sum_by-cons, sum_by-append}
 use Rattle.frames.specs.Account.{Job}
 use Rattle.workers.specs.declared.rule.Work.{Work}
 use Rattle.workers.specs.declared.rule.Work.TheVariants.{Do, Stop}
 use Rattle.workers.specs.declared.rule.Hand.{Hand}
 use Rattle.workers.specs.Hands.{MatchesAll}
-use Rattle.workers.specs.Batch.{HasGathered, batch_of, numbers_of, stops_in}
+use Rattle.workers.specs.Batch.{HasGathered, batch_of, jobs_in, numbers_of, stops_in}
 use Rattle.frames_laws.proofs.Counts.{count, permutation_of_counts}
 use Rattle.workers.proofs.Serving.{stops_in-append}
 
@@ -18,38 +19,40 @@ stop_weight (Do _) = 0
 stop_weight Stop = 1
 
 abbrev job_weight : ℕ → Work → ℕ
-job_weight n (Do job) = cond (eqb job.number n) 1 0
+job_weight n (Do lot) = count n (map (λ j. j.number) lot)
 job_weight n Stop = 0
 
 stops_in-weight : (ws : List Work) → stops_in ws ≡ sum_by stop_weight ws
 stops_in-weight [] = refl
-stops_in-weight (Do job ∷ ws) = let rest = stops_in-weight ws in let a = sum_by-cons stop_weight (Do job) ws in omega arith
+stops_in-weight (Do lot ∷ ws) = let rest = stops_in-weight ws in let a = sum_by-cons stop_weight (Do lot) ws in omega arith
 stops_in-weight (Stop ∷ ws) = let rest = stops_in-weight ws in let a = sum_by-cons stop_weight Stop ws in omega arith
 
 count-numbers_of : (n : ℕ) (ws : List Work) → count n (numbers_of ws) ≡ sum_by (job_weight n) ws
 count-numbers_of n [] = refl
-count-numbers_of n (Do job ∷ ws) =
-    let rest = count-numbers_of n ws in let a = sum_by-cons (job_weight n) (Do job) ws in let b = sum_by-cons (λ m. cond (eqb m n) 1 0) job.number (numbers_of ws) in omega arith
+count-numbers_of n (Do lot ∷ ws) =
+    let rest = count-numbers_of n ws in let a = sum_by-cons (job_weight n) (Do lot) ws in
+    let b = sum_by-append (λ m. cond (eqb m n) 1 0) (map (λ j. j.number) lot) (numbers_of ws) in omega arith
 count-numbers_of n (Stop ∷ ws) = let rest = count-numbers_of n ws in let a = sum_by-cons (job_weight n) Stop ws in omega arith
 
-numbers_of-batch_of : (jobs : List Job) (stops : ℕ) → numbers_of (batch_of jobs stops) ≡ map (λ j. j.number) jobs
+numbers_of-batch_of : (lots : List (List Job)) (stops : ℕ) → numbers_of (batch_of lots stops) ≡ map (λ j. j.number) (jobs_in lots)
 numbers_of-batch_of [] zero = refl
 numbers_of-batch_of [] (suc stops) = numbers_of-batch_of [] stops
-numbers_of-batch_of (j ∷ jobs) stops = ap (λ l. j.number ∷ l) (numbers_of-batch_of jobs stops)
+numbers_of-batch_of (l ∷ lots) stops =
+    ap (λ ns. map (λ j. j.number) l ++ ns) (numbers_of-batch_of lots stops) ∙ sym (map-append (λ (j : Job). j.number) l (jobs_in lots))
 
-stops_in-batch_of : (jobs : List Job) (stops : ℕ) → stops_in (batch_of jobs stops) ≡ stops
+stops_in-batch_of : (lots : List (List Job)) (stops : ℕ) → stops_in (batch_of lots stops) ≡ stops
 stops_in-batch_of [] zero = refl
 stops_in-batch_of [] (suc stops) = let rest = stops_in-batch_of [] stops in omega arith
-stops_in-batch_of (j ∷ jobs) stops = stops_in-batch_of jobs stops
+stops_in-batch_of (l ∷ lots) stops = stops_in-batch_of lots stops
 
 -- a batch ends with a `Stop`
 stops-last : (stops : ℕ) → replicate (suc stops) Stop ≡ replicate stops Stop ++ Stop ∷ []
 stops-last zero = refl
 stops-last (suc stops) = ap (λ l. Stop ∷ l) (stops-last stops)
 
-batch-last : (jobs : List Job) (stops : ℕ) → batch_of jobs (suc stops) ≡ batch_of jobs stops ++ Stop ∷ []
+batch-last : (lots : List (List Job)) (stops : ℕ) → batch_of lots (suc stops) ≡ batch_of lots stops ++ Stop ∷ []
 batch-last [] stops = stops-last stops
-batch-last (j ∷ jobs) stops = ap (λ l. Do j ∷ l) (batch-last jobs stops)
+batch-last (l ∷ lots) stops = ap (λ ws. Do l ∷ ws) (batch-last lots stops)
 
 -- what is left of a list that ends with a `Stop` has one, or is empty
 left_empty : (got items front : List Work) → front ++ Stop ∷ [] ≡ got ++ items → stops_in items ≡ 0 → items ≡ []
@@ -65,13 +68,13 @@ settles shares zero jobs receipts items v some h matches = absurd (omega arith)
 settles shares (suc more) jobs receipts items v some h matches =
     let stops : ℕ = suc more in
     let got = matches.0 in
-    let whole : batch_of jobs stops ≡ got ++ items = ap (λ (u : Hand). u.sent) (sym h.sent) ∙ matches.1 in
+    let whole : batch_of h.lots stops ≡ got ++ items = ap (λ (u : Hand). u.sent) (sym h.sent) ∙ matches.1 in
     let none : stops_in items ≡ 0 =
-    let a = stops_in-batch_of jobs stops in let b = ap stops_in whole in let c = stops_in-append got items in
+    let a = stops_in-batch_of h.lots stops in let b = ap stops_in whole in let c = stops_in-append got items in
     let d = stops_in-weight got in let e = stops_in-weight v.taken in let f = matches.2 stop_weight in let k = h.stopped in omega arith in
-    let empty : items ≡ [] = left_empty got items (batch_of jobs more) (sym (batch-last jobs more) ∙ whole) none in
-    let all : batch_of jobs stops ≡ got = whole ∙ ap (λ l. got ++ l) empty ∙ append-nil got in
+    let empty : items ≡ [] = left_empty got items (batch_of h.lots more) (sym (batch-last h.lots more) ∙ whole) none in
+    let all : batch_of h.lots stops ≡ got = whole ∙ ap (λ l. got ++ l) empty ∙ append-nil got in
     permutation_of_counts (map (λ j. j.number) jobs) receipts (λ n.
-    let a = ap (count n) (sym (numbers_of-batch_of jobs stops) ∙ ap numbers_of all) in
+    let a = ap (count n) (ap (map (λ j. j.number)) (sym h.all) ∙ sym (numbers_of-batch_of h.lots stops) ∙ ap numbers_of all) in
     let b = count-numbers_of n got in let c = matches.2 (job_weight n) in let d = count-numbers_of n v.taken in
     let e = ap (count n) h.answered in omega arith)

@@ -1,5 +1,5 @@
 -- What one batch does: the jobs that were sent, and the receipts for them.
-use Rattle.std.specs.Prelude.{◌≡◌, ℕ, ◌+◌, Bool, true, false, List, [], ◌∷◌, ◌++◌, map, replicate, count_by, ◌==◌, ◌≤◌}
+use Rattle.std.specs.Prelude.{◌≡◌, ℕ, ◌+◌, Bool, true, false, List, [], ◌∷◌, ◌++◌, map, flat_map, replicate, count_by, ◌==◌, ◌≤◌}
 use Rattle.frames.specs.Account.{Job}
 use Rattle.workers.specs.declared.rule.Work.{Work}
 use Rattle.workers.specs.declared.rule.Work.TheVariants.{Do, Stop}
@@ -9,7 +9,7 @@ use Rattle.workers.specs.Hands.{hand}
 -- the numbers of the jobs, in order
 abbrev pub numbers_of : List Work → List ℕ
 numbers_of [] = []
-numbers_of (Do job ∷ ws) = job.number ∷ numbers_of ws
+numbers_of (Do lot ∷ ws) = map (λ j. j.number) lot ++ numbers_of ws
 numbers_of (Stop ∷ ws) = numbers_of ws
 
 abbrev pub stops_in : List Work → ℕ
@@ -21,9 +21,13 @@ stops_in (Stop ∷ ws) = 1 + stops_in ws
 abbrev pub AreApart : List ℕ → Type 0
 AreApart ns = (n : ℕ) → count_by (λ m. m == n) ns ≤ 1
 
--- the jobs, and then n times `Stop`
-abbrev pub batch_of : List Job → ℕ → List Work
-batch_of jobs stops = map Do jobs ++ replicate stops Stop
+-- the jobs of the lots, in order
+abbrev pub jobs_in : List (List Job) → List Job
+jobs_in lots = flat_map (λ lot. lot) lots
+
+-- the lots, and then n times `Stop`
+abbrev pub batch_of : List (List Job) → ℕ → List Work
+batch_of lots stops = map Do lots ++ replicate stops Stop
 
 abbrev pub StartsWith : List ℕ → List ℕ → Type 0
 StartsWith xs first = (rest : List ℕ) × (xs ≡ first ++ rest)
@@ -38,9 +42,11 @@ pub record HasTaken (stops : ℕ) (v : Hand) (receipts : List ℕ) (refused : Bo
   pub stopped : stops_in v.taken ≡ stops
   pub answered : AreFor receipts v.taken refused
 
--- The view of the sender's pass: it sent the jobs and one `Stop` for each worker, and has joined the passes of `joined` of them,
--- with these receipts
+-- The view of the sender's pass: it sent the jobs in lots and one `Stop` for each worker, and has joined the passes of `joined` of
+-- them, with these receipts
 pub record HasGathered (shares joined : ℕ) (jobs : List Job) (workers : ℕ) (receipts : List ℕ) (v : Hand) : Type 0 where
-  pub sent : v ≡ hand true shares (batch_of jobs workers) v.taken
+  pub lots : List (List Job)
+  pub all : jobs_in lots ≡ jobs
+  pub sent : v ≡ hand true shares (batch_of lots workers) v.taken
   pub stopped : stops_in v.taken ≡ joined
   pub answered : numbers_of v.taken ≡ receipts

@@ -7,10 +7,11 @@ ghost use Rattle.crossbeam_channel.specs.Ends.{sends_on, receives_on};
 ghost use Rattle.workers.specs.declared.rule.Work.TheVariants.{Do, Stop};
 ghost use Rattle.frames.specs.Account.{Job};
 ghost use Rattle.workers.specs.Hands.{hand, IsBatch};
-ghost use Rattle.workers.specs.Batch.{HasTaken, HasGathered, AreApart};
+ghost use Rattle.workers.specs.Batch.{jobs_in, HasTaken, HasGathered, AreApart};
 
 use crate::gate::Gate;
 use crate::job::Job;
+use crate::lot::{Lot, lot_size};
 use crate::office::Office;
 use crate::receipt::Receipt;
 use crate::rule::{Hires, Receiver, Seat, Sender, Sends, Totals, Work};
@@ -20,7 +21,7 @@ use std::alloc::{AllocError, Global};
 use std::sync::Wait;
 use std::thread::{self, Promise, Scope, Threads};
 
-/// How many messages the channel holds.
+/// How many messages the channel holds, each a lot of jobs or `Stop`.
 const CAPACITY: usize = 64;
 
 /// Sends one message. A reported disconnect proves nothing, so it tries again.
@@ -41,24 +42,29 @@ fn put<R: Wait>(rt: &R, channel: &Sender, mut seat: Seat, work: Work) -> Seat
     unreachable!()
 }
 
-/// Sends copies of the jobs, until a copy fails.
+/// Sends copies of the jobs in lots, which have `most` jobs and the last perhaps fewer, until a copy fails.
 fn put_jobs<R: Wait>(
     rt: &R,
     alloc: Global,
     channel: &Sender,
     mut seat: Seat,
     jobs: &[Job],
+    most: usize,
 ) -> (Seat, Result<(), AllocError>)
     requires seat { IsSeatAt (sends_on channel.now) seat }
     requires new { (view seat ≡ hand true (view seat).shares [] []) }
+    requires most { 1 ≤ most }
     ensures seat { IsSeatAt (sends_on channel.now) result.0 }
-    ensures sent { (sent : List Job) × (view result.0 ≡ hand true (view seat).shares (map Do sent) []) × OnOk result.1 (sent ≡ jobs.now) }
+    ensures sent { (lots : List (List Job)) × (view result.0 ≡ hand true (view seat).shares (map Do lots) []) × OnOk result.1 (jobs_in lots ≡ jobs.now) }
 {
-    for job in jobs {
-        match job.try_copy(alloc) {
-            Ok(copy) => seat = put(rt, channel, seat, Work::Do(copy)),
+    let mut rest = jobs;
+    while !rest.is_empty() {
+        let (first, more) = rest.split_at(most.min(rest.len()));
+        match Lot::of(alloc, first) {
+            Ok(lot) => seat = put(rt, channel, seat, Work::Do(lot)),
             Err(refused) => return (seat, Err(refused)),
         }
+        rest = more;
     }
     (seat, Ok(()))
 }
@@ -104,11 +110,13 @@ fn team<'s, E, R: Threads + Wait + Sync, G: Gate + Sync>(
     requires new { view seat ≡ hand true (view seat).shares [] [] }
     requires shares { left < (view seat).shares }
     requires left { left ≤ workers }
+    requires workers { 1 ≤ workers }
     ensures seat { IsSeatAt (sends_on to.now) result.0 }
     ensures ok { IfOk result.1 (λ r. HasGathered (view seat).shares left jobs.now workers (map (λ x. x.job) r.items) (view result.0)) }
 {
     if left == 0 {
-        let (seat, sent) = put_jobs(rt, alloc, to, seat, jobs);
+        let most = lot_size(jobs.len(), workers);
+        let (seat, sent) = put_jobs(rt, alloc, to, seat, jobs, most);
         let seat = put_stops(rt, to, seat, workers);
         return (seat, sent.map(|()| Vec::new(alloc)));
     }
@@ -208,7 +216,7 @@ pub fn run_batch<R: Threads + Wait + Sync, G: Gate + Sync>(
             requires ends { receives_on receiver.now ≡ sends_on sender.now }
             requires seat { IsSeatAt (sends_on sender.now) seat }
             requires view { view seat ≡ hand true 17 [] [] }
-            requires workers { workers ≤ 16 }
+            requires workers { (1 ≤ workers) × (workers ≤ 16) }
             ensures seat { IsSeatAt (sends_on sender.entry.now) result.0 }
             ensures ok { IfOk result.1 (λ r. HasGathered 17 workers jobs.entry.now workers (map (λ x. x.job) r.items) (view result.0)) }
         {

@@ -3,15 +3,15 @@
 ghost use Rattle.std.specs.Prelude.{◌≡◌, ◌+◌, ◌-◌, ◌++◌, ◌∷◌, [], true, false, ⊤};
 ghost use Rattle.workers.specs.Hands.{hand, MatchesAll};
 
-use crate::job::Job;
+use crate::lot::Lot;
 use crossbeam_channel::protocol::{Join, Lesson, Outcome, Protocol, Split};
 use crossbeam_channel::{Pass, RuledReceiver, RuledSender};
 use std::collections::LinkedList;
 
-/// A message to a worker: a job, or the order to stop.
+/// A message to a worker: jobs to be handled, or the order to stop.
 #[derive(Drop)]
 pub enum Work {
-    Do(Job),
+    Do(Lot),
     Stop,
 }
 

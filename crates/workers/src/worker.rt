@@ -1,17 +1,18 @@
 //! A worker.
 
-ghost use Rattle.std.specs.Prelude.{◌≡◌, true, false, [], map, MatchBool};
+ghost use Rattle.std.specs.Prelude.{◌≡◌, ◌++◌, false, [], map, OnOk, OnErr};
 ghost use Rattle.crossbeam_channel.specs.Claims.{view, IsSeatAt};
 ghost use Rattle.crossbeam_channel.specs.Ends.{receives_on};
 ghost use Rattle.workers.specs.Hands.{hand};
 ghost use Rattle.workers.specs.Batch.{HasTaken};
 
 use crate::gate::Gate;
+use crate::lot::Lot;
 use crate::office::Office;
 use crate::receipt::Receipt;
 use crate::rule::{Receiver, Seat, Takes, Work};
 use bumpalo::Bump;
-use std::alloc::Global;
+use std::alloc::{AllocError, Global};
 use std::sync::Wait;
 
 /// What a worker returns: its pass, its receipts in the order in which it took the jobs, and whether it ran out of memory for one.
@@ -22,9 +23,10 @@ pub struct Served {
     pub refused: bool,
 }
 
-/// A worker: takes jobs from a channel until it takes `Stop`. For a job it reserves memory for the receipt, reads the event in
-/// its own arena, locks the event's shard, and handles it there. The receipts are, in order, for the jobs that its pass took. If
-/// memory for a receipt runs out, they are for the first of these; it then goes on taking jobs without touching a shard.
+/// A worker: takes lots of jobs from a channel until it takes `Stop`. For a lot it reserves memory for the receipts; for each job
+/// of it, it reads the event in its own arena, locks the event's shard, and handles it there. The receipts are, in order, for the
+/// jobs that its pass took. If memory for receipts runs out, they are for the first of these; it then goes on taking lots without
+/// touching a shard.
 ///
 /// Limitation: no contract says what a lock held, so none says that a receipt has its entry; `reconcile` finds out. Progress is
 /// not claimed: a call that waits for a message or a lock may wait forever.
@@ -48,8 +50,8 @@ pub fn serve<R: Wait, G: Gate>(
         let Ok(work) = channel.recv_as::<Takes, R>(rt, &mut seat) else {
             continue;
         };
-        let job = match work {
-            Work::Do(job) => job,
+        let lot = match work {
+            Work::Do(lot) => lot,
             Work::Stop => {
                 return Served {
                     seat,
@@ -58,11 +60,29 @@ pub fn serve<R: Wait, G: Gate>(
                 };
             }
         };
-        if refused || receipts.reserve(1).is_err() {
-            refused = true;
-        } else {
-            receipts.push_reserved(office.answer(rt, alloc, &mut bump, job, gate));
+        if !refused {
+            refused = answer_lot(rt, alloc, office, &mut bump, lot, gate, &mut receipts).is_err();
         }
     }
     unreachable!()
+}
+
+/// Handles the jobs of a lot, and appends their receipts. If there is no memory for these, no job is handled.
+fn answer_lot<R: Wait, G: Gate>(
+    rt: &R,
+    alloc: Global,
+    office: &Office,
+    bump: &mut Bump,
+    lot: Lot,
+    gate: &G,
+    receipts: &mut Vec<Receipt>,
+) -> Result<(), AllocError>
+    ensures ok { OnOk result (map (λ r. r.job) receipts.new.items ≡ map (λ r. r.job) receipts.old.items ++ map (λ j. j.number) lot) }
+    ensures err { OnErr result (receipts.new.items ≡ receipts.old.items) }
+{
+    receipts.reserve(lot.jobs.len())?;
+    for job in lot.jobs {
+        receipts.push_reserved(office.answer(rt, alloc, bump, job, gate));
+    }
+    Ok(())
 }
