@@ -107,7 +107,7 @@ impl Node {
     }
 
     /// Handles one event. On error nothing changes.
-    fn handle(&mut self, bump: &mut Bump, raw: &RawEvent) -> Result<Handled, Cause>
+    pub fn handle(&mut self, bump: &mut Bump, raw: &RawEvent) -> Result<Handled, Cause>
         ensures takes { IfOk result (λ handled. Takes self.old (raw_event raw.now) handled self.new) }
         ensures refused { IfErr result (λ cause. Refuses self.old (raw_event raw.now) cause) }
         ensures err { OnErr result (self.new ≡ self.old) }
