@@ -4,23 +4,23 @@
 //! them have their ids (`Letters`, `read_octets`).
 #![tactic(auto)]
 
+mod frame_octets;
 mod group;
 mod input;
 mod item;
 mod letters;
 mod line;
-mod octets;
 mod options;
 mod place;
 mod ticks;
 mod words;
 
+pub use frame_octets::{has_letter, have_ids, read_octets};
 pub use group::Group;
 pub use input::{InputFault, MAX_FILE_OCTETS, read_all};
 pub use item::{Item, LineFault};
 pub use letters::Letters;
 pub use line::{check_line, read_line};
-pub use octets::{has_letter, have_ids, read_octets};
 pub use options::{Options, WordsFault};
 pub use place::{Numbered, Place};
 pub use words::read_words;

@@ -9,8 +9,8 @@ ghost use Rattle.hlr_input.specs.Reading.{Reads, says_word, says_two, says_three
 ghost use Rattle.records.specs.Reading.{imsi_in};
 ghost use Rattle.hlr_input.specs.declared.item.LineFault.TheVariants.{Bad, Memory};
 
+use crate::frame_octets::are_octets;
 use crate::item::{Item, LineFault};
-use crate::octets::are_octets;
 use crate::ticks::ticks;
 use hlr_types::{Digits, Imsi, Peer};
 use records::{Codes, cut};

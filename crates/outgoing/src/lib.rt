@@ -6,9 +6,9 @@
 
 mod component;
 mod message;
-mod octets;
+mod spelling;
 mod trees;
 
 pub use component::{Components, SentComponent, SubscriberData};
 pub use message::{Addressed, SentMessage};
-pub use octets::octets_of;
+pub use spelling::octets_of;

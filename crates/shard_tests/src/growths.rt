@@ -5,10 +5,10 @@
 //! nothing has changed, and the same call, repeated, does what it would have done.
 
 use crate::given::{FIRST, peer};
-use crate::octets::{
+use crate::procedures::{begun, records, says, taken};
+use crate::samples::{
     INSERT_AND_REJECTS, PURGE, PURGED, RECORDS, ROUTE, UPDATE, UPDATE_AND_RESULTS,
 };
-use crate::procedures::{begun, records, says, taken};
 use bumpalo::Bump;
 use hlr_types::{Digits, Imsi};
 use hlrcore::{Change, Event, RawEvent, ShardNumber, State};

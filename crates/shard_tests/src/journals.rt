@@ -1,7 +1,7 @@
 //! Journals of a shard, and the answer when one is full.
 
 use crate::given::{octets_at, peer};
-use crate::octets::{RECORDS, ROUTE, ROUTE_ANSWER};
+use crate::samples::{RECORDS, ROUTE, ROUTE_ANSWER};
 use bumpalo::Bump;
 use hlrcore::{Event, RawEvent, ShardNumber, State};
 use records::read_records;

@@ -13,13 +13,13 @@ mod journals;
 #[cfg(test)]
 mod nodes;
 #[cfg(test)]
-mod octets;
-#[cfg(test)]
 mod plans;
 #[cfg(test)]
 mod procedures;
 #[cfg(test)]
 mod runs;
+#[cfg(test)]
+mod samples;
 #[cfg(test)]
 mod settling;
 #[cfg(test)]

@@ -1,7 +1,7 @@
 //! The whole register in one thread, and its listings and saved file.
 
 use crate::given::{octets_at, peer};
-use crate::octets::{ROUTE, ROUTE_ANSWER, UPDATE};
+use crate::samples::{ROUTE, ROUTE_ANSWER, UPDATE};
 use audit::{list_dialogues, list_journal, list_records, save_records};
 use bumpalo::Bump;
 use hlrcore::{RawEvent, ShardNumber};

@@ -1,7 +1,7 @@
 //! Plans of single events, in a shard with no open dialogue.
 
 use crate::given::{FIRST, imsi, peer, shard};
-use crate::octets::{ROUTE, UNKNOWN, UPDATE};
+use crate::samples::{ROUTE, UNKNOWN, UPDATE};
 use bumpalo::Bump;
 use hlr_types::Imsi;
 use location::{After, DialogueChange};

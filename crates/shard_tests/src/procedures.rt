@@ -1,7 +1,7 @@
 //! The outcomes of the procedures for single events, and what is sent, octet for octet.
 
 use crate::given::{FIRST, imsi, peer};
-use crate::octets::{INSERT, RECORDS, ROUTE, ROUTE_ANSWER, UPDATE_WITH_ONE_NUMBER};
+use crate::samples::{INSERT, RECORDS, ROUTE, ROUTE_ANSWER, UPDATE_WITH_ONE_NUMBER};
 use bumpalo::Bump;
 use csl::{Due, Was};
 use dialogues::{Dialogue, Kind};

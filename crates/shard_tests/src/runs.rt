@@ -1,7 +1,7 @@
 //! Several events of a shard by one call.
 
 use crate::given::{FIRST, octets_at, peer};
-use crate::octets::{INSERT, RECORDS, ROUTE, ROUTE_ANSWER, UPDATE};
+use crate::samples::{INSERT, RECORDS, ROUTE, ROUTE_ANSWER, UPDATE};
 use bumpalo::Bump;
 use hlrcore::{Event, RawEvent, State, StepAnswer, StepFault};
 use records::read_records;

@@ -3,7 +3,7 @@
 ghost use Rattle.std.specs.Prelude.{◌≡◌, IfSome};
 
 use crate::given::{self, FIRST, octets_at, shard};
-use crate::octets::RECORDS;
+use crate::samples::RECORDS;
 use dialogues::{Dialogue, Kind};
 use hlr_types::{Imsi, Peer, RemoteId, Tid};
 use location::{After, DialogueChange, Opening, Outcome};

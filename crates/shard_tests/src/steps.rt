@@ -3,7 +3,7 @@
 ghost use Rattle.std.specs.Prelude.{◌<◌};
 
 use crate::given::{FIRST, imsi, peer};
-use crate::octets::{ABSENT, PURGE, PURGED, ROUTE, ROUTE_ANSWER, UPDATE};
+use crate::samples::{ABSENT, PURGE, PURGED, ROUTE, ROUTE_ANSWER, UPDATE};
 use bumpalo::Bump;
 use hlr_types::Tid;
 use hlrcore::{Change, Event, RawEvent, ShardNumber, State, StepFault};

@@ -1,7 +1,7 @@
 //! Messages for no open dialogue, and an expiry when nothing is due.
 
 use crate::given::{peer, shard};
-use crate::octets::RECORDS;
+use crate::samples::RECORDS;
 use hlr_types::RemoteId;
 use shard_state::ShardParts;
 use std::alloc::Global;

@@ -2,7 +2,7 @@
 
 use crate::gates::{Open, UntilAll, UntilDone};
 use crate::given::{Register, clock, frame};
-use crate::octets::{DATA_TAKEN, OTHER_ROUTE, ROUTE, ROUTE_ANSWER, UPDATE};
+use crate::samples::{DATA_TAKEN, OTHER_ROUTE, ROUTE, ROUTE_ANSWER, UPDATE};
 use std::alloc::Global;
 use std::process::Abort;
 use std::sync::Wait;

@@ -2,7 +2,7 @@
 
 ghost use Rattle.std.specs.Prelude.{◌≤◌};
 
-use crate::octets::RECORDS;
+use crate::samples::RECORDS;
 use hlr_types::{Digits, Peer};
 use hlrcore::{RawEvent, ShardNumber};
 use records::read_records;

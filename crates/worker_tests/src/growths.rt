@@ -5,7 +5,7 @@
 
 use crate::gates::Open;
 use crate::given::run;
-use crate::octets::{RECORDS, ROUTE};
+use crate::samples::{RECORDS, ROUTE};
 use hlr_types::{Digits, Peer};
 use hlrcore::{RawEvent, ShardNumber};
 use records::read_records;

@@ -13,8 +13,8 @@ mod given;
 #[cfg(test)]
 mod growths;
 #[cfg(test)]
-mod octets;
-#[cfg(test)]
 mod places;
+#[cfg(test)]
+mod samples;
 #[cfg(test)]
 mod shared;

@@ -1,7 +1,7 @@
 //! A register that workers share, part after part.
 
 use crate::given::{clock, frame};
-use crate::octets::{DATA_TAKEN, RECORDS, ROUTE, ROUTE_ANSWER, UPDATE};
+use crate::samples::{DATA_TAKEN, RECORDS, ROUTE, ROUTE_ANSWER, UPDATE};
 use hlr_types::{Digits, Imsi};
 use hlrcore::{Change, Out, RawEvent};
 use records::{Codes, read_records};

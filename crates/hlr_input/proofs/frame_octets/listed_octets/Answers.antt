@@ -6,7 +6,7 @@ use Rattle.hlr_input.specs.declared.group.Group.TheVariants.{Octet, Letter}
 use Rattle.hlr_input.specs.Octets.{octets_of_group}
 use Rattle.hlr_input.specs.Reading.{octets_after}
 use Rattle.hlr_input.proofs.OctetLaws.{octets_bad, octets_lacking, octets_more, octets_after-end, slice_get-at, slice_get-past}
-use Rattle.hlr_input.proofs.octets.listed_octets.Goals as goal
+use Rattle.hlr_input.proofs.frame_octets.listed_octets.Goals as goal
 
 pub returns-in_default : goal.returns-in_default
 returns-in_default c =

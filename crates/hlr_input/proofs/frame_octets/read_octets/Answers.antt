@@ -1,6 +1,6 @@
 use Rattle.std.proofs.lemmas.Result.{IfOk-weaker}
 use Rattle.hlr_input.proofs.OctetLaws.{octets_found}
-use Rattle.hlr_input.proofs.octets.read_octets.Goals as goal
+use Rattle.hlr_input.proofs.frame_octets.read_octets.Goals as goal
 
 pub returns-clause-found : goal.returns-clause-found
 returns-clause-found c =

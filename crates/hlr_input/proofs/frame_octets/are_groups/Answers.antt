@@ -1,7 +1,7 @@
 use Rattle.std.proofs.Common.{◌<◌, length, rules, sym, ◌∙◌}
 use Rattle.hlr_input.specs.Reading.{are_groups}
 use Rattle.hlr_input.proofs.OctetLaws.{groups_bad, groups_more, are_groups-end}
-use Rattle.hlr_input.proofs.octets.are_groups.Goals as goal
+use Rattle.hlr_input.proofs.frame_octets.are_groups.Goals as goal
 
 pub returns-then-not-stands : goal.returns-then-not-stands
 returns-then-not-stands c =
