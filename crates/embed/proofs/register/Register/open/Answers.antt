@@ -1,0 +1,19 @@
+use Rattle.std.proofs.Common.{◌≡◌, List, [], map, ap, rules}
+use Rattle.std.specs.Prelude.{Err}
+use Rattle.shard_state.specs.declared.answer.Out.{Out}
+use Rattle.shard_state.specs.Frames.{raw_out}
+use Rattle.embed.specs.Registers.{Opens}
+use Rattle.embed.proofs.RegisterLemmas.{only_memory, opens}
+use Rattle.embed.proofs.register.Register.open.Goals as goal
+
+pub returns-in_err-loaded-clause-only : goal.returns-in_err-loaded-clause-only
+returns-in_err-loaded-clause-only c = λ contents file.
+    let is : c.from_residual.result ≡ Err c.in_err-loaded.field-0.0 = search rules in
+    only_memory c.from_residual.result c.in_err-loaded.field-0.0 (Opens contents) is (c.in_err-loaded.ensures.only contents file)
+
+pub returns-clause-only : goal.returns-clause-only
+returns-clause-only c = λ contents file.
+    let none : c.new-3.result.items ≡ [] = search rules in
+    opens contents c.in_ok-loaded.loaded c.in_ok-node.node (map raw_out c.new-3.result.items)
+    (c.in_ok-loaded.ensures.only contents file) c.in_ok-node.ensures.begins c.in_ok-node.ensures.keeps
+    (ap (λ (outs : List Out). map raw_out outs) none)

@@ -1,0 +1,4 @@
+pub mod Events
+pub mod Journals
+pub mod Registers
+pub mod Rooms

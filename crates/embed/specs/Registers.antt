@@ -1,0 +1,38 @@
+-- A register with the frames of its last event.
+use Rattle.std.specs.Prelude.{◌≡◌, List, [], refl}
+use Rattle.std.specs.Coded.{Coded, code_by, coded×, coded_list}
+use Rattle.frames.specs.Octets.{RawEvent, RawOut}
+use Rattle.records.specs.File.{Contents}
+use Rattle.records.specs.Loaded.{loaded_from}
+use Rattle.shard_state.specs.Frames.{raw_out_code}
+use Rattle.shardlog.specs.declared.entry.Handled.{Handled}
+use Rattle.wholenode.specs.Handling.{Takes, sent_of}
+use Rattle.wholenode.specs.Keeping.{NodeKeeps}
+use Rattle.wholenode.specs.Nodes.{NodeState, node_state_code}
+use Rattle.wholenode.specs.Opening.{BeginsWith}
+
+-- The shards with their journals, and the frames of the last event that were not taken yet, in the order in which they are sent.
+pub record RegisterState : Type 0 where
+  pub node : NodeState
+  pub waiting : List RawOut
+
+abbrev pub register : NodeState → List RawOut → RegisterState
+register node waiting = record { node = node; waiting = waiting }
+
+abbrev pub register_state_code : Coded RegisterState
+register_state_code =
+    code_by (NodeState × List RawOut) (coded× node_state_code (coded_list raw_out_code)) (λ r. (r.node, r.waiting))
+    (λ p. register p.0 p.1) (λ _. refl)
+
+-- The register of a records file with these contents: no dialogue is open, each clock is at 0, and no frame waits.
+pub record Opens (contents : Contents) (r : RegisterState) : Type 0 where
+  pub begins : BeginsWith (loaded_from contents) r.node
+  pub keeps : NodeKeeps r.node
+  pub waiting : r.waiting ≡ []
+
+-- The event is handled, and exactly what it sends waits: frames of the event before it that were not taken are dropped.
+pub record Answers (before : RegisterState) (raw : RawEvent) (after : RegisterState) : Type 0 where
+  pub handled : Handled
+  pub takes : Takes before.node raw handled after.node
+  pub keeps : NodeKeeps after.node
+  pub waiting : after.waiting ≡ sent_of handled
