@@ -1,0 +1,10 @@
+use Rattle.std.proofs.Common.{◌≡◌, rules}
+use Rattle.std.specs.Prelude.{None, Some}
+use Rattle.kunchrol.proofs.kunchrol_open.Goals as goal
+
+pub returns-in-Ok-new-clause-opened : goal.returns-in-Ok-new-clause-opened
+returns-in-Ok-new-clause-opened c = λ is.
+    let closed : c.args.handle.now.value ≡ None = search rules in
+    let after : c.put-in-Ok-new.new.self.value ≡ Some c.in-Ok.register = search rules in
+    let found = c.in-Ok.ensures.found in
+    record { was_closed = closed; contents = found.0; file = found.1; is = c.in-Ok.register; after_is = after; opens = found.2 }

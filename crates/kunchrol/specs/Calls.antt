@@ -1,0 +1,64 @@
+-- What a call does to what a handle has.
+use Rattle.std.specs.Prelude.{◌≡◌, ◌≤◌, ◌<◌, ℕ, List, drop, length, slice_get, take, Some, None}
+use Rattle.frames.specs.Octets.{RawEvent, RawOut}
+use Rattle.hlr_types.specs.DigitTexts.{text_of}
+use Rattle.records.specs.File.{Contents, File}
+use Rattle.audit.specs.Saving.{Saves}
+use Rattle.embed.specs.Journals.{CutsOff, ListsShard}
+use Rattle.embed.specs.Registers.{RegisterState, Opens, Answers}
+use Rattle.embed.specs.Rooms.{Writes}
+use Rattle.kunchrol.specs.Handles.{Held}
+
+-- The handle was closed, and has the register of the records file that the text is.
+pub record OpensText (text : List ℕ) (before after : Held) : Type 0 where
+  pub was_closed : before ≡ None
+  pub contents : Contents
+  pub file : File text contents
+  pub is : RegisterState
+  pub after_is : after ≡ Some is
+  pub opens : Opens contents is
+
+-- The register takes an event of the kind asked for, by a step of the machine, and exactly the frames that it sends wait.
+pub record Takes (IsAsked : RawEvent → Type 0) (before after : Held) : Type 0 where
+  pub was : RegisterState
+  pub is : RegisterState
+  pub before_is : before ≡ Some was
+  pub after_is : after ≡ Some is
+  pub raw : RawEvent
+  pub asked : IsAsked raw
+  pub answers : Answers was raw is
+
+-- The first frame that waits is written into the rooms, the digits of its destination as text, and waits no more.
+pub record SendsFrame (before : Held) (to : List ℕ) (to_len : ℕ) (octets : List ℕ) (octets_len : ℕ) (after : Held) : Type 0 where
+  pub was : RegisterState
+  pub is : RegisterState
+  pub before_is : before ≡ Some was
+  pub after_is : after ≡ Some is
+  pub out : RawOut
+  pub first : slice_get was.waiting 0 ≡ Some out
+  pub rest : is.waiting ≡ drop 1 was.waiting
+  pub node : is.node ≡ was.node
+  pub to_len_is : to_len ≡ length (text_of out.to)
+  pub to_is : take to_len to ≡ text_of out.to
+  pub octets_len_is : octets_len ≡ length out.octets
+  pub octets_is : take octets_len octets ≡ out.octets
+
+-- The records are written at the front of the room as a records file.
+pub record SavesRecords (before : Held) (room_before : List ℕ) (count : ℕ) (room_after : List ℕ) (after : Held) : Type 0 where
+  pub was : RegisterState
+  pub before_is : before ≡ Some was
+  pub unchanged : after ≡ before
+  pub text : List ℕ
+  pub saves : Saves was.node.shards text
+  pub writes : Writes text room_before count room_after
+
+-- The journal of a shard is cut off, and its listing is written at the front of the room.
+pub record CutsJournal (before : Held) (shard : ℕ) (room_before : List ℕ) (count : ℕ) (room_after : List ℕ) (after : Held) : Type 0 where
+  pub was : RegisterState
+  pub is : RegisterState
+  pub before_is : before ≡ Some was
+  pub after_is : after ≡ Some is
+  pub cuts : CutsOff was shard is
+  pub text : List ℕ
+  pub lists : ListsShard was.node shard text
+  pub writes : Writes text room_before count room_after

@@ -1,0 +1,224 @@
+//! The register for programs in C. `include/kunchrol.h` says the same in C's words.
+//!
+//! Each function answers a number. 0 says that it did what it is asked for. With each other number nothing has changed in the
+//! register.
+#![tactic(auto)]
+
+mod code;
+mod handle;
+mod next;
+mod room;
+
+ghost use Rattle.std.specs.Prelude.{◌≡◌, ◌≢◌, ◌⊎◌, List, ℕ, None, Some, IsTrue, is_some};
+ghost use Rattle.hlrcore.specs.Events.{raw_event};
+ghost use Rattle.records.specs.File.{Contents, File, IsBadLine, IsTwice};
+ghost use Rattle.embed.specs.Events.{IsFrame, IsClock, IsExpiry, IsCodesChange, IsWithdrawal};
+ghost use Rattle.embed.specs.Registers.{Answers, RegisterState};
+ghost use Rattle.kunchrol.specs.Calls.{OpensText, Takes, SendsFrame, SavesRecords, CutsJournal};
+
+use code::{ARGUMENT, CLOSED, MEMORY, OK, OPEN, code_of_cause, code_of_records, line_of};
+use embed::{Register, clock_event, codes_event, expiry_event, frame_event, withdrawal_event};
+pub use handle::Handle;
+use hlrcore::{RawEvent, ShardNumber};
+use next::next_frame;
+use room::{cut_journal, save_records};
+use std::alloc::Global;
+
+/// Opens a register on the text of a records file. Where a line has a fault its number is put at `line`, else 0.
+#[unsafe(no_mangle)]
+pub extern "C" fn kunchrol_open(
+    alloc: Global,
+    text: &[u8],
+    handle: &mut Handle,
+    line: &mut u64,
+) -> u32
+    ensures opened { result ≡ 0 → OpensText text.now handle.old.value handle.new.value }
+    ensures refused { result ≢ 0 → handle.new.value ≡ handle.old.value }
+{
+    *line = 0;
+    if let Some(register) = handle.take(alloc) {
+        handle.put(register);
+        return OPEN;
+    }
+    match Register::open(alloc, text) {
+        Ok(register) => match Box::new(alloc, register) {
+            Ok(register) => {
+                handle.put(register);
+                OK
+            }
+            Err(_) => MEMORY,
+        },
+        Err(fault) => {
+            *line = line_of(fault);
+            code_of_records(fault)
+        }
+    }
+}
+
+/// Gives a frame, with the text of the digits that it comes from.
+#[unsafe(no_mangle)]
+pub extern "C" fn kunchrol_frame(
+    alloc: Global,
+    handle: &mut Handle,
+    from: &[u8],
+    octets: &[u8],
+) -> u32
+    ensures handled { result ≡ 0 → Takes (IsFrame from.now octets.now) handle.old.value handle.new.value }
+    ensures refused { result ≢ 0 → handle.new.value ≡ handle.old.value }
+{
+    match frame_event(alloc, from, octets) {
+        Ok(Some(event)) => give(alloc, handle, &event),
+        Ok(None) => ARGUMENT,
+        Err(_) => MEMORY,
+    }
+}
+
+/// Gives a clock value of a shard.
+#[unsafe(no_mangle)]
+pub extern "C" fn kunchrol_clock(alloc: Global, handle: &mut Handle, shard: u8, now: u64) -> u32
+    ensures handled { result ≡ 0 → Takes (IsClock shard now) handle.old.value handle.new.value }
+    ensures refused { result ≢ 0 → handle.new.value ≡ handle.old.value }
+{
+    match clock_event(shard, now) {
+        Some(event) => give(alloc, handle, &event),
+        None => ARGUMENT,
+    }
+}
+
+/// Gives the expiry of a shard's least timer that is due.
+#[unsafe(no_mangle)]
+pub extern "C" fn kunchrol_expire(alloc: Global, handle: &mut Handle, shard: u8) -> u32
+    ensures handled { result ≡ 0 → Takes (IsExpiry shard) handle.old.value handle.new.value }
+    ensures refused { result ≢ 0 → handle.new.value ≡ handle.old.value }
+{
+    match expiry_event(shard) {
+        Some(event) => give(alloc, handle, &event),
+        None => ARGUMENT,
+    }
+}
+
+/// Gives new teleservice codes for a subscriber: the texts of an IMSI and of codes, as a records file has them.
+#[unsafe(no_mangle)]
+pub extern "C" fn kunchrol_codes(
+    alloc: Global,
+    handle: &mut Handle,
+    imsi: &[u8],
+    codes: &[u8],
+) -> u32
+    ensures handled { result ≡ 0 → Takes (IsCodesChange imsi.now codes.now) handle.old.value handle.new.value }
+    ensures refused { result ≢ 0 → handle.new.value ≡ handle.old.value }
+{
+    match codes_event(alloc, imsi, codes) {
+        Ok(Some(event)) => give(alloc, handle, &event),
+        Ok(None) => ARGUMENT,
+        Err(_) => MEMORY,
+    }
+}
+
+/// Ends a subscription.
+#[unsafe(no_mangle)]
+pub extern "C" fn kunchrol_withdraw(alloc: Global, handle: &mut Handle, imsi: &[u8]) -> u32
+    ensures handled { result ≡ 0 → Takes (IsWithdrawal imsi.now) handle.old.value handle.new.value }
+    ensures refused { result ≢ 0 → handle.new.value ≡ handle.old.value }
+{
+    match withdrawal_event(imsi) {
+        Some(event) => give(alloc, handle, &event),
+        None => ARGUMENT,
+    }
+}
+
+fn give(alloc: Global, handle: &mut Handle, event: &RawEvent) -> u32
+    ensures handled { result ≡ 0 → Takes (λ raw. raw ≡ raw_event event.now) handle.old.value handle.new.value }
+    ensures refused { result ≢ 0 → handle.new.value ≡ handle.old.value }
+{
+    let Some(mut register) = handle.take(alloc) else {
+        return CLOSED;
+    };
+    let code = answer(&mut register, event);
+    handle.put(register);
+    code
+}
+
+fn answer(register: &mut Register, event: &RawEvent) -> u32
+    ensures handled { result ≡ 0 → Answers register.old (raw_event event.now) register.new }
+    ensures refused { result ≢ 0 → register.new ≡ register.old }
+{
+    match register.handle(event) {
+        Ok(()) => OK,
+        Err(cause) => code_of_cause(cause),
+    }
+}
+
+/// Takes the frame that is to be sent next: the text of the digits that it goes to, and its octets, each with its length. Where
+/// a room is too small the lengths are put all the same, and the frame still waits.
+#[unsafe(no_mangle)]
+pub extern "C" fn kunchrol_next(
+    alloc: Global,
+    handle: &mut Handle,
+    to: &mut [u8],
+    to_len: &mut usize,
+    octets: &mut [u8],
+    octets_len: &mut usize,
+) -> u32
+    ensures sent { result ≡ 0 → SendsFrame handle.old.value to.new to_len.new octets.new octets_len.new handle.new.value }
+    ensures refused { result ≢ 0 → handle.new.value ≡ handle.old.value }
+{
+    let Some(mut register) = handle.take(alloc) else {
+        return CLOSED;
+    };
+    let code = next_frame(&mut register, to, to_len, octets, octets_len);
+    handle.put(register);
+    code
+}
+
+/// Writes the records as a records file into the room, and its length at `len`, also where the room is too small.
+#[unsafe(no_mangle)]
+pub extern "C" fn kunchrol_save(
+    alloc: Global,
+    handle: &mut Handle,
+    room: &mut [u8],
+    len: &mut usize,
+) -> u32
+    ensures saved { result ≡ 0 → SavesRecords handle.old.value room.old len.new room.new handle.new.value }
+    ensures unchanged { handle.new.value ≡ handle.old.value }
+    ensures refused { result ≢ 0 → room.new ≡ room.old }
+{
+    let Some(register) = handle.take(alloc) else {
+        return CLOSED;
+    };
+    let code = save_records(&register, room, len);
+    handle.put(register);
+    code
+}
+
+/// Cuts the journal of a shard off, with its listing in the room and its length at `len`, also where the room is too small.
+#[unsafe(no_mangle)]
+pub extern "C" fn kunchrol_cut(
+    alloc: Global,
+    handle: &mut Handle,
+    shard: u8,
+    room: &mut [u8],
+    len: &mut usize,
+) -> u32
+    ensures cut { result ≡ 0 → CutsJournal handle.old.value shard room.old len.new room.new handle.new.value }
+    ensures refused { result ≢ 0 → handle.new.value ≡ handle.old.value }
+    ensures room { result ≢ 0 → room.new ≡ room.old }
+{
+    let Some(shard) = ShardNumber::new(shard) else {
+        return ARGUMENT;
+    };
+    let Some(mut register) = handle.take(alloc) else {
+        return CLOSED;
+    };
+    let code = cut_journal(&mut register, shard, room, len);
+    handle.put(register);
+    code
+}
+
+/// Closes a register, and gives its memory back. Nothing happens to a handle that is closed.
+#[unsafe(no_mangle)]
+pub extern "C" fn kunchrol_close(alloc: Global, handle: &mut Handle)
+    ensures { handle.new.value ≡ None }
+{
+    drop(handle.take(alloc));
+}

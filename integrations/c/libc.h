@@ -1,0 +1,28 @@
+/* The few declarations of the C library that these programs need, so that a compiler without its headers builds them. */
+#ifndef LIBC_H
+#define LIBC_H
+
+#include <stddef.h>
+#include <stdint.h>
+
+enum { READ_ONLY = 0, MONOTONIC = 1, STANDARD_ERROR = 2 };
+
+struct timespec {
+	long tv_sec;
+	long tv_nsec;
+};
+
+int printf(const char *form, ...);
+int dprintf(int file, const char *form, ...);
+int open(const char *path, int how, ...);
+long read(int file, void *room, size_t count);
+int close(int file);
+int clock_gettime(int clock, struct timespec *now);
+void *memcpy(void *to, const void *from, size_t count);
+int memcmp(const void *one, const void *other, size_t count);
+size_t strlen(const char *text);
+int strcmp(const char *one, const char *other);
+char *strchr(const char *text, int character);
+unsigned long long strtoull(const char *text, char **end, int base);
+
+#endif
