@@ -18,7 +18,8 @@ use Rattle.records.proofs.AgainLines.{record_again, header_again}
 use Rattle.records.proofs.AgainFiles.{apart_middle, imsi_free, msisdn_free}
 
 -- the lines before a fault are read
-front_again : (version : Version) (found : List Subscriber) (n : ℕ) (front : List (List ℕ)) (rs : List Subscriber) (rest : List (List ℕ)) → Each (IsRecordLine version) front rs → AreApart (found ++ rs)
+front_again : (version : Version) (found : List Subscriber) (n : ℕ) (front : List (List ℕ)) (rs : List Subscriber) (rest : List (List ℕ))
+    → Each (IsRecordLine version) front rs → AreApart (found ++ rs)
     → records_after version found n (front ++ rest) ≡ records_after version (found ++ rs) (n + length front) rest
 unfolding records_after
 front_again version found n [] [] rest h apart =
@@ -32,10 +33,12 @@ front_again version found n (l ∷ ls) (s ∷ ss) rest h apart =
     let next = front_again version (found ++ s ∷ []) (n + 1) ls ss rest h.1 (subst AreApart (sym regroup) apart) in
     let place : (n + 1) + length ls ≡ n + suc (length ls) = omega arith in
     rw (record_again version l s h.0, imsi_free found s free, msisdn_free found s free)
-    (next ∙ ap (λ (x : List Subscriber). records_after version x ((n + 1) + length ls) rest) regroup ∙ ap (λ (m : ℕ). records_after version (found ++ s ∷ ss) m rest) place)
+    (next ∙ ap (λ (x : List Subscriber). records_after version x ((n + 1) + length ls) rest) regroup
+    ∙ ap (λ (m : ℕ). records_after version (found ++ s ∷ ss) m rest) place)
 
 -- the content of the line with a fault decides
-faulty_line : (version : Version) (found : List Subscriber) (n : ℕ) (line : List ℕ) (rest : List (List ℕ)) (e : RecordsFault) → with_line found n (record_of version (parts 32 line)) ≡ Err e → records_after version found n (line ∷ rest) ≡ Err e
+faulty_line : (version : Version) (found : List Subscriber) (n : ℕ) (line : List ℕ) (rest : List (List ℕ)) (e : RecordsFault)
+    → with_line found n (record_of version (parts 32 line)) ≡ Err e → records_after version found n (line ∷ rest) ≡ Err e
 unfolding records_after
 faulty_line version found n line rest e bad = ap (and_then (λ next. records_after version next (n + 1) rest)) bad
 
@@ -45,7 +48,8 @@ unfolding contents_of
 good_before text n version contents line e h bad =
     let place : 2 + length h.front ≡ n = omega (arith, h.place) in
     let here = faulty_line version contents.records n line h.rest e bad in
-    let reads = front_again version [] 2 h.front contents.records (line ∷ h.rest) h.are_lines.are_records h.are_lines.are_apart ∙ ap (λ (m : ℕ). records_after version contents.records m (line ∷ h.rest)) place ∙ here in
+    let reads = front_again version [] 2 h.front contents.records (line ∷ h.rest) h.are_lines.are_records h.are_lines.are_apart
+    ∙ ap (λ (m : ℕ). records_after version contents.records m (line ∷ h.rest)) place ∙ here in
     ap contents_of h.whole ∙ ap (λ o. contents_below o (h.front ++ line ∷ h.rest)) (header_again h.header version contents.hlr h.are_lines.is_header)
     ∙ ap (and_then (λ found. Ok (with_hlr contents.hlr found))) reads
 

@@ -18,7 +18,8 @@ use Rattle.records.specs.Spelling.{IsNumber, IsImsiNumber, IsCode, Each}
 
 all_digits : (ds : List ℕ) → AllByRecursion (λ d. d < 10) ds → list_all is_digit (text_of ds) ≡ true
 all_digits [] h = refl
-all_digits (d ∷ ds) h = and_from (is_digit (d + 48)) (list_all is_digit (text_of ds)) (and_from (nat_le 48 (d + 48)) (nat_le (d + 48) 57) (le-leb 48 (d + 48) (omega arith)) (le-leb (d + 48) 57 (omega (arith, h.0)))) (all_digits ds h.1)
+all_digits (d ∷ ds) h = and_from (is_digit (d + 48)) (list_all is_digit (text_of ds))
+    (and_from (nat_le 48 (d + 48)) (nat_le (d + 48) 57) (le-leb 48 (d + 48) (omega arith)) (le-leb (d + 48) 57 (omega (arith, h.0)))) (all_digits ds h.1)
 
 digits_back : (ds : List ℕ) → map (λ b. b - 48) (text_of ds) ≡ ds
 digits_back [] = refl
@@ -58,9 +59,11 @@ middle P (x ∷ xs) y ys h = middle P xs y ys h.1
 not_yet : (found : List ℕ) (c : ℕ) (cs : List ℕ) → IsDistinct nat_eq (found ++ c ∷ cs) → list_any (λ x. x == c) found ≡ false
 not_yet [] c cs d = refl
 not_yet (x ∷ xs) c cs d =
-    or_from (x == c) (list_any (λ y. y == c) xs) (middle (λ y. nat_eq x y ≡ false) xs c cs (IsDistinct-head nat_eq x (xs ++ c ∷ cs) d)) (not_yet xs c cs (IsDistinct-tail nat_eq x (xs ++ c ∷ cs) d))
+    or_from (x == c) (list_any (λ y. y == c) xs) (middle (λ y. nat_eq x y ≡ false) xs c cs (IsDistinct-head nat_eq x (xs ++ c ∷ cs) d))
+    (not_yet xs c cs (IsDistinct-tail nat_eq x (xs ++ c ∷ cs) d))
 
-pub codes_after_again : (found : List ℕ) (ps : List (List ℕ)) (new : List ℕ) → Each IsCode ps new → IsDistinct nat_eq (found ++ new) → length (found ++ new) ≤ 32 → codes_after found ps ≡ Some (found ++ new)
+pub codes_after_again : (found : List ℕ) (ps : List (List ℕ)) (new : List ℕ) → Each IsCode ps new → IsDistinct nat_eq (found ++ new)
+    → length (found ++ new) ≤ 32 → codes_after found ps ≡ Some (found ++ new)
 unfolding codes_after
 codes_after_again found [] [] each d most = ap (λ (xs : List ℕ). Some xs) (sym (append-nil found))
 codes_after_again found [] (c ∷ cs) each d most = absurd each
@@ -70,10 +73,12 @@ codes_after_again found (p ∷ ps) (c ∷ cs) each d most =
     let fresh = not_yet found c cs d in
     let room : nat_lt (length found) 32 ≡ true = lt-ltb (length found) 32 (omega (arith, length-append found (c ∷ cs))) in
     let regroup : (found ++ c ∷ []) ++ cs ≡ found ++ c ∷ cs = append_assoc found (c ∷ []) cs in
-    let rest = codes_after_again (found ++ c ∷ []) ps cs each.1 (subst (IsDistinct nat_eq) (sym regroup) d) (subst (λ (l : List ℕ). length l ≤ 32) (sym regroup) most) in
+    let rest = codes_after_again (found ++ c ∷ []) ps cs each.1 (subst (IsDistinct nat_eq) (sym regroup) d)
+    (subst (λ (l : List ℕ). length l ≤ 32) (sym regroup) most) in
     rw (code, fresh, room) (rest ∙ ap (λ (xs : List ℕ). Some xs) regroup)
 
-pub prefixes_after_again : (found : List (List ℕ)) (ps : List (List ℕ)) (new : List (List ℕ)) → Each IsNumber ps new → length (found ++ new) ≤ 8 → prefixes_after found ps ≡ Some (found ++ new)
+pub prefixes_after_again : (found : List (List ℕ)) (ps : List (List ℕ)) (new : List (List ℕ)) → Each IsNumber ps new → length (found ++ new) ≤ 8
+    → prefixes_after found ps ≡ Some (found ++ new)
 unfolding prefixes_after
 prefixes_after_again found [] [] each most = ap (λ (xs : List (List ℕ)). Some xs) (sym (append-nil found))
 prefixes_after_again found [] (c ∷ cs) each most = absurd each

@@ -28,13 +28,15 @@ not_true false h = refl
 pub imsi_free : (found : List Subscriber) (s : Subscriber) → AllByRecursion (λ t. ¬ (Share t s)) found → is_some (at_imsi found s.imsi) ≡ false
 imsi_free [] s h = refl
 imsi_free (t ∷ ts) s h =
-    let apart : eq_by_cmp digits_cmp s.imsi t.imsi ≡ false = not_true (eq_by_cmp digits_cmp s.imsi t.imsi) (λ e. h.0 (inl (sym (same_digits s.imsi t.imsi e)))) in
+    let apart : eq_by_cmp digits_cmp s.imsi t.imsi ≡ false = not_true (eq_by_cmp digits_cmp s.imsi t.imsi)
+    (λ e. h.0 (inl (sym (same_digits s.imsi t.imsi e)))) in
     ap is_some (cond-false (eq_by_cmp digits_cmp s.imsi t.imsi) (Some t) (at_imsi ts s.imsi) apart) ∙ imsi_free ts s h.1
 
 pub msisdn_free : (found : List Subscriber) (s : Subscriber) → AllByRecursion (λ t. ¬ (Share t s)) found → is_some (at_msisdn found s.msisdn) ≡ false
 msisdn_free [] s h = refl
 msisdn_free (t ∷ ts) s h =
-    let apart : eq_by_cmp digits_cmp s.msisdn t.msisdn ≡ false = not_true (eq_by_cmp digits_cmp s.msisdn t.msisdn) (λ e. h.0 (inr (sym (same_digits s.msisdn t.msisdn e)))) in
+    let apart : eq_by_cmp digits_cmp s.msisdn t.msisdn ≡ false = not_true (eq_by_cmp digits_cmp s.msisdn t.msisdn)
+    (λ e. h.0 (inr (sym (same_digits s.msisdn t.msisdn e)))) in
     ap is_some (cond-false (eq_by_cmp digits_cmp s.msisdn t.msisdn) (Some t.imsi) (at_msisdn ts s.msisdn) apart) ∙ msisdn_free ts s h.1
 
 all_middle : {X : Type 0} (P : X → Type 0) (xs : List X) (y : X) (ys : List X) → AllByRecursion P (xs ++ y ∷ ys) → P y
@@ -45,7 +47,8 @@ pub apart_middle : (found : List Subscriber) (s : Subscriber) (ss : List Subscri
 apart_middle [] s ss h = tt
 apart_middle (t ∷ ts) s ss h = (all_middle (λ u. ¬ (Share t u)) ts s ss h.0, apart_middle ts s ss h.1)
 
-records_again : (version : Version) (found : List Subscriber) (n : ℕ) (ls : List (List ℕ)) (rs : List Subscriber) → Each (IsRecordLine version) ls rs → AreApart (found ++ rs) → records_after version found n ls ≡ Ok (found ++ rs)
+records_again : (version : Version) (found : List Subscriber) (n : ℕ) (ls : List (List ℕ)) (rs : List Subscriber) → Each (IsRecordLine version) ls rs
+    → AreApart (found ++ rs) → records_after version found n ls ≡ Ok (found ++ rs)
 unfolding records_after
 records_again version found n [] [] h apart = ap (λ (x : List Subscriber). Ok x) (sym (append-nil found))
 records_again version found n [] (s ∷ ss) h apart = absurd h
@@ -56,7 +59,8 @@ records_again version found n (l ∷ ls) (s ∷ ss) h apart =
     let rest = records_again version (found ++ s ∷ []) (n + 1) ls ss h.1 (subst AreApart (sym regroup) apart) in
     rw (record_again version l s h.0, imsi_free found s free, msisdn_free found s free) (rest ∙ ap (λ (x : List Subscriber). Ok x) regroup)
 
-below_again : (version : Version) (more : List (List ℕ)) (hlr : List ℕ) (f : Contents) → hlr ≡ f.hlr → Each (IsRecordLine version) more f.records → AreApart f.records → contents_below (Some (version, hlr)) more ≡ Ok f
+below_again : (version : Version) (more : List (List ℕ)) (hlr : List ℕ) (f : Contents) → hlr ≡ f.hlr → Each (IsRecordLine version) more f.records
+    → AreApart f.records → contents_below (Some (version, hlr)) more ≡ Ok f
 below_again version more hlr f e each apart =
     ap (and_then (λ found. Ok (with_hlr hlr found))) (records_again version [] 2 more f.records each apart) ∙ ap (λ (h : List ℕ). Ok (with_hlr h f.records)) e
 
@@ -113,7 +117,8 @@ record FirstFault (version : Version) (found : List Subscriber) (n : ℕ) (ls : 
   apart : AreApart found → AreApart (found ++ new)
   fault : LineFault (found ++ new) (n + length front) (record_of version (parts 32 line)) e
 
-first_fault : (version : Version) (found : List Subscriber) (n : ℕ) (ls : List (List ℕ)) (e : RecordsFault) → records_after version found n ls ≡ Err e → FirstFault version found n ls e
+first_fault : (version : Version) (found : List Subscriber) (n : ℕ) (ls : List (List ℕ)) (e : RecordsFault) → records_after version found n ls ≡ Err e
+    → FirstFault version found n ls e
 unfolding records_after
 first_fault version found n [] e is = absurd cc
 first_fault version found n (line ∷ more) e is =
@@ -130,7 +135,8 @@ first_fault version found n (line ∷ more) e is =
             whole = refl;
             each = tt;
             apart = λ h. subst AreApart all h;
-            fault = subst (λ (m : ℕ). LineFault (found ++ []) m (record_of version (parts 32 line)) e) place (subst (λ (x : List Subscriber). LineFault x n (record_of version (parts 32 line)) e) all f);
+            fault = subst (λ (m : ℕ). LineFault (found ++ []) m (record_of version (parts 32 line)) e) place
+                (subst (λ (x : List Subscriber). LineFault x n (record_of version (parts 32 line)) e) all f);
           }
       | inr good ↦
           let l = line_found found n (record_of version (parts 32 line)) good.0 good.1 in
@@ -145,7 +151,8 @@ first_fault version found n (line ∷ more) e is =
             whole = ap (λ (x : List (List ℕ)). line ∷ x) r.whole;
             each = (record_found version line l.s l.is, r.each);
             apart = λ h. subst AreApart regroup (r.apart (subst AreApart (sym l.pushed) (AreApart-push found l.s h l.none_share)));
-            fault = subst (λ (m : ℕ). LineFault (found ++ l.s ∷ r.new) m (record_of version (parts 32 r.line)) e) place (subst (λ (x : List Subscriber). LineFault x ((n + 1) + length r.front) (record_of version (parts 32 r.line)) e) regroup r.fault);
+            fault = subst (λ (m : ℕ). LineFault (found ++ l.s ∷ r.new) m (record_of version (parts 32 r.line)) e) place
+                (subst (λ (x : List Subscriber). LineFault x ((n + 1) + length r.front) (record_of version (parts 32 r.line)) e) regroup r.fault);
           }
     ]
 
@@ -153,7 +160,8 @@ first_fault version found n (line ∷ more) e is =
 abbrev pub IsFault : List ℕ → RecordsFault → Type 0
 IsFault text e = ((n : ℕ) × (e ≡ BadLine n) × IsBadLine text n) ⊎ ((n : ℕ) × (e ≡ Twice n) × IsTwice text n)
 
-below_fault : (text header : List ℕ) (more : List (List ℕ)) (h : Option (Version × List ℕ)) (e : RecordsFault) → lines text ≡ header ∷ more → header_in header ≡ h → contents_below h more ≡ Err e → IsFault text e
+below_fault : (text header : List ℕ) (more : List (List ℕ)) (h : Option (Version × List ℕ)) (e : RecordsFault) → lines text ≡ header ∷ more
+    → header_in header ≡ h → contents_below h more ≡ Err e → IsFault text e
 below_fault text header more None e whole is bad =
     inl (
       1,
@@ -181,7 +189,18 @@ below_fault text header more (Some h) e whole is bad =
             are_lines = record { is_header = header_found header h is; are_records = r.each; are_apart = r.apart tt };
           } in
           elim r.fault [
-            | inl f ↦ inl (2 + length r.front, f.1, inr (h.0, with_hlr h.1 r.new, r.line, before, λ s good. let read = record_again h.0 r.line s good in cc (sym f.0 ∙ read)))
+            | inl f ↦ inl (
+              2 + length r.front,
+              f.1,
+              inr (
+                h.0,
+                with_hlr h.1 r.new,
+                r.line,
+                before,
+                λ s good. let read = record_again h.0 r.line s good in cc
+                    (sym f.0 ∙ read),
+              ),
+            )
             | inr f ↦ inr (2 + length r.front, f.2, (h.0, with_hlr h.1 r.new, r.line, before, f.0, record_found h.0 r.line f.0 f.1, f.3))
           ]
     ]

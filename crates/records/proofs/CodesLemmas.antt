@@ -1,5 +1,5 @@
 -- What is read if something was read.
-use Rattle.std.proofs.Common.{◌≡◌, List, ℕ, refl, ap, ◌∙◌, sym}
+use Rattle.std.proofs.Common.{◌≡◌, List, ℕ, refl}
 use Rattle.std.specs.Prelude.{Option, Some, None, option_map}
 
 pub some_read : {A : Type 0} (items : A → List ℕ) (r : Option A) (x : A) (others : List ℕ) → r ≡ Some x → option_map items r ≡ Some others → items x ≡ others

@@ -33,7 +33,8 @@ not_purged field None purged h e = h.1
 not_purged field (Some r) purged h e = absurd cc
 
 -- a line that is read is a record
-pub keeps : (imsi msisdn codes roam register : List ℕ) (w : Bool) (s : Subscriber) → subscriber_of imsi msisdn codes roam register w ≡ Some s → AreOctets s.codes → MayServe s.register → IsRecord s
+pub keeps : (imsi msisdn codes roam register : List ℕ) (w : Bool) (s : Subscriber) → subscriber_of imsi msisdn codes roam register w ≡ Some s
+    → AreOctets s.codes → MayServe s.register → IsRecord s
 keeps imsi msisdn codes roam register w s e octets serves =
     let f = subscriber_found imsi msisdn codes roam register w s e in
     record {
@@ -53,11 +54,13 @@ keeps imsi msisdn codes roam register w s e octets serves =
 
 -- ---- a field of codes
 
-pub codes_read : {A : Type 0} (field : List ℕ) (items : A → List ℕ) (read : Option A) → option_map items read ≡ codes_in field → IfSome read (λ codes. IsCodes field (items codes))
+pub codes_read : {A : Type 0} (field : List ℕ) (items : A → List ℕ) (read : Option A) → option_map items read ≡ codes_in field
+    → IfSome read (λ codes. IsCodes field (items codes))
 codes_read field items None e = tt
 codes_read field items (Some codes) e = codes_found field (items codes) (sym e)
 
-pub codes_read_allowed : {A : Type 0} (field : List ℕ) (items : A → List ℕ) (read : Option A) → option_map items read ≡ codes_in field → IfSome read (λ codes. AreAllowed (items codes))
+pub codes_read_allowed : {A : Type 0} (field : List ℕ) (items : A → List ℕ) (read : Option A) → option_map items read ≡ codes_in field
+    → IfSome read (λ codes. AreAllowed (items codes))
 codes_read_allowed field items None e = tt
 codes_read_allowed field items (Some codes) e = codes_allowed field (items codes) (codes_found field (items codes) (sym e))
 
@@ -68,7 +71,8 @@ record_with imsi msisdn codes roam register purged withdrawn =
     record { imsi = imsi; msisdn = msisdn; codes = codes; roam = roam; register = register; purged = purged; current = None; withdrawn = withdrawn }
 
 pub fields_keep : (imsi msisdn codes roam register : List ℕ) (w : Bool) (i m cs : List ℕ) (ro : Option (List (List ℕ))) (re : Option Register) (p : Bool)
-    → imsi_in imsi ≡ Some i → digits_in msisdn ≡ Some m → codes_in codes ≡ Some cs → roam_in roam ≡ Some ro → register_in register ≡ Some (re, p) → (w && is_some re) ≡ false
+    → imsi_in imsi ≡ Some i → digits_in msisdn ≡ Some m → codes_in codes ≡ Some cs → roam_in roam ≡ Some ro → register_in register ≡ Some (re, p)
+    → (w && is_some re) ≡ false
     → AreOctets cs → MayServe re → IsRecord (record_with i m cs ro re p w)
 unfolding subscriber_of
 fields_keep imsi msisdn codes roam register w i m cs ro re p is_i is_m is_c is_ro is_re left octets serves =

@@ -96,7 +96,14 @@ codes_after_found : (found : List ℕ) (ps : List (List ℕ)) (cs : List ℕ) �
 unfolding codes_after
 codes_after_found found [] cs e =
     let same : found ≡ cs = cc in
-    record { new = []; whole = sym same ∙ sym (append-nil found); each = tt; most = λ h. subst (λ (l : List ℕ). length l ≤ 32) same h; apart = λ h. subst (IsDistinct nat_eq) same h }
+    record {
+      new = [];
+      whole = sym same ∙ sym (append-nil found);
+      each = tt;
+      most = λ h. subst (λ (l : List ℕ). length l ≤ 32) same h;
+      apart = λ h. subst
+          (IsDistinct nat_eq) same h;
+    }
 codes_after_found found (part ∷ more) cs e =
     let b = bind_some (octet_in part) _ cs e in
     let g = guard_none (list_any (λ c. c == b.0) found) _ cs b.2 in
@@ -142,7 +149,17 @@ codes_found field cs e =
       | inr p ↦
           let r = codes_after_found [] (parts 44 field) cs p.1 in
           let each : Each IsCode (parts 44 field) cs = subst (λ (xs : List ℕ). Each IsCode (parts 44 field) xs) (sym r.whole) r.each in
-          inr (record { texts = parts 44 field; joined = joined_again 44 field; each = each; some = parts-some IsCode 44 field cs each; most = r.most (omega arith) }, r.apart none_twice)
+          inr (
+            record {
+              texts = parts 44 field;
+              joined = joined_again 44 field;
+              each = each;
+              some = parts-some IsCode 44 field cs each;
+              most = r.most
+                  (omega arith);
+            },
+            r.apart none_twice,
+          )
     ]
 
 -- ---- prefixes

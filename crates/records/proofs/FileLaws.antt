@@ -29,7 +29,8 @@ there false x o e = (refl, e)
 not_same : (a b : List ℕ) → eq_by_cmp digits_cmp a b ≡ false → a ≡ b → ⊥
 not_same a b apart e = false≢true (sym apart ∙ ap (eq_by_cmp digits_cmp a) (sym e) ∙ digits_tie a)
 
-none_shares : (found : List Subscriber) (s : Subscriber) → is_some (at_imsi found s.imsi) ≡ false → is_some (at_msisdn found s.msisdn) ≡ false → AllByRecursion (λ t. ¬ (Share t s)) found
+none_shares : (found : List Subscriber) (s : Subscriber) → is_some (at_imsi found s.imsi) ≡ false → is_some (at_msisdn found s.msisdn) ≡ false
+    → AllByRecursion (λ t. ¬ (Share t s)) found
 none_shares [] s i m = tt
 none_shares (t ∷ ts) s i m =
     let p = there (eq_by_cmp digits_cmp s.imsi t.imsi) t (at_imsi ts s.imsi) i in
@@ -73,7 +74,8 @@ record RecordsFound (version : Version) (found : List Subscriber) (ls : List (Li
   each : Each (IsRecordLine version) ls new
   apart : AreApart found → AreApart rs
 
-records_found : (version : Version) (found : List Subscriber) (n : ℕ) (ls : List (List ℕ)) (rs : List Subscriber) → records_after version found n ls ≡ Ok rs → RecordsFound version found ls rs
+records_found : (version : Version) (found : List Subscriber) (n : ℕ) (ls : List (List ℕ)) (rs : List Subscriber) → records_after version found n ls ≡ Ok rs
+    → RecordsFound version found ls rs
 unfolding records_after
 records_found version found n [] rs e =
     let same : found ≡ rs = cc in
@@ -89,7 +91,8 @@ records_found version found n (line ∷ more) rs e =
       apart = λ h. r.apart (subst AreApart (sym l.pushed) (AreApart-push found l.s h l.none_share));
     }
 
-contents_below_found : (text header : List ℕ) (more : List (List ℕ)) (h : Option (Version × List ℕ)) (f : Contents) → lines text ≡ header ∷ more → header_in header ≡ h → contents_below h more ≡ Ok f → File text f
+contents_below_found : (text header : List ℕ) (more : List (List ℕ)) (h : Option (Version × List ℕ)) (f : Contents) → lines text ≡ header ∷ more
+    → header_in header ≡ h → contents_below h more ≡ Ok f → File text f
 contents_below_found text header more None f whole is e = absurd cc
 contents_below_found text header more (Some h) f whole is e =
     let b = and_then_ok (λ found. Ok (with_hlr h.1 found)) (records_after h.0 [] 2 more) f e in

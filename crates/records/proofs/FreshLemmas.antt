@@ -34,6 +34,7 @@ pub fresh_empty : AreFresh map.empty
 fresh_empty = λ q s e. absurd (cc (sym (map.get-empty digits_cmp q) ∙ e))
 
 -- one more fresh record, unless memory runs out
-pub fresh_added : {A E : Type 0} (r : Result A E) (m n : RecordMap) (v : Subscriber) → OnOk r (n ≡ map.insert m v.imsi v) → OnErr r (n ≡ m) → AreFresh m → IsFresh v → AreFresh n
+pub fresh_added : {A E : Type 0} (r : Result A E) (m n : RecordMap) (v : Subscriber) → OnOk r (n ≡ map.insert m v.imsi v) → OnErr r (n ≡ m) → AreFresh m
+    → IsFresh v → AreFresh n
 fresh_added (Ok a) m n v ok err are fresh = subst AreFresh (sym ok) (fresh_insert m v.imsi v are fresh)
 fresh_added (Err e) m n v ok err are fresh = subst AreFresh (sym err) are

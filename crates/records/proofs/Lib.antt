@@ -1,5 +1,8 @@
 pub mod MapLemmas
-pub mod PartLemmas
+pub mod OrderLemmas
+pub mod InOrder
+pub mod TakenLemmas
+pub mod MovedLemmas
 pub mod OctetLemmas
 pub mod PartsLemmas
 pub mod LinesLemmas
@@ -17,7 +20,6 @@ pub mod Readings
 pub mod WrittenLemmas
 pub mod SavedLaws
 pub mod SameLemmas
-pub mod SplitLemmas
 pub mod CodesLemmas
 pub mod Computed
 pub mod FilesRead

@@ -47,7 +47,8 @@ free_of : {A : Type 0} (w : Bool) (o : Option A) → (w && is_some o) ≡ false 
 free_of true o e is = none_there o e
 free_of false o e is = absurd (false≢true is)
 
-pub subscriber_found : (imsi msisdn codes roam register : List ℕ) (w : Bool) (s : Subscriber) → subscriber_of imsi msisdn codes roam register w ≡ Some s → SubscriberFound imsi msisdn codes roam register w s
+pub subscriber_found : (imsi msisdn codes roam register : List ℕ) (w : Bool) (s : Subscriber) → subscriber_of imsi msisdn codes roam register w ≡ Some s
+    → SubscriberFound imsi msisdn codes roam register w s
 unfolding subscriber_of
 subscriber_found imsi msisdn codes roam register w s e =
     let i = bind_some (imsi_in imsi) _ s e in
@@ -156,4 +157,9 @@ header_found line h e =
     let d = bind_some (digits_in (drop 5 line)) _ h v.2 in
     let made : Version × List ℕ = (v.0, d.0) in
     let same : made ≡ h = cc in
-    subst (λ (x : Version × List ℕ). IsHeader line x.0 x.1) same (drop 5 line, sym (take-append-drop 5 line) ∙ ap (λ (t : List ℕ). t ++ drop 5 line) (version_found (take 5 line) v.0 v.1), number_found (drop 5 line) d.0 d.1)
+    subst (λ (x : Version × List ℕ). IsHeader line x.0 x.1) same (
+      drop 5 line,
+      sym (take-append-drop 5 line) ∙ ap (λ (t : List ℕ). t ++ drop 5 line) (version_found (take 5 line) v.0 v.1),
+      number_found
+          (drop 5 line) d.0 d.1,
+    )

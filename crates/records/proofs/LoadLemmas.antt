@@ -13,16 +13,18 @@ use Rattle.records.specs.Loaded.{Subscribers, imsi_entry, msisdn_entry, by_imsi,
 use Rattle.records.specs.Reading.{record_of, at_imsi, at_msisdn, records_after, and_then, with_hlr, below_header}
 use Rattle.records.proofs.MapLemmas.{digits_total, digits_exact}
 
-none_is : {A : Type 0} (o : Option A) → is_some o ≡ false → o ≡ None
+pub none_is : {A : Type 0} (o : Option A) → is_some o ≡ false → o ≡ None
 none_is None e = refl
 none_is (Some x) e = absurd (false≢true (sym e))
 
-by_imsi-push : (found : List Subscriber) (s : Subscriber) → is_some (at_imsi found s.imsi) ≡ false → by_imsi (found ++ s ∷ []) ≡ map.insert (by_imsi found) s.imsi s
+by_imsi-push : (found : List Subscriber) (s : Subscriber) → is_some (at_imsi found s.imsi) ≡ false
+    → by_imsi (found ++ s ∷ []) ≡ map.insert (by_imsi found) s.imsi s
 by_imsi-push found s new =
     ap (λ es. map.from_entries es) (map-append imsi_entry found (s ∷ []))
     ∙ map.from_entries_push digits_total digits_exact (each imsi_entry found) s.imsi s (none_is (at_imsi found s.imsi) new)
 
-by_msisdn-push : (found : List Subscriber) (s : Subscriber) → is_some (at_msisdn found s.msisdn) ≡ false → by_msisdn (found ++ s ∷ []) ≡ map.insert (by_msisdn found) s.msisdn s.imsi
+by_msisdn-push : (found : List Subscriber) (s : Subscriber) → is_some (at_msisdn found s.msisdn) ≡ false
+    → by_msisdn (found ++ s ∷ []) ≡ map.insert (by_msisdn found) s.msisdn s.imsi
 by_msisdn-push found s new =
     ap (λ es. map.from_entries es) (map-append msisdn_entry found (s ∷ []))
     ∙ map.from_entries_push digits_total digits_exact (each msisdn_entry found) s.msisdn s.imsi (none_is (at_msisdn found s.msisdn) new)
@@ -33,17 +35,22 @@ pub record IsAtLine (version : Version) (loaded : Subscribers) (hlr : List ℕ) 
   pub holds : loaded ≡ loaded_from (with_hlr hlr found)
   pub so_far : records_after version found n left ≡ records_after version [] 2 all
 
-module _ (version : Version) (loaded : Subscribers) (hlr : List ℕ) (n : ℕ) (left : List (List ℕ)) (all : List (List ℕ)) (at : IsAtLine version loaded hlr n left all) where
+module _ (version : Version) (loaded : Subscribers) (hlr : List ℕ) (n : ℕ) (left : List (List ℕ)) (all : List (List ℕ))
+    (at : IsAtLine version loaded hlr n left all) where
   stands_imsi : (imsi : List ℕ) (b : Bool) → is_some (map.get loaded.records imsi) ≡ b → is_some (at_imsi at.found imsi) ≡ b
-  stands_imsi imsi b e = ap is_some (sym (map.get-from_entries digits_total (each imsi_entry at.found) imsi)) ∙ ap (λ (l : Subscribers). is_some (map.get l.records imsi)) (sym at.holds) ∙ e
+  stands_imsi imsi b e = ap is_some (sym (map.get-from_entries digits_total (each imsi_entry at.found) imsi))
+      ∙ ap (λ (l : Subscribers). is_some (map.get l.records imsi)) (sym at.holds) ∙ e
 
   stands_msisdn : (msisdn : List ℕ) (b : Bool) → is_some (map.get loaded.directory msisdn) ≡ b → is_some (at_msisdn at.found msisdn) ≡ b
-  stands_msisdn msisdn b e = ap is_some (sym (map.get-from_entries digits_total (each msisdn_entry at.found) msisdn)) ∙ ap (λ (l : Subscribers). is_some (map.get l.directory msisdn)) (sym at.holds) ∙ e
+  stands_msisdn msisdn b e = ap is_some (sym (map.get-from_entries digits_total (each msisdn_entry at.found) msisdn))
+      ∙ ap (λ (l : Subscribers). is_some (map.get l.directory msisdn)) (sym at.holds) ∙ e
 
-  ends : (r : Result (List Subscriber) RecordsFault) → records_after version at.found n left ≡ r → below_header version hlr all ≡ and_then (λ found. Ok (with_hlr hlr found)) r
+  ends : (r : Result (List Subscriber) RecordsFault) → records_after version at.found n left ≡ r
+      → below_header version hlr all ≡ and_then (λ found. Ok (with_hlr hlr found)) r
   ends r one = ap (and_then (λ found. Ok (with_hlr hlr found))) (sym at.so_far ∙ one)
 
-  pub line_is_bad : (line : List ℕ) (more : List (List ℕ)) → left ≡ line ∷ more → record_of version (parts 32 line) ≡ None → below_header version hlr all ≡ Err (BadLine n)
+  pub line_is_bad : (line : List ℕ) (more : List (List ℕ)) → left ≡ line ∷ more → record_of version (parts 32 line) ≡ None
+      → below_header version hlr all ≡ Err (BadLine n)
   unfolding records_after
   line_is_bad line more is none = ends (Err (BadLine n)) (rw (is, none) refl)
 
@@ -54,14 +61,16 @@ module _ (version : Version) (loaded : Subscribers) (hlr : List ℕ) (n : ℕ) (
         let stands = stands_imsi s.imsi true taken in
         ends (Err (Twice n)) (rw (is, some, stands) refl)
 
-    pub msisdn_stands_twice : is_some (map.get loaded.records s.imsi) ≡ false → is_some (map.get loaded.directory s.msisdn) ≡ true → below_header version hlr all ≡ Err (Twice n)
+    pub msisdn_stands_twice : is_some (map.get loaded.records s.imsi) ≡ false → is_some (map.get loaded.directory s.msisdn) ≡ true
+        → below_header version hlr all ≡ Err (Twice n)
     unfolding records_after
     msisdn_stands_twice free taken =
         let new = stands_imsi s.imsi false free in
         let stands = stands_msisdn s.msisdn true taken in
         ends (Err (Twice n)) (rw (is, some, new, stands) refl)
 
-    pub line_goes_on : is_some (map.get loaded.records s.imsi) ≡ false → is_some (map.get loaded.directory s.msisdn) ≡ false → (next : Subscribers) → next ≡ with_record loaded s → IsAtLine version next hlr (n + 1) more all
+    pub line_goes_on : is_some (map.get loaded.records s.imsi) ≡ false → is_some (map.get loaded.directory s.msisdn) ≡ false → (next : Subscribers)
+        → next ≡ with_record loaded s → IsAtLine version next hlr (n + 1) more all
     unfolding records_after
     line_goes_on free_imsi free_msisdn next adds =
         let new = stands_imsi s.imsi false free_imsi in
@@ -80,5 +89,6 @@ module _ (version : Version) (loaded : Subscribers) (hlr : List ℕ) (n : ℕ) (
   unfolding records_after
   lines_end is = (with_hlr hlr at.found, ends (Ok at.found) (rw is refl), at.holds)
 
-pub begins : (version : Version) (loaded : Subscribers) (hlr : List ℕ) (all : List (List ℕ)) → loaded ≡ loaded_from (with_hlr hlr []) → IsAtLine version loaded hlr 2 all all
+pub begins : (version : Version) (loaded : Subscribers) (hlr : List ℕ) (all : List (List ℕ)) → loaded ≡ loaded_from (with_hlr hlr [])
+    → IsAtLine version loaded hlr 2 all all
 begins version loaded hlr all e = record { found = []; holds = e; so_far = refl }

@@ -10,7 +10,8 @@ use Rattle.records.specs.declared.version.Version.TheVariants.{One, Two}
 use Rattle.records.specs.File.{parts}
 use Rattle.records.specs.Reading.{register_of, record_of, octet_in, codes_after}
 
-at_first : (at : ℕ) (text : List ℕ) (i : ℕ) → i < length text → ((k : ℕ) → k < i → get_or text k 0 ≡ at → ⊥) → get_or text i 0 ≡ at → parts at text ≡ take i text ∷ parts at (drop (suc i) text)
+at_first : (at : ℕ) (text : List ℕ) (i : ℕ) → i < length text → ((k : ℕ) → k < i → get_or text k 0 ≡ at → ⊥) → get_or text i 0 ≡ at
+    → parts at text ≡ take i text ∷ parts at (drop (suc i) text)
 at_first at [] i lt before here = absurd (omega arith)
 at_first at (x ∷ xs) zero lt before here = slice_split-cons_yes (λ b. b == at) x xs (eq-eqb x at here)
 at_first at (x ∷ xs) (suc i) lt before here =
@@ -18,7 +19,8 @@ at_first at (x ∷ xs) (suc i) lt before here =
     slice_split-cons_no (λ b. b == at) x xs (ne_eqb x at (before 0 (omega arith))) ∙ ap (onto_first x) rest
 
 -- up to the first separator, and after it
-pub parts_at : (at : ℕ) (text : List ℕ) (i : ℕ) → i < length text → ((k : ℕ) → k < i → get_or text k 0 ≡ at → ⊥) → get_or text i 0 ≡ at → parts at text ≡ take i text ∷ parts at (drop (i + 1) text)
+pub parts_at : (at : ℕ) (text : List ℕ) (i : ℕ) → i < length text → ((k : ℕ) → k < i → get_or text k 0 ≡ at → ⊥) → get_or text i 0 ≡ at
+    → parts at text ≡ take i text ∷ parts at (drop (i + 1) text)
 parts_at at text i lt before here = rw add-one (at_first at text i lt before here)
 
 -- a text with no separator is its one part
@@ -58,7 +60,8 @@ unfolding record_of
 record_of_six a b c d e text = let p = parts_cons 32 text in rw p.2 refl
 
 -- a code that occurs twice
-pub codes_after-repeated : (found : List ℕ) (part : List ℕ) (more : List (List ℕ)) (code : ℕ) (total : Option (List ℕ)) → octet_in part ≡ Some code → list_any (λ c. c == code) found ≡ true
+pub codes_after-repeated : (found : List ℕ) (part : List ℕ) (more : List (List ℕ)) (code : ℕ) (total : Option (List ℕ)) → octet_in part ≡ Some code
+    → list_any (λ c. c == code) found ≡ true
     → codes_after found (part ∷ more) ≡ total → None ≡ total
 unfolding codes_after
 codes_after-repeated found part more code total is has so_far =

@@ -10,11 +10,13 @@ use Rattle.records.proofs.AgainFiles.{file_again, file_fault}
 use Rattle.records.proofs.AgainFaults.{bad_line_again, twice_again}
 use Rattle.records.proofs.FileLaws.{file_found}
 
-pub answers_found : (text : List ℕ) (r : Result Subscribers RecordsFault) → Answers r (contents_of (lines text)) → IfOk r (λ loaded. (contents : Contents) × File text contents × (loaded ≡ loaded_from contents))
+pub answers_found : (text : List ℕ) (r : Result Subscribers RecordsFault) → Answers r (contents_of (lines text))
+    → IfOk r (λ loaded. (contents : Contents) × File text contents × (loaded ≡ loaded_from contents))
 answers_found text (Ok loaded) h = (h.0, file_found text h.0 h.1, h.2)
 answers_found text (Err e) h = tt
 
-answers_ok : (r : Result Subscribers RecordsFault) (contents : Contents) → Answers r (Ok contents) → MatchResult r (λ loaded. loaded ≡ loaded_from contents) (λ fault. fault ≡ Memory)
+answers_ok : (r : Result Subscribers RecordsFault) (contents : Contents) → Answers r (Ok contents)
+    → MatchResult r (λ loaded. loaded ≡ loaded_from contents) (λ fault. fault ≡ Memory)
 answers_ok (Ok loaded) contents h = let same : contents ≡ h.0 = cc (h.1) in cc (h.2)
 answers_ok (Err (BadLine n)) contents h = absurd (cc h)
 answers_ok (Err (Twice n)) contents h = absurd (cc h)
@@ -38,7 +40,8 @@ twice_is text n e =
       | inr f ↦ let same : f.0 ≡ n = cc (f.1) in subst (IsTwice text) same f.2
     ]
 
-pub answers_bad_line : (text : List ℕ) (r : Result Subscribers RecordsFault) (n : ℕ) → Answers r (contents_of (lines text)) → r ≡ Err (BadLine n) → IsBadLine text n
+pub answers_bad_line : (text : List ℕ) (r : Result Subscribers RecordsFault) (n : ℕ) → Answers r (contents_of (lines text)) → r ≡ Err (BadLine n)
+    → IsBadLine text n
 answers_bad_line text r n h e = bad_line_is text n (subst (λ (x : Result Subscribers RecordsFault). Answers x (contents_of (lines text))) e h)
 
 pub answers_twice : (text : List ℕ) (r : Result Subscribers RecordsFault) (n : ℕ) → Answers r (contents_of (lines text)) → r ≡ Err (Twice n) → IsTwice text n

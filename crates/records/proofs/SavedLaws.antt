@@ -27,7 +27,17 @@ each_code (c ∷ cs) h = (decode_of-encode_upper (c ∷ []) (bytes (c ∷ []) (h
 
 is_codes : (cs : List ℕ) → AreAllowed cs → AreOctets cs → IsCodes (codes_text cs) cs
 is_codes [] h octets = inl (refl, refl)
-is_codes (c ∷ cs) h octets = inr (record { texts = map code_text (c ∷ cs); joined = refl; each = each_code (c ∷ cs) octets; some = omega arith; most = h.most }, h.different)
+is_codes (c ∷ cs) h octets = inr (
+  record {
+    texts = map code_text (c ∷ cs);
+    joined = refl;
+    each = each_code
+        (c ∷ cs) octets;
+    some = omega arith;
+    most = h.most;
+  },
+  h.different,
+)
 
 each_number : (ps : List (List ℕ)) → AllByRecursion AreSomeDigits ps → Each IsNumber (map text_of ps) ps
 each_number [] h = tt
@@ -41,7 +51,8 @@ is_lmsi : (lmsi : Option (List ℕ)) → MayHaveLmsi lmsi → IsLmsiField (lmsi_
 is_lmsi None h = refl
 is_lmsi (Some lmsi) h = (ap decode_of (octets_listed lmsi) ∙ decode_of-encode_upper lmsi (bytes lmsi h.1), h.0)
 
-is_register : (register : Option Register) (purged : Bool) → (register ≡ None → purged ≡ false) → MayServe register → IsRegister (register_text register purged) register purged
+is_register : (register : Option Register) (purged : Bool) → (register ≡ None → purged ≡ false) → MayServe register
+    → IsRegister (register_text register purged) register purged
 is_register None purged h k = (refl, h refl)
 is_register (Some r) purged h k = (text_of r.vlr, text_of r.msc, lmsi_text r.lmsi, refl, (refl, k.0), (refl, k.1), is_lmsi r.lmsi k.2)
 
@@ -71,7 +82,8 @@ line_lacks : (s : Subscriber) → IsRecord s → Lacks 10 (record_line Two s)
 unfolding is_record_line
 line_lacks s h =
     let l = is_record_line Two s h h.place.left in
-    Lacks-join 10 32 (l.imsi ∷ l.msisdn ∷ l.codes ∷ l.roam ∷ l.register ∷ sixth Two s.withdrawn) refl (fields_lack 10 line_feed Two (record_line Two s) (unmarked s) l)
+    Lacks-join 10 32 (l.imsi ∷ l.msisdn ∷ l.codes ∷ l.roam ∷ l.register ∷ sixth Two s.withdrawn) refl
+    (fields_lack 10 line_feed Two (record_line Two s) (unmarked s) l)
 
 one_line : (line rest : List ℕ) → Lacks 10 line → lines ((line ++ 10 ∷ []) ++ rest) ≡ line ∷ lines rest
 one_line line rest lacks =
@@ -84,13 +96,15 @@ ended ls = flat_map (λ line. line ++ 10 ∷ []) ls
 record_lines : (ss : List Subscriber) → AllByRecursion IsRecord ss → lines (ended (map (record_line Two) ss)) ≡ map (record_line Two) ss
 record_lines [] h = lines_nil
 record_lines (s ∷ ss) h =
-    one_line (record_line Two s) (ended (map (record_line Two) ss)) (line_lacks s h.0) ∙ ap (λ (ls : List (List ℕ)). record_line Two s ∷ ls) (record_lines ss h.1)
+    one_line (record_line Two s) (ended (map (record_line Two) ss)) (line_lacks s h.0) ∙ ap (λ (ls : List (List ℕ)). record_line Two s ∷ ls)
+    (record_lines ss h.1)
 
 each_line : (ss : List Subscriber) → AllByRecursion IsRecord ss → Each (IsRecordLine Two) (map (record_line Two) ss) (map unmarked ss)
 each_line [] h = tt
 each_line (s ∷ ss) h = (is_record_line Two s h.0 h.0.place.left, each_line ss h.1)
 
-none_shares : (s : Subscriber) (ts : List Subscriber) → AllByRecursion (λ t. ¬ (Share s t)) ts → AllByRecursion (λ t. ¬ (Share (unmarked s) t)) (map unmarked ts)
+none_shares : (s : Subscriber) (ts : List Subscriber) → AllByRecursion (λ t. ¬ (Share s t)) ts
+    → AllByRecursion (λ t. ¬ (Share (unmarked s) t)) (map unmarked ts)
 none_shares s [] h = tt
 none_shares s (t ∷ ts) h = (h.0, none_shares s ts h.1)
 
@@ -106,14 +120,16 @@ saved_is_read hlr ss digits facts apart = record {
   version = Two;
   header = header_line Two hlr;
   below = map (record_line Two) ss;
-  whole = one_line (header_line Two hlr) (ended (map (record_line Two) ss)) (Lacks-append 10 (mark_of Two) (text_of hlr) mark_lacks (Lacks-digits 10 hlr (omega arith)))
+  whole = one_line (header_line Two hlr) (ended (map (record_line Two) ss))
+      (Lacks-append 10 (mark_of Two) (text_of hlr) mark_lacks (Lacks-digits 10 hlr (omega arith)))
       ∙ ap (λ (ls : List (List ℕ)). header_line Two hlr ∷ ls) (record_lines ss facts);
   are_lines = record { is_header = (text_of hlr, refl, (refl, digits)); are_records = each_line ss facts; are_apart = apart_unmarked ss apart };
 }
 
 -- ---- a list of references to records
 
-lines_as : {A : Type 0} (now : A → Subscriber) (rs : List A) → flat_map (λ s. record_line Two (now s) ++ 10 ∷ []) rs ≡ ended (map (record_line Two) (map now rs))
+lines_as : {A : Type 0} (now : A → Subscriber) (rs : List A) → flat_map (λ s. record_line Two (now s) ++ 10 ∷ []) rs
+    ≡ ended (map (record_line Two) (map now rs))
 lines_as now [] = refl
 lines_as now (r ∷ rs) = ap (λ (t : List ℕ). (record_line Two (now r) ++ 10 ∷ []) ++ t) (lines_as now rs)
 

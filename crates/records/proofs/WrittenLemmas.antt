@@ -28,7 +28,8 @@ octets_listed (o ∷ os) = ap (λ (t : List ℕ). code_text o ++ t) (octets_list
 joined_two : (x a b y : List ℕ) → (x ++ (a ++ 32 ∷ b)) ++ 32 ∷ y ≡ x ++ (a ++ 32 ∷ (b ++ 32 ∷ y))
 joined_two x a b y = append_assoc x (a ++ 32 ∷ b) (32 ∷ y) ∙ ap (λ (t : List ℕ). x ++ t) (append_assoc a (32 ∷ b) (32 ∷ y))
 
-pub five_pieces : (old a b c d e o1 o2 o3 o4 o5 : List ℕ) → o1 ≡ old ++ (a ++ 32 ∷ b) → o2 ≡ o1 ++ 32 ∷ [] → o3 ≡ o2 ++ (c ++ 32 ∷ d) → o4 ≡ o3 ++ 32 ∷ [] → o5 ≡ o4 ++ e
+pub five_pieces : (old a b c d e o1 o2 o3 o4 o5 : List ℕ) → o1 ≡ old ++ (a ++ 32 ∷ b) → o2 ≡ o1 ++ 32 ∷ [] → o3 ≡ o2 ++ (c ++ 32 ∷ d) → o4 ≡ o3 ++ 32 ∷ []
+    → o5 ≡ o4 ++ e
     → o5 ≡ old ++ join_with_byte 32 (a ∷ b ∷ c ∷ d ∷ e ∷ [])
 five_pieces old a b c d e o1 o2 o3 o4 o5 e1 e2 e3 e4 e5 =
     let third : o3 ≡ o1 ++ 32 ∷ (c ++ 32 ∷ d) = e3 ∙ ap (λ (t : List ℕ). t ++ (c ++ 32 ∷ d)) e2 ∙ append_assoc o1 (32 ∷ []) (c ++ 32 ∷ d) in

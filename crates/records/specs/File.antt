@@ -64,13 +64,15 @@ pub record IsGoodBefore (written : List ℕ) (n : ℕ) (version : Version) (cont
 
 -- There is no first line, or it is no header.
 abbrev pub HasNoHeader : List ℕ → Type 0
-HasNoHeader written = (header : List ℕ) (below : List (List ℕ)) → lines written ≡ header ∷ below → (version : Version) (hlr : List ℕ) → ¬ (IsHeader header version hlr)
+HasNoHeader written = (header : List ℕ) (below : List (List ℕ)) → lines written ≡ header ∷ below → (version : Version) (hlr : List ℕ)
+    → ¬ (IsHeader header version hlr)
 
 -- The first line with a fault is line n: it does not have its form.
 abbrev pub IsBadLine : List ℕ → ℕ → Type 0
 IsBadLine written n =
     ((n ≡ 1) × HasNoHeader written)
-    ⊎ ((version : Version) × (contents : Contents) × (line : List ℕ) × IsGoodBefore written n version contents line × ((s : Subscriber) → ¬ (IsRecordLine version line s)))
+    ⊎ ((version : Version) × (contents : Contents) × (line : List ℕ) × IsGoodBefore written n version contents line
+    × ((s : Subscriber) → ¬ (IsRecordLine version line s)))
 
 -- The first line with a fault is line n: its IMSI or MSISDN is also on an earlier line.
 abbrev pub IsTwice : List ℕ → ℕ → Type 0

@@ -51,7 +51,8 @@ saved_contents hlr ss = record { hlr = hlr; records = each unmarked ss }
 -- What is saved is read again: if no two records share an IMSI or an MSISDN, the saved file is a records file with them as
 -- its contents.
 abbrev pub SavedIsRead : Type 0
-SavedIsRead = (hlr : List ℕ) (ss : List Subscriber) → AreSomeDigits hlr → AllByRecursion IsRecord ss → AreApart ss → File (saved_file hlr ss) (saved_contents hlr ss)
+SavedIsRead = (hlr : List ℕ) (ss : List Subscriber) → AreSomeDigits hlr → AllByRecursion IsRecord ss → AreApart ss
+    → File (saved_file hlr ss) (saved_contents hlr ss)
 
 -- ---- lists as they are written, item by item
 

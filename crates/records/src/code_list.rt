@@ -31,7 +31,8 @@ impl Codes {
     /// it is neither.
     pub fn read(alloc: Global, field: &[u8]) -> Result<Option<Codes>, AllocError>
         ensures found { IfOk result (λ read. IfSome read (λ codes. IsCodes field.now codes)) }
-        ensures only { (codes : List ℕ) → IsCodes field.now codes → IfOk result (λ read. read ≡ Some codes) }
+        ensures only { (codes : List ℕ) → IsCodes field.now codes
+            → IfOk result (λ read. read ≡ Some codes) }
     {
         let Some(codes) = read_codes(alloc, field)? else {
             return Ok(None);

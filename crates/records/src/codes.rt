@@ -38,7 +38,8 @@ pub(crate) fn codes_field(alloc: Global, field: &[u8]) -> Result<Option<Vec<u8>>
 
 #[tactic(auto, unfolding(crate::specs::Reading::codes_after))]
 fn listed_codes(alloc: Global, field: &[u8]) -> Result<Option<Vec<u8>>, AllocError>
-    ensures { IfOk result (λ read. option_map (λ codes. codes.items) read ≡ codes_after [] (parts 44 field.now)) }
+    ensures { IfOk result (λ read. option_map (λ codes. codes.items) read
+        ≡ codes_after [] (parts 44 field.now)) }
 {
     let mut codes = Vec::new(alloc);
     let mut rest = Some(field);

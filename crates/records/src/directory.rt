@@ -1,6 +1,6 @@
 //! The subscribers by MSISDN.
 
-ghost use Rattle.std.specs.Prelude.{◌≡◌, ◌↔◌, IfOk, IsTrue, OnOk, OnErr};
+ghost use Rattle.std.specs.Prelude.{◌≡◌, ◌↔◌, IfOk, IsTrue};
 ghost use Rattle.std.specs.FinMap as map;
 
 use hlr_types::{Imsi, IsdnAddress};
@@ -11,10 +11,12 @@ use std::marker::Model;
 /// The directory: each subscriber's IMSI by MSISDN. It is built when the records file is read, and then never changes.
 #[derive(Drop)]
 pub struct Directory {
-    imsis: BTreeMap<IsdnAddress, Imsi>,
+    /// Each MSISDN and its IMSI, in the order of the MSISDNs.
+    entries: Vec<(IsdnAddress, Imsi)>,
 }
 
 impl Model for Directory {
+    ghost use Rattle.std.specs.Prelude.{List, ℕ};
     ghost use Rattle.std.specs.FinMap as map;
     ghost use Rattle.records.specs.Maps.{DirectoryMap, directory_map_code};
 
@@ -22,41 +24,41 @@ impl Model for Directory {
 
     ghost coded = { directory_map_code };
 
-    ghost view = { λ d. map.from_entries d.imsis.entries };
+    ghost use Rattle.records.specs.Ordered.{AreOrderedBy};
+
+    ghost view = { λ d. map.from_entries d.entries.items };
+
+    ghost invariant = { λ d. AreOrderedBy (λ (e : List ℕ × List ℕ). e.0) d.entries.items };
 }
 
 impl Directory {
-    /// An empty directory.
-    pub(crate) fn new(alloc: Global) -> Directory
-        ensures { result ≡ map.empty }
+    /// The directory of these IMSIs by MSISDN.
+    pub(crate) fn of_tree(
+        alloc: Global,
+        imsis: BTreeMap<IsdnAddress, Imsi>,
+    ) -> Result<Directory, AllocError>
+        ensures { IfOk result (λ directory. directory ≡ map.from_entries imsis.entries) }
     {
-        Directory {
-            imsis: BTreeMap::new(alloc),
-        }
-    }
-
-    /// Puts an IMSI at its MSISDN.
-    pub(crate) fn add(&mut self, msisdn: IsdnAddress, imsi: Imsi) -> Result<(), AllocError>
-        ensures ok { OnOk result (self.new ≡ map.insert self.old msisdn imsi) }
-        ensures err { OnErr result (self.new ≡ self.old) }
-    {
-        self.imsis.insert(msisdn, imsi)?;
-        Ok(())
+        let _ordered = imsis.len();
+        let entries = imsis.into_iter().collect(alloc)?;
+        Ok(Directory { entries })
     }
 
     /// The IMSI of the subscriber with this MSISDN.
     pub fn find(&self, msisdn: &IsdnAddress) -> Option<Imsi>
         ensures { result ≡ map.get self.now msisdn.now }
     {
-        self.imsis.get(msisdn).copied()
+        let Ok(at) = self.entries.binary_search_by_key(msisdn, |entry| entry.0) else {
+            return None;
+        };
+        Some(self.entries[at].1)
     }
 
     /// Whether the directories are equal.
     pub fn same(&self, other: &Directory) -> bool
         ensures { IsTrue result ↔ (self.now ≡ other.now) }
     {
-        let (_ordered, _others_ordered) = (self.imsis.len(), other.imsis.len());
-        self.imsis == other.imsis
+        self.entries == other.entries
     }
 
     /// An equal copy.
@@ -64,7 +66,7 @@ impl Directory {
         ensures { IfOk result (λ copy. copy ≡ self.now) }
     {
         Ok(Directory {
-            imsis: self.imsis.clone()?,
+            entries: self.entries.clone()?,
         })
     }
 }

@@ -37,7 +37,8 @@ pub fn roam_field(alloc: Global, field: &[u8]) -> Result<Option<Roam>, AllocErro
 
 #[tactic(auto, unfolding(crate::specs::Reading::prefixes_after))]
 fn listed_prefixes(alloc: Global, field: &[u8]) -> Result<Option<Vec<Digits>>, AllocError>
-    ensures { IfOk result (λ read. option_map (λ prefixes. prefixes.items) read ≡ prefixes_after [] (parts 44 field.now)) }
+    ensures { IfOk result (λ read. option_map (λ prefixes. prefixes.items) read
+        ≡ prefixes_after [] (parts 44 field.now)) }
 {
     let mut prefixes = Vec::new(alloc);
     let mut rest = Some(field);

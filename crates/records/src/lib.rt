@@ -7,6 +7,7 @@
 mod code_list;
 mod codes;
 mod directory;
+mod directory_tree;
 mod examples;
 mod fault;
 mod fields;
@@ -21,6 +22,7 @@ mod records;
 mod roam;
 mod same;
 mod shard;
+mod unordered;
 mod version;
 mod write;
 

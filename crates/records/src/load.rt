@@ -1,6 +1,6 @@
 //! The reading of a records file.
 
-ghost use Rattle.std.specs.Prelude.{◌≡◌, ◌⊎◌, ℕ, ◌<◌, ◌+◌, ◌^◌, length, IfOk, MatchResult};
+ghost use Rattle.std.specs.Prelude.{◌≡◌, ◌⊎◌, ℕ, ◌<◌, ◌≤◌, ◌+◌, ◌^◌, length, IfOk, MatchResult};
 ghost use Rattle.records.specs.File.{lines, Contents, File, IsBadLine, IsTwice};
 ghost use Rattle.records.specs.Loaded.{loaded_from};
 ghost use Rattle.records.specs.Reading.{contents_of, below_header, Answers};
@@ -12,6 +12,9 @@ use crate::pieces::first_line;
 use crate::version::Version;
 use hlr_types::IsdnAddress;
 use std::alloc::Global;
+
+/// The fewest octets that the line of a record has, with its line feed.
+const LEAST_LINE: usize = 13;
 
 /// Reads a records file of version 1 or 2: ASCII lines, each ended by a line feed, which the last may lack. The first line is
 /// `HLR1 ` or `HLR2 ` and the digits of the HLR number. Every other line is a record, its fields separated by one space:
@@ -31,7 +34,8 @@ pub fn read_records(alloc: Global, text: &[u8]) -> Result<Loaded, RecordsFault>
 
     // A records file is read, unless memory runs out.
     ensures only { (contents : Contents) → File text.now contents
-        → MatchResult result (λ loaded. loaded ≡ loaded_from contents) (λ fault. fault ≡ RecordsFault.Memory) }
+        → MatchResult result (λ loaded. loaded ≡ loaded_from contents)
+        (λ fault. fault ≡ RecordsFault.Memory) }
 
     // A fault is the one of the first line with a fault.
     ensures bad_line { (n : ℕ) → result ≡ Err (RecordsFault.BadLine n) → IsBadLine text.now n }
@@ -39,9 +43,11 @@ pub fn read_records(alloc: Global, text: &[u8]) -> Result<Loaded, RecordsFault>
 
     // The first line with a fault is reported, unless memory runs out.
     ensures at_bad_line { (n : ℕ) → IsBadLine text.now n
-        → MatchResult result (λ _. ⊥) (λ fault. (fault ≡ RecordsFault.BadLine n) ⊎ (fault ≡ RecordsFault.Memory)) }
+        → MatchResult result (λ _. ⊥) (λ fault. (fault ≡ RecordsFault.BadLine n)
+        ⊎ (fault ≡ RecordsFault.Memory)) }
     ensures at_twice { (n : ℕ) → IsTwice text.now n
-        → MatchResult result (λ _. ⊥) (λ fault. (fault ≡ RecordsFault.Twice n) ⊎ (fault ≡ RecordsFault.Memory)) }
+        → MatchResult result (λ _. ⊥) (λ fault. (fault ≡ RecordsFault.Twice n)
+        ⊎ (fault ≡ RecordsFault.Memory)) }
 {
     load(alloc, text)
 }
@@ -69,7 +75,7 @@ fn load_lines(
     requires { length text.now + 1 < 2 ^ 64 }
     ensures { Answers result (below_header version hlr (lines text.now)) }
 {
-    let mut loading = Loading::new(alloc, hlr);
+    let mut loading = Loading::with_room(alloc, hlr, room_for(text))?;
     let mut before = 1;
     let mut rest = text;
     while !rest.is_empty() {
@@ -89,4 +95,12 @@ fn load_lines(
         rest = after;
     }
     Ok(loading.finish(alloc)?)
+}
+
+/// At least as many as these lines have records. So the records of a file are not moved while it is read.
+fn room_for(text: &[u8]) -> usize
+    ensures { result ≤ length text.now + 1 }
+{
+    let ends = text.iter().filter(|octet| **octet == b'\n').count();
+    ends.min(text.len() / LEAST_LINE).saturating_add(1)
 }

@@ -5,8 +5,10 @@ ghost use Rattle.std.specs.FinMap as map;
 ghost use Rattle.std.specs.Arc.{arc_value};
 
 use crate::directory::Directory;
+use crate::directory_tree::DirectoryTree;
 use crate::record::Record;
 use crate::records::Records;
+use crate::unordered::Unordered;
 use hlr_types::IsdnAddress;
 use std::alloc::{AllocError, Global};
 use std::marker::Model;
@@ -88,8 +90,8 @@ impl Loaded {
 #[derive(Drop)]
 pub(crate) struct Loading {
     hlr: IsdnAddress,
-    records: Records,
-    directory: Directory,
+    records: Unordered,
+    directory: DirectoryTree,
 }
 
 impl Model for Loading {
@@ -108,32 +110,37 @@ impl Model for Loading {
 impl Loading {
     ghost use Rattle.records.specs.Loaded.{with_record, nobody};
 
-    /// The HLR number, and no record.
-    pub(crate) fn new(alloc: Global, hlr: IsdnAddress) -> Loading
-        ensures { result ≡ nobody hlr }
+    /// The HLR number, no record, and room for so many.
+    pub(crate) fn with_room(
+        alloc: Global,
+        hlr: IsdnAddress,
+        room: usize,
+    ) -> Result<Loading, AllocError>
+        ensures { IfOk result (λ loading. loading ≡ nobody hlr) }
     {
-        Loading {
+        Ok(Loading {
             hlr,
-            records: Records::new(alloc),
-            directory: Directory::new(alloc),
-        }
+            records: Unordered::with_room(alloc, room)?,
+            directory: DirectoryTree::new(alloc),
+        })
     }
 
     pub(crate) fn has_imsi_of(&self, subscriber: &Record) -> bool
         ensures { result ≡ is_some (map.get self.now.records subscriber.now.imsi) }
     {
-        self.records.get(&subscriber.imsi).is_some()
+        self.records.has(&subscriber.imsi)
     }
 
     pub(crate) fn has_msisdn_of(&self, subscriber: &Record) -> bool
         ensures { result ≡ is_some (map.get self.now.directory subscriber.now.msisdn) }
     {
-        self.directory.find(&subscriber.msisdn).is_some()
+        self.directory.has(&subscriber.msisdn)
     }
 
-    /// Adds a record. After an error the value must not be used.
+    /// Adds a record whose IMSI is new. After an error the value must not be used.
     pub(crate) fn add(&mut self, subscriber: Record) -> Result<(), AllocError>
-        requires { subscriber.current ≡ None }
+        requires unmarked { subscriber.current ≡ None }
+        requires new { map.get self.old.records subscriber.imsi ≡ None }
         ensures { OnOk result (self.new ≡ with_record self.old subscriber) }
     {
         self.directory.add(subscriber.msisdn, subscriber.imsi)?;
@@ -146,8 +153,8 @@ impl Loading {
     {
         Ok(Loaded {
             hlr: self.hlr,
-            records: self.records,
-            directory: Arc::new(alloc, self.directory)?,
+            records: self.records.finish(),
+            directory: Arc::new(alloc, self.directory.finish()?)?,
         })
     }
 }

@@ -45,7 +45,8 @@ fn push_octet(out: &mut String, octet: u8) -> Result<(), AllocError>
 }
 
 fn push_octets(out: &mut String, octets: &[u8]) -> Result<(), AllocError>
-    ensures { OnOk result (string_bytes out.new ≡ string_bytes out.old ++ flat_map code_text octets.now) }
+    ensures { OnOk result (string_bytes out.new
+        ≡ string_bytes out.old ++ flat_map code_text octets.now) }
 {
     for octet in octets {
         push_octet(out, *octet)?;
@@ -75,7 +76,8 @@ fn push_codes(out: &mut String, codes: &[u8]) -> Result<(), AllocError>
 }
 
 fn push_following_codes(out: &mut String, codes: &[u8]) -> Result<(), AllocError>
-    ensures { OnOk result (string_bytes out.new ≡ string_bytes out.old ++ following_codes codes.now) }
+    ensures { OnOk result (string_bytes out.new
+        ≡ string_bytes out.old ++ following_codes codes.now) }
 {
     for code in codes {
         out.push_str(",")?;
@@ -85,7 +87,8 @@ fn push_following_codes(out: &mut String, codes: &[u8]) -> Result<(), AllocError
 }
 
 fn push_roam(out: &mut String, roam: &Roam) -> Result<(), AllocError>
-    ensures { OnOk result (string_bytes out.new ≡ string_bytes out.old ++ roam_text (prefixes_of roam.now)) }
+    ensures { OnOk result (string_bytes out.new
+        ≡ string_bytes out.old ++ roam_text (prefixes_of roam.now)) }
 {
     match roam {
         Roam::Everywhere => out.push_str("*"),
@@ -94,7 +97,8 @@ fn push_roam(out: &mut String, roam: &Roam) -> Result<(), AllocError>
 }
 
 fn push_prefixes(out: &mut String, prefixes: &[Digits]) -> Result<(), AllocError>
-    ensures { OnOk result (string_bytes out.new ≡ string_bytes out.old ++ roam_text (Some prefixes.now)) }
+    ensures { OnOk result (string_bytes out.new
+        ≡ string_bytes out.old ++ roam_text (Some prefixes.now)) }
 {
     let Some((first, rest)) = prefixes.split_first() else {
         return Ok(());
@@ -105,7 +109,8 @@ fn push_prefixes(out: &mut String, prefixes: &[Digits]) -> Result<(), AllocError
 }
 
 fn push_following_prefixes(out: &mut String, prefixes: &[Digits]) -> Result<(), AllocError>
-    ensures { OnOk result (string_bytes out.new ≡ string_bytes out.old ++ following_prefixes prefixes.now) }
+    ensures { OnOk result (string_bytes out.new
+        ≡ string_bytes out.old ++ following_prefixes prefixes.now) }
 {
     for prefix in prefixes {
         out.push_str(",")?;
@@ -128,7 +133,8 @@ fn push_register(
     register: &Option<Register>,
     purged: bool,
 ) -> Result<(), AllocError>
-    ensures { OnOk result (string_bytes out.new ≡ string_bytes out.old ++ register_text register.now purged) }
+    ensures { OnOk result (string_bytes out.new
+        ≡ string_bytes out.old ++ register_text register.now purged) }
 {
     let Some(register) = register else {
         return out.push_str("-");
@@ -149,13 +155,15 @@ fn push_purged(out: &mut String, purged: bool) -> Result<(), AllocError>
 }
 
 fn push_withdrawn(out: &mut String, withdrawn: bool) -> Result<(), AllocError>
-    ensures { OnOk result (string_bytes out.new ≡ string_bytes out.old ++ withdrawn_text withdrawn) }
+    ensures { OnOk result (string_bytes out.new
+        ≡ string_bytes out.old ++ withdrawn_text withdrawn) }
 {
     out.push_str(if withdrawn { "w" } else { "a" })
 }
 
 fn push_identity(out: &mut String, imsi: &Imsi, msisdn: &IsdnAddress) -> Result<(), AllocError>
-    ensures { OnOk result (string_bytes out.new ≡ string_bytes out.old ++ (text_of imsi.now ++ 32 ∷ text_of msisdn.now)) }
+    ensures { OnOk result (string_bytes out.new
+        ≡ string_bytes out.old ++ (text_of imsi.now ++ 32 ∷ text_of msisdn.now)) }
 {
     push_digits(out, imsi.digits())?;
     out.push_str(" ")?;
@@ -163,7 +171,9 @@ fn push_identity(out: &mut String, imsi: &Imsi, msisdn: &IsdnAddress) -> Result<
 }
 
 fn push_data(out: &mut String, codes: &[u8], roam: &Roam) -> Result<(), AllocError>
-    ensures { OnOk result (string_bytes out.new ≡ string_bytes out.old ++ (codes_text codes.now ++ 32 ∷ roam_text (prefixes_of roam.now))) }
+    ensures { OnOk result (string_bytes out.new
+        ≡ string_bytes out.old ++ (codes_text codes.now
+        ++ 32 ∷ roam_text (prefixes_of roam.now))) }
 {
     push_codes(out, codes)?;
     out.push_str(" ")?;
@@ -172,7 +182,8 @@ fn push_data(out: &mut String, codes: &[u8], roam: &Roam) -> Result<(), AllocErr
 
 /// The fields of both versions.
 fn push_fields(out: &mut String, subscriber: &Record) -> Result<(), AllocError>
-    ensures { OnOk result (string_bytes out.new ≡ string_bytes out.old ++ record_line One subscriber.now) }
+    ensures { OnOk result (string_bytes out.new
+        ≡ string_bytes out.old ++ record_line One subscriber.now) }
 {
     push_identity(out, &subscriber.imsi, &subscriber.msisdn)?;
     out.push_str(" ")?;
@@ -184,7 +195,8 @@ fn push_fields(out: &mut String, subscriber: &Record) -> Result<(), AllocError>
 
 /// A record's line, without a line feed.
 pub fn push_line(out: &mut String, version: Version, subscriber: &Record) -> Result<(), AllocError>
-    ensures { OnOk result (string_bytes out.new ≡ string_bytes out.old ++ record_line version subscriber.now) }
+    ensures { OnOk result (string_bytes out.new
+        ≡ string_bytes out.old ++ record_line version subscriber.now) }
 {
     push_fields(out, subscriber)?;
     match version {
@@ -199,7 +211,8 @@ pub fn push_line(out: &mut String, version: Version, subscriber: &Record) -> Res
 
 /// The first line of a file of version 2.
 pub fn push_header(out: &mut String, hlr: &IsdnAddress) -> Result<(), AllocError>
-    ensures line { OnOk result (string_bytes out.new ≡ string_bytes out.old ++ (header_line Two hlr.now ++ 10 ∷ [])) }
+    ensures line { OnOk result (string_bytes out.new
+        ≡ string_bytes out.old ++ (header_line Two hlr.now ++ 10 ∷ [])) }
     ensures digits { AreSomeDigits hlr.now }
 {
     let digits = hlr.digits();
@@ -211,7 +224,8 @@ pub fn push_header(out: &mut String, hlr: &IsdnAddress) -> Result<(), AllocError
 
 /// The line of a record in a file of version 2.
 fn push_ended_line(out: &mut String, subscriber: &Record) -> Result<(), AllocError>
-    ensures line { OnOk result (string_bytes out.new ≡ string_bytes out.old ++ (record_line Two subscriber.now ++ 10 ∷ [])) }
+    ensures line { OnOk result (string_bytes out.new
+        ≡ string_bytes out.old ++ (record_line Two subscriber.now ++ 10 ∷ [])) }
     ensures facts { IsRecord subscriber.now }
 {
     let _facts = &subscriber.codes;
@@ -221,7 +235,9 @@ fn push_ended_line(out: &mut String, subscriber: &Record) -> Result<(), AllocErr
 
 /// The lines of records in a file of version 2.
 pub fn push_lines(out: &mut String, subscribers: &[&Record]) -> Result<(), AllocError>
-    ensures lines { OnOk result (string_bytes out.new ≡ string_bytes out.old ++ flat_map (λ s. record_line Two s.now ++ 10 ∷ []) subscribers.now) }
+    ensures lines { OnOk result (string_bytes out.new
+        ≡ string_bytes out.old ++ flat_map
+        (λ s. record_line Two s.now ++ 10 ∷ []) subscribers.now) }
     ensures facts { OnOk result (AllByRecursion (λ s. IsRecord s.now) subscribers.now) }
 {
     for subscriber in subscribers {

@@ -1,9 +1,10 @@
 //! The subscribers of a shard.
 
-ghost use Rattle.std.specs.Prelude.{◌≡◌, ◌<◌, ◌↔◌, IsSome, IsTrue, IfSome, IfOk, OnOk, OnErr, option_copied, map as each, length, replicate};
+ghost use Rattle.std.specs.Prelude.{◌≡◌, ◌<◌, ◌↔◌, ◌==◌, IsSome, IsTrue, IfSome, IfNone, IfOk, OnOk, option_copied, count_by, map as each, length, replicate, slice_index_or};
 ghost use Rattle.std.specs.FinMap as map;
-ghost use Rattle.std.specs.BTreeMap.{values, IsOrdered};
-ghost use Rattle.records.specs.Maps.{digits_cmp};
+ghost use Rattle.records.specs.Maps.{shard_of};
+ghost use Rattle.records.specs.Loaded.{by_imsi};
+ghost use Rattle.records.specs.Ordered.{AreInOrder, IsPlaceOf, IsAbove};
 ghost use Rattle.records.specs.Parts.{AreParts, with_one};
 
 use crate::record::Record;
@@ -11,49 +12,57 @@ use crate::same::are_same;
 use crate::shard::shard_of;
 use hlr_types::{Imsi, Register, Tid};
 use std::alloc::{AllocError, Global};
-use std::collections::BTreeMap;
 use std::marker::Model;
 
-/// Records by IMSI.
+/// Records by IMSI. Who is a subscriber does not change, so they are kept in order, and found by halves.
 #[derive(Drop)]
 pub struct Records {
     alloc: Global,
-    by_imsi: BTreeMap<Imsi, Record>,
+    in_order: Vec<Record>,
 }
 
 impl Model for Records {
-    ghost use Rattle.std.specs.FinMap as map;
-    ghost use Rattle.records.specs.Maps.{RecordMap, record_map_code, AreByImsi};
+    ghost use Rattle.records.specs.Maps.{RecordMap, record_map_code};
+    ghost use Rattle.records.specs.Loaded.{by_imsi};
+    ghost use Rattle.records.specs.Ordered.{AreInOrder};
 
     ghost Value = { RecordMap };
 
     ghost coded = { record_map_code };
 
-    ghost view = { λ r. map.from_entries r.by_imsi.entries };
+    ghost view = { λ r. by_imsi r.in_order.items };
 
-    ghost invariant = { λ r. AreByImsi (map.from_entries r.by_imsi.entries) };
+    ghost invariant = { λ r. AreInOrder r.in_order.items };
 }
 
 impl Records {
     ghost use Rattle.records.specs.Subscriber.{Subscriber, IsRecord, IsPlace, AreAllowed, placed, allowed, ended};
     ghost use Rattle.records.specs.Maps.{part_of};
 
-    /// An empty map.
-    pub(crate) fn new(alloc: Global) -> Records
-        ensures { result ≡ map.empty }
+    /// An empty map with room for so many records.
+    fn with_room(alloc: Global, room: usize) -> Result<Records, AllocError>
+        ensures { IfOk result (λ records. records ≡ map.empty) }
     {
-        Records {
+        Ok(Records {
             alloc,
-            by_imsi: BTreeMap::new(alloc),
-        }
+            in_order: Vec::with_capacity(alloc, room)?,
+        })
     }
 
-    /// Puts a record under its IMSI.
-    pub(crate) fn add(&mut self, subscriber: Record) -> Result<(), AllocError>
-        ensures ok { OnOk result (self.new ≡ map.insert self.old subscriber.imsi subscriber) }
-        ensures err { OnErr result (self.new ≡ self.old) }
+    /// These records.
+    pub(crate) fn of_sorted(alloc: Global, in_order: Vec<Record>) -> Records
+        requires { AreInOrder in_order.items }
+        ensures { result ≡ by_imsi in_order.items }
     {
-        self.by_imsi.insert(subscriber.imsi, subscriber)?;
+        Records { alloc, in_order }
+    }
+
+    /// Appends a record whose IMSI comes after all others.
+    fn push(&mut self, subscriber: Record) -> Result<(), AllocError>
+        requires { IsAbove self.old subscriber.imsi }
+        ensures { OnOk result (self.new ≡ map.insert self.old subscriber.imsi subscriber) }
+    {
+        self.in_order.push(subscriber)?;
         Ok(())
     }
 
@@ -65,7 +74,10 @@ impl Records {
         ensures facts { IfSome result (λ found. IsRecord found.now) }
         ensures own { IfSome result (λ found. found.now.imsi ≡ imsi.now) }
     {
-        let found = self.by_imsi.get(imsi)?;
+        let Some(at) = place_of(&self.in_order, imsi) else {
+            return None;
+        };
+        let found = &self.in_order[at];
         let _facts = &found.codes;
         Some(found)
     }
@@ -84,9 +96,10 @@ impl Records {
         ensures { (s : Subscriber) → map.get self.old imsi.now ≡ Some s
             → self.new ≡ map.insert self.old imsi.now (placed s register purged current) }
     {
-        let Some(found) = self.by_imsi.get_mut(imsi) else {
+        let Some(at) = place_of(&self.in_order, imsi) else {
             return;
         };
+        let found = &mut self.in_order[at];
         found.place(register, purged, current);
     }
 
@@ -99,9 +112,10 @@ impl Records {
         ensures { (s : Subscriber) → map.get self.old imsi.now ≡ Some s
             → self.new ≡ map.insert self.old imsi.now (allowed s codes.items withdrawn) }
     {
-        let Some(found) = self.by_imsi.get_mut(imsi) else {
+        let Some(at) = place_of(&self.in_order, imsi) else {
             return;
         };
+        let found = &mut self.in_order[at];
         found.allow(codes, withdrawn);
     }
 
@@ -111,9 +125,10 @@ impl Records {
         ensures { (s : Subscriber) → map.get self.old imsi.now ≡ Some s
             → self.new ≡ map.insert self.old imsi.now (ended s) }
     {
-        let Some(found) = self.by_imsi.get_mut(imsi) else {
+        let Some(at) = place_of(&self.in_order, imsi) else {
             return;
         };
+        let found = &mut self.in_order[at];
         found.withdraw();
     }
 
@@ -121,7 +136,7 @@ impl Records {
     pub fn list(&self) -> Result<Vec<&Record>, AllocError>
         ensures { IfOk result (λ list. each (λ found. found.now) list.items ≡ map.values self.now) }
     {
-        all(self.alloc, &self.by_imsi)
+        all(self.alloc, &self.in_order)
     }
 
     /// The records of a shard.
@@ -129,11 +144,10 @@ impl Records {
         requires { shard < 16 }
         ensures { IfOk result (λ part. part ≡ part_of self.now shard) }
     {
-        let mut part = Records::new(self.alloc);
-        let mut entries = self.by_imsi.iter();
-        while let Some((imsi, found)) = entries.next_back() {
-            if shard_of(imsi) == shard {
-                part.add(found.clone()?)?;
+        let mut part = Records::with_room(self.alloc, count_of(&self.in_order, shard))?;
+        for found in &self.in_order {
+            if shard_of(&found.imsi) == shard {
+                part.push(found.clone()?)?;
             }
         }
         Ok(part)
@@ -143,22 +157,14 @@ impl Records {
     pub(crate) fn into_parts(self) -> Result<Vec<Records>, AllocError>
         ensures { IfOk result (λ parts. AreParts self parts.items) }
     {
-        let mut parts = no_records(self.alloc)?;
-        let mut rest = self.by_imsi;
-        let _ordered = rest.len();
-        while let Some((_, found)) = rest.pop_last() {
-            add_to_own(&mut parts, found)?;
-        }
-        Ok(parts)
+        share_out(self.alloc, self.in_order)
     }
 
     /// Whether the records are equal.
     pub fn same(&self, other: &Records) -> Result<bool, AllocError>
         ensures { IfOk result (λ same. IsTrue same ↔ (self.now ≡ other.now)) }
     {
-        let mine = all(self.alloc, &self.by_imsi)?;
-        let theirs = all(other.alloc, &other.by_imsi)?;
-        Ok(are_same(&mine, &theirs))
+        Ok(are_same(&self.in_order, &other.in_order))
     }
 
     /// An equal copy.
@@ -167,34 +173,69 @@ impl Records {
     {
         Ok(Records {
             alloc: self.alloc,
-            by_imsi: self.by_imsi.clone()?,
+            in_order: self.in_order.clone()?,
         })
     }
 }
 
-/// An empty map for each shard.
-fn no_records(alloc: Global) -> Result<Vec<Records>, AllocError>
+/// Where the record with this IMSI is.
+fn place_of(records: &[Record], imsi: &Imsi) -> Option<usize>
+    requires { AreInOrder records.now }
+    ensures found { IfSome result (λ at. IsPlaceOf records.now imsi.now at) }
+    ensures none { IfNone result (map.get (by_imsi records.now) imsi.now ≡ None) }
+{
+    match records.binary_search_by_key(imsi, |record| record.imsi) {
+        Ok(at) => Some(at),
+        Err(_) => None,
+    }
+}
+
+/// How many records a shard has.
+fn count_of(records: &[Record], shard: u8) -> usize
+    ensures { result ≡ count_by (λ s. shard_of s.imsi == shard) records.now }
+{
+    records
+        .iter()
+        .filter(|record| shard_of(&record.imsi) == shard)
+        .count()
+}
+
+/// An empty map for each shard, with room for those of these records that are its own.
+fn no_records(alloc: Global, records: &[Record]) -> Result<Vec<Records>, AllocError>
     ensures { IfOk result (λ parts. parts.items ≡ replicate 16 map.empty) }
 {
     let mut parts = Vec::with_capacity(alloc, 16)?;
-    for _ in 0..16u8 {
-        parts.push(Records::new(alloc))?;
+    for shard in 0..16u8 {
+        parts.push(Records::with_room(alloc, count_of(records, shard))?)?;
     }
     Ok(parts)
 }
 
-/// Adds a record to the part of its shard.
+/// The parts of the shards, of these records.
+fn share_out(alloc: Global, in_order: Vec<Record>) -> Result<Vec<Records>, AllocError>
+    requires { AreInOrder in_order.items }
+    ensures { IfOk result (λ parts. AreParts (by_imsi in_order.items) parts.items) }
+{
+    let mut parts = no_records(alloc, &in_order)?;
+    for found in in_order {
+        add_to_own(&mut parts, found)?;
+    }
+    Ok(parts)
+}
+
+/// Appends a record to the part of its shard.
 fn add_to_own(parts: &mut Vec<Records>, found: Record) -> Result<(), AllocError>
-    requires { length parts.old.items ≡ 16 }
+    requires sixteen { length parts.old.items ≡ 16 }
+    requires above { IsAbove (slice_index_or parts.old.items (shard_of found.imsi) map.empty)
+        found.imsi }
     ensures { OnOk result (parts.new.items ≡ with_one parts.old.items found) }
 {
     let shard = usize::from(shard_of(&found.imsi));
-    parts[shard].add(found)
+    parts[shard].push(found)
 }
 
-fn all(alloc: Global, map: &BTreeMap<Imsi, Record>) -> Result<Vec<&Record>, AllocError>
-    ensures all { IfOk result (λ list. each (λ found. found.now) list.items ≡ values map.now) }
-    ensures ordered { IsOrdered digits_cmp map.now }
+fn all(alloc: Global, records: &[Record]) -> Result<Vec<&Record>, AllocError>
+    ensures { IfOk result (λ list. each (λ found. found.now) list.items ≡ records.now) }
 {
-    map.values().collect(alloc)
+    records.iter().collect(alloc)
 }

@@ -1,6 +1,6 @@
 //! Whether records are equal.
 
-ghost use Rattle.std.specs.Prelude.{◌≡◌, ◌↔◌, IsTrue, map};
+ghost use Rattle.std.specs.Prelude.{◌≡◌, ◌↔◌, IsTrue};
 ghost use Rattle.records.specs.Roam.{prefixes_of};
 
 use crate::record::Record;
@@ -42,14 +42,14 @@ impl Record {
 }
 
 /// Whether two lists of records are equal.
-pub(crate) fn are_same(left: &[&Record], right: &[&Record]) -> bool
-    ensures { IsTrue result ↔ (map (λ r. r.now) left.now ≡ map (λ r. r.now) right.now) }
+pub(crate) fn are_same(left: &[Record], right: &[Record]) -> bool
+    ensures { IsTrue result ↔ (left.now ≡ right.now) }
 {
     if left.len() != right.len() {
         return false;
     }
     for index in 0..left.len() {
-        if !left[index].same(right[index]) {
+        if !left[index].same(&right[index]) {
             return false;
         }
     }

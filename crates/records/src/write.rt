@@ -1,6 +1,6 @@
 //! Records as lines, and as a file.
 
-ghost use Rattle.std.specs.Prelude.{◌≡◌, List, ℕ, map as each, IfOk, string_bytes};
+ghost use Rattle.std.specs.Prelude.{◌≡◌, map as each, IfOk, string_bytes};
 ghost use Rattle.records.specs.Spelling.{IsRecordLine, MayBeWithdrawn};
 ghost use Rattle.records.specs.File.{File, AreApart};
 ghost use Rattle.records.specs.Subscriber.{unmarked};

@@ -11,4 +11,5 @@ pub returns-clause-only : goal.returns-clause-only
 returns-clause-only c = λ codes is. IfOk-weaker c.codes_field.result _ _ (λ read e. e ∙ codes_again c.args.field.now codes is) c.codes_field.ensures
 
 pub returns-clause-allowed : goal.returns-clause-allowed
-returns-clause-allowed c = IfOk-weaker c.codes_field.result _ _ (λ read e. codes_read_allowed c.args.field.now (λ codes. codes.items) read e) c.codes_field.ensures
+returns-clause-allowed c = IfOk-weaker c.codes_field.result _ _ (λ read e. codes_read_allowed c.args.field.now
+    (λ codes. codes.items) read e) c.codes_field.ensures

@@ -8,5 +8,6 @@ use Rattle.records.proofs.write.write_line.Goals as goal
 pub returns-clause-again : goal.returns-clause-again
 returns-clause-again c = λ may.
     let facts : IsRecord c.args.subscriber.now = subst IsRecord c.subscriber.view_is c.subscriber.invariant in
-    subst (λ (line : List ℕ). IsRecordLine c.args.version line (unmarked c.args.subscriber.now)) (sym (c.in_ok-push_line.ensures ∙ ap (λ (b : List ℕ). b ++ record_line c.args.version c.args.subscriber.now) c.new-line.ensures.bytes))
+    subst (λ (line : List ℕ). IsRecordLine c.args.version line (unmarked c.args.subscriber.now))
+    (sym (c.in_ok-push_line.ensures ∙ ap (λ (b : List ℕ). b ++ record_line c.args.version c.args.subscriber.now) c.new-line.ensures.bytes))
     (is_record_line c.args.version c.args.subscriber.now facts may)

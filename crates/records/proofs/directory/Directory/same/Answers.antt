@@ -4,5 +4,5 @@ use Rattle.records.proofs.directory.Directory.same.Goals as goal
 
 pub returns : goal.returns
 returns c =
-    same_maps c.self.inside.imsis.entries c.other.inside.imsis.entries _ _ _ c.self.view_is c.other.view_is c.len-ordered.ensures.ordered c.len-others_ordered.ensures.ordered
-    (slice_eq-Decides same_pair c.self.inside.imsis.entries c.other.inside.imsis.entries _ c.eq.ensures)
+    same_maps c.self.inside.entries.items c.other.inside.entries.items _ _ _ c.self.view_is c.other.view_is c.self.invariant c.other.invariant
+    (slice_eq-Decides same_pair c.self.inside.entries.items c.other.inside.entries.items _ c.eq.ensures)

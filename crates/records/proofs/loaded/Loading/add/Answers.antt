@@ -6,4 +6,4 @@ use Rattle.records.proofs.loaded.Loading.add.Goals as goal
 pub invariant_of-self-2 : goal.invariant_of-self-2
 invariant_of-self-2 c =
     fresh_added c.add-2.result c.self.inside.records c.add-2.new.self c.args.subscriber c.add-2.ensures.ok c.add-2.ensures.err c.self.invariant
-    (fresh_unmarked c.args.subscriber (subst IsRecord c.subscriber.view_is c.subscriber.invariant) c.requires)
+    (fresh_unmarked c.args.subscriber (subst IsRecord c.subscriber.view_is c.subscriber.invariant) c.requires.unmarked)

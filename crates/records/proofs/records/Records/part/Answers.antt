@@ -1,28 +1,36 @@
-use Rattle.std.proofs.Common.{◌≡◌, sym, ap, ◌∙◌}
-use Rattle.std.specs.Prelude.{◌==◌}
+use Rattle.std.proofs.Common.{◌≡◌, sym, ap, subst, ◌∙◌}
 use Rattle.std.specs.FinMap as map
 use Rattle.std.proofs.lemmas.Bool.{eq-eqb, ne_eqb}
 use Rattle.records.specs.Subscriber.{Subscriber}
-use Rattle.records.specs.Maps.{RecordMap, part_of, shard_of}
-use Rattle.records.proofs.PartLemmas.{Entries, part_begins, part_takes, part_passes, part_ends}
+use Rattle.records.specs.Maps.{shard_of}
+use Rattle.records.specs.Ordered.{AreInOrder, IsAbove}
+use Rattle.records.proofs.TakenLemmas.{is_of, none_kept, above_taken, takes, passes}
 use Rattle.records.proofs.records.Records.part.Goals as goal
+use Rattle.records.proofs.records.Records.part.Goals.{then-shard_of-shard+in_ok-clone+in_ok-push, else-shard_of-shard}
 
-pub loop-imsi-init : goal.loop-imsi-init
-loop-imsi-init c = part_begins _ c.self.inside.by_imsi.entries _ _ c.iter-entries.ensures.rest c.new-part.ensures c.iter-entries.ensures.found c.self.invariant
+pub loop-found-init : goal.loop-found-init
+loop-found-init c = c.in_ok-part.ensures ∙ none_kept (is_of c.args.shard)
 
-pub loop-imsi-preserved-in_ok-add : goal.loop-imsi-preserved-in_ok-add
-loop-imsi-preserved-in_ok-add c =
-    let here : shard_of c.in-Some.imsi.now ≡ c.args.shard = sym c.shard_of.ensures.value ∙ c.if-shard_of-shard.true in
-    part_takes _ _ _ _ c.loop-imsi.invariant _ _ c.in-Some.found.now c.in-Some.ensures.steps (eq-eqb _ _ here) _
-    (c.in_ok-add.ensures.ok ∙ ap (λ (s : Subscriber). map.insert c.loop-imsi.part s.imsi s) c.in_ok-clone.ensures.cases)
+pub push-requires : goal.push-requires
+push-requires c =
+    let ss = c.deref-found-items.result.now in
+    let s = c.found-item.result in
+    let ordered : AreInOrder ss = rw c.deref-found-items.ensures.value c.self.invariant in
+    subst (λ (t : Subscriber). IsAbove c.loop-found.part t.imsi) (sym c.in_ok-clone.ensures.cases)
+    (above_taken ss c.loop-found.found-index s c.args.shard ordered c.loop-found-test.true c.found-item.is c.loop-found.part c.loop-found.invariant)
 
-pub loop-imsi-preserved : goal.loop-imsi-preserved
-loop-imsi-preserved c =
-    part_passes _ _ _ _ c.loop-imsi.invariant _ _ c.in-Some.found.now c.in-Some.ensures.steps
-    (ne_eqb _ _ (λ here. c.if-shard_of-shard.false (c.shard_of.ensures.value ∙ here)))
-
-pub returns : goal.returns
-returns c =
-    part_ends _ _ _ _ c.loop-imsi.invariant c.in_default.ensures.steps.0
-    ∙ ap (λ (es : Entries). map.retain_keys (map.from_entries es) (λ imsi. shard_of imsi == c.args.shard)) c.iter-entries.ensures.rest
-    ∙ ap (λ (m : RecordMap). part_of m c.args.shard) c.self.view_is
+pub loop-found-preserved : goal.loop-found-preserved
+loop-found-preserved c =
+    let ss = c.deref-found-items.result.now in
+    let s = c.found-item.result in
+    let ordered : AreInOrder ss = rw c.deref-found-items.ensures.value c.self.invariant in
+    let own : shard_of s.imsi ≡ c.shard_of.result = ap (λ (t : Subscriber). shard_of t.imsi) (sym c.found.view_is) ∙ sym c.shard_of.ensures.value in
+    elim c.if-shard_of-shard.branch [
+      | then-shard_of-shard+in_ok-clone+in_ok-push w ↦
+          w.part-is ∙ takes ss c.loop-found.found-index s c.args.shard ordered c.loop-found-test.true c.found-item.is c.loop-found.part w.push.new.self
+          (eq-eqb (shard_of s.imsi) c.args.shard (own ∙ w.if-shard_of-shard.true)) c.loop-found.invariant
+          (w.in_ok-push.ensures ∙ ap (λ (t : Subscriber). map.insert c.loop-found.part t.imsi t) w.in_ok-clone.ensures.cases)
+      | else-shard_of-shard w ↦
+          w.part-is ∙ passes ss c.loop-found.found-index s c.args.shard ordered c.loop-found-test.true c.found-item.is c.loop-found.part
+          (ne_eqb (shard_of s.imsi) c.args.shard (λ here. w.if-shard_of-shard.false (sym own ∙ here))) c.loop-found.invariant
+    ]

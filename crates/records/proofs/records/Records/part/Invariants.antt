@@ -1,11 +1,7 @@
-use Rattle.std.proofs.Common.{length}
-use Rattle.std.specs.Prelude.{◌==◌}
-use Rattle.records.specs.Maps.{shard_of}
-use Rattle.records.proofs.PartLemmas.{IsPart}
+use Rattle.std.proofs.Common.{◌≡◌, take}
+use Rattle.records.specs.Maps.{part_of}
+use Rattle.records.specs.Loaded.{by_imsi}
 use Rattle.records.proofs.records.Records.part.Given as goal
 
-abbrev pub invariant-loop-imsi : goal.invariant-loop-imsi
-invariant-loop-imsi l = IsPart (λ imsi. shard_of imsi == l.shard) l.initial.entries l.entries l.part
-
-abbrev pub decreases-loop-imsi : goal.decreases-loop-imsi
-decreases-loop-imsi l = length l.entries
+abbrev pub invariant-loop-found : goal.invariant-loop-found
+invariant-loop-found l = l.part ≡ part_of (by_imsi (take l.found-index l.found-items)) l.shard

@@ -2,7 +2,7 @@ use Rattle.std.proofs.Common.{ap, ◌∙◌}
 use Rattle.std.specs.FinMap as map
 use Rattle.records.specs.Maps.{DirectoryMap}
 use Rattle.records.proofs.MapLemmas.{view_insert}
-use Rattle.records.proofs.directory.Directory.add.Goals as goal
+use Rattle.records.proofs.directory_tree.DirectoryTree.add.Goals as goal
 
 pub returns-clause-ok : goal.returns-clause-ok
 returns-clause-ok c =

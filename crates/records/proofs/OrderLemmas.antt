@@ -1,0 +1,70 @@
+-- What a search by halves finds among things in the order of their keys.
+use Rattle.std.proofs.Common.{◌≡◌, ℕ, zero, suc, ◌<◌, ◌≤◌, ◌+◌, ◌⊎◌, false, List, map as each, length, get_or, refl, ap, subst, ◌∙◌, arith, inl, inr}
+use Rattle.std.specs.Prelude.{Some, None, Result, Ok, Err, MatchResult, All}
+use Rattle.std.specs.List.Sorted.{IsStrictlySortedBy, IsNonDecreasingBy, IsSortedBy, IsBinarySearchResult, IsSearchInRange}
+use Rattle.std.specs.Ordering.{ordering_index, eq_by_cmp, is_eq, is_lt, ordering_reverse}
+use Rattle.std.specs.declared.cmp.Ordering.{Ordering}
+use Rattle.std.specs.declared.cmp.Ordering.TheVariants.{Less, Greater}
+use Rattle.std.specs.Cmp.{eq_by_cmp_equiv}
+use Rattle.std.specs.Map.{lookup, keys_of}
+use Rattle.std.specs.BTreeMap.{is_at}
+use Rattle.std.proofs.lemmas.List.{get_or-map, length-map}
+use Rattle.std.proofs.lemmas.List.Sorted.{searchable_from_sorted}
+use Rattle.std.proofs.lemmas.List.Elements.{recursion_from_All}
+use Rattle.std.proofs.lemmas.Map.{lookup-none}
+use Rattle.std.proofs.lemmas.Map.Entries.{lookup_from_place}
+use Rattle.std.proofs.lemmas.Map.Keys.{Less-from_sorted, IsDistinct-from_sorted}
+use Rattle.std.proofs.lemmas.Option.{slice_get-get_or}
+use Rattle.records.specs.Maps.{digits_cmp}
+use Rattle.records.specs.Ordered.{AreOrderedBy}
+use Rattle.records.proofs.MapLemmas.{digits_total, digits_exact}
+
+below_or_not : (i at : ℕ) → (i < at) ⊎ (at ≤ i)
+below_or_not zero zero = inr (omega arith)
+below_or_not zero (suc at) = inl (omega arith)
+below_or_not (suc i) zero = inr (omega arith)
+below_or_not (suc i) (suc at) = elim (below_or_not i at) [ inl below ↦ inl (omega arith) | inr above ↦ inr (omega arith) ]
+
+-- what is below is not above
+not_above : (p q : List ℕ) → digits_cmp p q ≡ Less → is_lt (digits_cmp q p) ≡ false
+not_above p q less = ap is_lt (digits_total.antisymm q p ∙ ap ordering_reverse less)
+
+apart : (p q : List ℕ) (o : Ordering) → digits_cmp p q ≡ o → (o ≡ Less) ⊎ (o ≡ Greater) → eq_by_cmp digits_cmp q p ≡ false
+apart p q o is (inl less) = ap is_eq (digits_total.antisymm q p ∙ ap ordering_reverse (is ∙ less))
+apart p q o is (inr greater) = ap is_eq (digits_total.antisymm q p ∙ ap ordering_reverse (is ∙ greater))
+
+module _ {Y : Type 0} (key : Y → List ℕ) (ys : List Y) (ordered : AreOrderedBy key ys) (k : List ℕ) where
+  adjacent : IsSortedBy (λ a b. is_lt (digits_cmp (key a) (key b))) ys
+  adjacent i d low high =
+      let many : length (each key ys) ≡ length ys = length-map ys key in
+      let less = Less-from_sorted digits_cmp (each key ys) i (i + 1) (key d) ordered (omega arith) (omega arith) in
+      let here = get_or-map key ys i d (key d) (omega arith) in
+      let next = get_or-map key ys (i + 1) d (key d) (omega arith) in
+      not_above (key (get_or ys i d)) (key (get_or ys (i + 1) d)) (subst (λ (p : List ℕ). digits_cmp p (key (get_or ys (i + 1) d)) ≡ Less) here
+      (subst (λ (q : List ℕ). digits_cmp (get_or (each key ys) i (key d)) q ≡ Less) next less))
+
+  rises : IsNonDecreasingBy (λ y. ordering_index (digits_cmp (key y) k)) ys
+  rises = searchable_from_sorted digits_total key ys k adjacent
+
+  -- A search ends where the key is, or no key is the one that is sought.
+  pub searched : (r : Result ℕ ℕ) → IsBinarySearchResult (λ y. digits_cmp (key y) k) ys r → IsSearchInRange r (length ys)
+      → MatchResult r (λ at. (d : Y) → key (get_or ys at d) ≡ k) (λ _. All (λ y. eq_by_cmp digits_cmp k (key y) ≡ false) ys)
+  searched (Ok at) found range = λ d. digits_exact (key (get_or ys at d)) k (found d)
+  searched (Err at) parted range = λ i d lt.
+      let parts = parted rises in
+      elim (below_or_not i at) [
+        | inl below ↦ apart (key (get_or ys i d)) k Less (parts.0 i d (omega arith) below) (inl refl)
+        | inr above ↦ apart (key (get_or ys i d)) k Greater (parts.1 i d above lt) (inr refl)
+      ]
+
+-- the value at the place of the key
+pub hit : {X : Type 0} (es : List (List ℕ × X)) (k : List ℕ) (at : ℕ) (d : List ℕ × X) → IsStrictlySortedBy digits_cmp (keys_of es) → at < length es
+    → (get_or es at d).0 ≡ k
+    → lookup (is_at (digits_cmp k)) es ≡ Some (get_or es at d).1
+hit es k at d ordered lt is =
+    lookup_from_place (eq_by_cmp_equiv digits_total) es at k (get_or es at d).1 (IsDistinct-from_sorted digits_cmp (keys_of es) ordered)
+    (slice_get-get_or es at d lt ∙ ap (λ (key : List ℕ). Some (key, (get_or es at d).1)) is)
+
+-- no value where no key is the one that is sought
+pub missed : {X : Type 0} (es : List (List ℕ × X)) (k : List ℕ) → All (λ e. eq_by_cmp digits_cmp k e.0 ≡ false) es → lookup (is_at (digits_cmp k)) es ≡ None
+missed es k none = lookup-none (is_at (digits_cmp k)) es (recursion_from_All (λ e. eq_by_cmp digits_cmp k e.0 ≡ false) es none)
