@@ -1,5 +1,6 @@
 pub mod InputLaws
 pub mod OctetLaws
+pub mod DigitLaws
 pub mod LineLaws
 pub mod TickLaws
 pub mod LetterLemmas

@@ -22,7 +22,8 @@ pub reads_found : (Says : Line → Type 0) (r : Result Item LineFault) → Reads
 reads_found Says (Ok item) h = h.0
 reads_found Says (Err e) h = tt
 
-pub reads_only : (Says : Line → Type 0) (r : Result Item LineFault) (said : Line) → Reads Says r → Says said → MatchResult r (λ item. line_of item ≡ said) (λ fault. fault ≡ Memory)
+pub reads_only : (Says : Line → Type 0) (r : Result Item LineFault) (said : Line) → Reads Says r → Says said
+    → MatchResult r (λ item. line_of item ≡ said) (λ fault. fault ≡ Memory)
 reads_only Says (Ok item) said h is = h.1 said is
 reads_only Says (Err Bad) said h is = absurd (h said is)
 reads_only Says (Err Memory) said h is = refl
@@ -88,7 +89,8 @@ no_codes_said kind first second is none (Withdraw digits) h = h
 
 -- ---- octets
 
-pub bad_octets : (line from field : List ℕ) → ((said : Line) → IsLine line said → Frame from field ≡ said) → ((groups : List Group) → IsOctets field groups → ⊥) → (said : Line) → IsGoodLine line said → ⊥
+pub bad_octets : (line from field : List ℕ) → ((said : Line) → IsLine line said → Frame from field ≡ said) → ((groups : List Group) → IsOctets field groups → ⊥)
+    → (said : Line) → IsGoodLine line said → ⊥
 bad_octets line from field one none said h =
     let has : HasOctets (Frame from field) = subst HasOctets (sym (one said h.0)) h.1 in
     none has.0 has.1

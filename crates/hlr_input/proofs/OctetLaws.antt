@@ -32,7 +32,8 @@ are_groups-end known (a ∷ []) h = refl
 are_groups-end known (a ∷ b ∷ more) h = absurd (omega arith)
 
 pub octets_after-next : (ids : List (List ℕ)) (found text : List ℕ) → 2 ≤ length text
-    → octets_after ids found text ≡ (group_in (slice_index (take 2 text) 0) (slice_index (take 2 text) 1) >>= λ group. octets_of_group ids group >>= λ octets. octets_after ids (found ++ octets) (drop 2 text))
+    → octets_after ids found text ≡ (group_in (slice_index (take 2 text) 0)
+    (slice_index (take 2 text) 1) >>= λ group. octets_of_group ids group >>= λ octets. octets_after ids (found ++ octets) (drop 2 text))
 unfolding octets_after
 octets_after-next ids found [] h = absurd (omega arith)
 octets_after-next ids found (a ∷ []) h = absurd (omega arith)
@@ -44,35 +45,42 @@ octets_after-end ids found [] h = refl
 octets_after-end ids found (a ∷ []) h = refl
 octets_after-end ids found (a ∷ b ∷ more) h = absurd (omega arith)
 
-pub groups_bad : (known : ℕ) (text pair : List ℕ) (g : Option Group) (b total : Bool) → 2 ≤ length text → pair ≡ take 2 text → g ≡ group_in (slice_index pair 0) (slice_index pair 1)
+pub groups_bad : (known : ℕ) (text pair : List ℕ) (g : Option Group) (b total : Bool) → 2 ≤ length text → pair ≡ take 2 text
+    → g ≡ group_in (slice_index pair 0) (slice_index pair 1)
     → b ≡ stands known g → b ≡ false → are_groups known text ≡ total → false ≡ total
 groups_bad known text pair g b total long front is standing bad so_far =
     let here : stands known (group_in (slice_index (take 2 text) 0) (slice_index (take 2 text) 1)) ≡ false = rw (← front, ← is) (sym standing ∙ bad) in
-    sym (and_left (stands known (group_in (slice_index (take 2 text) 0) (slice_index (take 2 text) 1))) (are_groups known (drop 2 text)) here) ∙ sym (are_groups-next known text long) ∙ so_far
+    sym (and_left (stands known (group_in (slice_index (take 2 text) 0) (slice_index (take 2 text) 1))) (are_groups known (drop 2 text)) here)
+    ∙ sym (are_groups-next known text long) ∙ so_far
 
-pub groups_more : (known : ℕ) (text pair more : List ℕ) (g : Option Group) (b total : Bool) → 2 ≤ length text → pair ≡ take 2 text → more ≡ drop 2 text → g ≡ group_in (slice_index pair 0) (slice_index pair 1)
+pub groups_more : (known : ℕ) (text pair more : List ℕ) (g : Option Group) (b total : Bool) → 2 ≤ length text → pair ≡ take 2 text → more ≡ drop 2 text
+    → g ≡ group_in (slice_index pair 0) (slice_index pair 1)
     → b ≡ stands known g → b ≡ true → are_groups known text ≡ total → are_groups known more ≡ total
 groups_more known text pair more g b total long front back is standing good so_far =
     let here : stands known (group_in (slice_index (take 2 text) 0) (slice_index (take 2 text) 1)) ≡ true = rw (← front, ← is) (sym standing ∙ good) in
     let next : are_groups known text ≡ are_groups known (drop 2 text) = rw (are_groups-next known text long, here) refl in
     rw back (sym next ∙ so_far)
 
-pub octets_bad : (ids : List (List ℕ)) (found text pair : List ℕ) (total : Option (List ℕ)) → 2 ≤ length text → pair ≡ take 2 text → None ≡ group_in (slice_index pair 0) (slice_index pair 1)
+pub octets_bad : (ids : List (List ℕ)) (found text pair : List ℕ) (total : Option (List ℕ)) → 2 ≤ length text → pair ≡ take 2 text
+    → None ≡ group_in (slice_index pair 0) (slice_index pair 1)
     → octets_after ids found text ≡ total → None ≡ total
 octets_bad ids found text pair total long front is so_far =
     let here : group_in (slice_index (take 2 text) 0) (slice_index (take 2 text) 1) ≡ None = rw (← front) (sym is) in
     let next : octets_after ids found text ≡ None = rw (octets_after-next ids found text long, here) refl in
     sym next ∙ so_far
 
-pub octets_lacking : (ids : List (List ℕ)) (found text pair : List ℕ) (group : Group) (total : Option (List ℕ)) → 2 ≤ length text → pair ≡ take 2 text → Some group ≡ group_in (slice_index pair 0) (slice_index pair 1)
+pub octets_lacking : (ids : List (List ℕ)) (found text pair : List ℕ) (group : Group) (total : Option (List ℕ)) → 2 ≤ length text → pair ≡ take 2 text
+    → Some group ≡ group_in (slice_index pair 0) (slice_index pair 1)
     → octets_of_group ids group ≡ None → octets_after ids found text ≡ total → None ≡ total
 octets_lacking ids found text pair group total long front is none so_far =
     let here : group_in (slice_index (take 2 text) 0) (slice_index (take 2 text) 1) ≡ Some group = rw (← front) (sym is) in
     let next : octets_after ids found text ≡ None = rw (octets_after-next ids found text long, here, none) refl in
     sym next ∙ so_far
 
-pub octets_more : (ids : List (List ℕ)) (found text pair more octets : List ℕ) (group : Group) (total : Option (List ℕ)) → 2 ≤ length text → pair ≡ take 2 text → more ≡ drop 2 text
-    → Some group ≡ group_in (slice_index pair 0) (slice_index pair 1) → octets_of_group ids group ≡ Some octets → octets_after ids found text ≡ total → octets_after ids (found ++ octets) more ≡ total
+pub octets_more : (ids : List (List ℕ)) (found text pair more octets : List ℕ) (group : Group) (total : Option (List ℕ)) → 2 ≤ length text → pair ≡ take 2 text
+    → more ≡ drop 2 text
+    → Some group ≡ group_in (slice_index pair 0) (slice_index pair 1) → octets_of_group ids group ≡ Some octets → octets_after ids found text ≡ total
+    → octets_after ids (found ++ octets) more ≡ total
 octets_more ids found text pair more octets group total long front back is some so_far =
     let here : group_in (slice_index (take 2 text) 0) (slice_index (take 2 text) 1) ≡ Some group = rw (← front) (sym is) in
     let next : octets_after ids found text ≡ octets_after ids (found ++ octets) (drop 2 text) = rw (octets_after-next ids found text long, here, some) refl in
@@ -122,7 +130,8 @@ letter_found b group e =
     let same : Letter (b - 65) ≡ group = cc (g.1) in
     subst (IsGroup (36 ∷ b ∷ [])) same (ap (λ (x : ℕ). 36 ∷ x ∷ []) back, omega (arith, high, low))
 
-octet_in_found : (a b : ℕ) (o : Option ℕ) (group : Group) → octet_in (a ∷ b ∷ []) ≡ o → option_map (λ octet. Octet octet) o ≡ Some group → IsGroup (a ∷ b ∷ []) group
+octet_in_found : (a b : ℕ) (o : Option ℕ) (group : Group) → octet_in (a ∷ b ∷ []) ≡ o → option_map (λ octet. Octet octet) o ≡ Some group
+    → IsGroup (a ∷ b ∷ []) group
 octet_in_found a b None group is e = absurd cc
 octet_in_found a b (Some octet) group is e =
     let same : Octet octet ≡ group = cc (e) in
@@ -133,8 +142,10 @@ group_found a b group e =
     elim (cases_Bool (a == 36)) [
       | inl t ↦
           let first : a ≡ 36 = eqb-true a 36 t in
-          subst (λ (x : ℕ). IsGroup (x ∷ b ∷ []) group) (sym first) (letter_found b group (sym (cond-true (a == 36) (letter_in b) (option_map (λ octet. Octet octet) (octet_in (a ∷ b ∷ []))) t) ∙ e))
-      | inr f ↦ octet_in_found a b (octet_in (a ∷ b ∷ [])) group refl (sym (cond-false (a == 36) (letter_in b) (option_map (λ octet. Octet octet) (octet_in (a ∷ b ∷ []))) f) ∙ e)
+          subst (λ (x : ℕ). IsGroup (x ∷ b ∷ []) group) (sym first)
+          (letter_found b group (sym (cond-true (a == 36) (letter_in b) (option_map (λ octet. Octet octet) (octet_in (a ∷ b ∷ []))) t) ∙ e))
+      | inr f ↦ octet_in_found a b (octet_in (a ∷ b ∷ [])) group refl
+          (sym (cond-false (a == 36) (letter_in b) (option_map (λ octet. Octet octet) (octet_in (a ∷ b ∷ []))) f) ∙ e)
     ]
 
 -- ---- many groups
@@ -176,7 +187,8 @@ all_known (a ∷ b ∷ more) (Octet octet ∷ gs) h = all_known more gs h.1
 all_known (a ∷ b ∷ more) (Letter place ∷ gs) h = and_from (nat_lt place 26) (are_known 26 gs) (lt-ltb place 26 h.0.1) (all_known more gs h.1)
 
 -- without a `$` there is no letter
-groups_without : (known : ℕ) (text : List ℕ) (groups : List Group) → list_any (λ character. character == 36) text ≡ false → AreGroups text groups → are_known known groups ≡ true
+groups_without : (known : ℕ) (text : List ℕ) (groups : List Group) → list_any (λ character. character == 36) text ≡ false → AreGroups text groups
+    → are_known known groups ≡ true
 groups_without known [] [] e h = refl
 groups_without known [] (g ∷ gs) e h = absurd h
 groups_without known (a ∷ []) [] e h = absurd h
@@ -191,7 +203,8 @@ groups_without known (a ∷ b ∷ more) (Letter place ∷ gs) e h =
     let first : a ≡ 36 = cc (h.0.0) in
     absurd (eqb-false a 36 p.0 first)
 
-pub known_without : (known : ℕ) (text : List ℕ) (groups : List Group) → list_any (λ character. character == 36) text ≡ false → IsOctets text groups → true ≡ are_known known groups
+pub known_without : (known : ℕ) (text : List ℕ) (groups : List Group) → list_any (λ character. character == 36) text ≡ false → IsOctets text groups
+    → true ≡ are_known known groups
 known_without known text [] e h = refl
 known_without known text (g ∷ gs) e h = sym (groups_without known text (g ∷ gs) e h)
 
@@ -245,16 +258,20 @@ stands_exactly text b e = (λ h. stand_found text (sym e ∙ h), λ p. e ∙ sta
 
 -- ---- the octets that they stand for
 
-joined : (found front : List ℕ) (rest : Option (List ℕ)) → option_map (λ (ys : List ℕ). (found ++ front) ++ ys) rest ≡ option_map (λ (ys : List ℕ). found ++ ys) (option_map (λ (ys : List ℕ). front ++ ys) rest)
+joined : (found front : List ℕ) (rest : Option (List ℕ)) → option_map (λ (ys : List ℕ). (found ++ front) ++ ys) rest
+    ≡ option_map (λ (ys : List ℕ). found ++ ys) (option_map (λ (ys : List ℕ). front ++ ys) rest)
 joined found front None = refl
 joined found front (Some ys) = ap (λ (zs : List ℕ). Some zs) (append_assoc found front ys)
 
-after_group : (ids : List (List ℕ)) (found more : List ℕ) (gs : List Group) → ((found : List ℕ) → octets_after ids found more ≡ option_map (λ (ys : List ℕ). found ++ ys) (octets_of ids gs))
-    → (o : Option (List ℕ)) → (o >>= λ octets. octets_after ids (found ++ octets) more) ≡ option_map (λ (ys : List ℕ). found ++ ys) (option_and_then (λ front. option_map (λ rest. front ++ rest) (octets_of ids gs)) o)
+after_group : (ids : List (List ℕ)) (found more : List ℕ) (gs : List Group)
+    → ((found : List ℕ) → octets_after ids found more ≡ option_map (λ (ys : List ℕ). found ++ ys) (octets_of ids gs))
+    → (o : Option (List ℕ)) → (o >>= λ octets. octets_after ids (found ++ octets) more)
+    ≡ option_map (λ (ys : List ℕ). found ++ ys) (option_and_then (λ front. option_map (λ rest. front ++ rest) (octets_of ids gs)) o)
 after_group ids found more gs rest None = refl
 after_group ids found more gs rest (Some front) = rest (found ++ front) ∙ joined found front (octets_of ids gs)
 
-after_again : (ids : List (List ℕ)) (found text : List ℕ) (groups : List Group) → AreGroups text groups → octets_after ids found text ≡ option_map (λ (ys : List ℕ). found ++ ys) (octets_of ids groups)
+after_again : (ids : List (List ℕ)) (found text : List ℕ) (groups : List Group) → AreGroups text groups
+    → octets_after ids found text ≡ option_map (λ (ys : List ℕ). found ++ ys) (octets_of ids groups)
 unfolding octets_after
 after_again ids found [] [] h = ap (λ (zs : List ℕ). Some zs) (sym (append-nil found))
 after_again ids found [] (g ∷ gs) h = absurd h

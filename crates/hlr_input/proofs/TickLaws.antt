@@ -25,7 +25,8 @@ plain_facts (first ∷ more) e =
           let none : length more ≡ 0 = eqb-true (length more) 0 alone in
           (omega arith, (λ is. omega arith), (λ is. omega arith))
       | inr f ↦
-          let other : (nat_le 49 first && nat_le first 57) ≡ true = sym (cond-false (first == 48) (length more == 0) (nat_le 49 first && nat_le first 57) f) ∙ e in
+          let other : (nat_le 49 first && nat_le first 57) ≡ true = sym (cond-false (first == 48) (length more == 0) (nat_le 49 first && nat_le first 57) f)
+          ∙ e in
           let p = and_parts (nat_le 49 first) (nat_le first 57) other in
           let low = leb-true 49 first p.0 in
           (omega arith, (λ is. omega (arith, low)), (λ is. omega (arith, low)))
@@ -56,7 +57,8 @@ ticks_utf8 text n h = subst IsUtf8 (sym h.written_so) (IsUtf8-from_ascii (decima
 pub ticks_parsed : {E : Type 0} (text : List ℕ) (n : ℕ) (r : Result ℕ E) → IsTicks text n → ParsesUnsigned 64 10 text r → r ≡ Ok n
 ticks_parsed text n r h parsed = parse-decimal 64 n text r (fits n h.most) (fits n h.most) h.written_so parsed
 
-pub ticks_found : {E : Type 0} (text : List ℕ) (n : ℕ) (r : Result ℕ E) → r ≡ Ok n → is_plain text ≡ true → ParsesUnsigned 64 10 text r → n ≤ 2 ^ 62 → IsTicks text n
+pub ticks_found : {E : Type 0} (text : List ℕ) (n : ℕ) (r : Result ℕ E) → r ≡ Ok n → is_plain text ≡ true → ParsesUnsigned 64 10 text r → n ≤ 2 ^ 62
+    → IsTicks text n
 ticks_found text n (Err e) is plain parsed most = absurd cc
 ticks_found text n (Ok m) is plain parsed most =
     let facts = plain_facts text plain in

@@ -2,6 +2,9 @@
 use Rattle.std.specs.Prelude.{ℕ, ◌-◌, ◌==◌, ◌||◌, ◌&&◌, nat_lt, nat_le, nat_eq, Bool, List, [], ◌∷◌, ◌++◌, length, take, drop, slice_index, Option, Some, None, if◌then◌else◌}
 use Rattle.std.specs.List.{list_any}
 use Rattle.std.specs.Cmp.Lexicographic.{pointwise}
+use Rattle.x690.specs.Identifier.{leading}
+use Rattle.x690.specs.declared.Tag.{Tag}
+use Rattle.frames.specs.declared.tags.TheConstants.{BEGIN, CONTINUE, ORIGIN}
 
 -- Whether two ids have the same octets.
 abbrev pub is_same : List ℕ → List ℕ → Bool
@@ -13,10 +16,14 @@ noted ids None = ids
 noted ids (Some id) =
     if list_any (λ i. is_same i id) ids then ids else if nat_lt (length ids) 26 then ids ++ id ∷ [] else ids
 
+-- Whether an octet is the identifier octet of this tag, whose number is at most 30 (X.690, 8.1.2).
+abbrev pub is_identifier : Tag → ℕ → Bool
+is_identifier tag octet = octet == leading tag tag.number
+
 -- The originating transaction id at the front of a message's contents (Q.773), if it has four octets: `48 04` and the id.
 abbrev pub id_in : List ℕ → Option (List ℕ)
 id_in contents =
-    if nat_le 6 (length contents) && (slice_index contents 0 == 0x48) && (slice_index contents 1 == 4)
+    if nat_le 6 (length contents) && is_identifier ORIGIN (slice_index contents 0) && (slice_index contents 1 == 4)
     then Some (take 4 (drop 2 contents)) else None
 
 -- The number of length octets after the first one (X.690, 8.1.3).
@@ -28,6 +35,6 @@ abbrev pub originating_id : List ℕ → Option (List ℕ)
 originating_id [] = None
 originating_id (tag ∷ []) = None
 originating_id (tag ∷ first ∷ rest) =
-    if (tag == 0x62) || (tag == 0x65)
+    if is_identifier BEGIN tag || is_identifier CONTINUE tag
     then (if nat_le (further_length_octets first) (length rest) then id_in (drop (further_length_octets first) rest) else None)
     else None

@@ -1,6 +1,7 @@
 -- The script: lines that say what the register receives (profile).
-use Rattle.std.specs.Prelude.{◌≡◌, ℕ, ◌≤◌, ◌^◌, List, [], ◌∷◌, codes as text}
+use Rattle.std.specs.Prelude.{◌≡◌, ℕ, ◌≤◌, List, [], ◌∷◌, codes as text}
 use Rattle.std.specs.Fmt.{decimal}
+use Rattle.machine.specs.declared.numbers.TheConstants.{MAX_CLOCK}
 use Rattle.records.specs.Spelling.{IsNumber, IsImsiNumber, IsCodes}
 use Rattle.records.specs.File.{parts}
 use Rattle.hlr_input.specs.declared.group.Group.{Group}
@@ -21,7 +22,7 @@ pub data Line : Type 0 where
 -- The text is the number in decimal, without a leading zero, and at most 2^62.
 pub record IsTicks (written : List ℕ) (ticks : ℕ) : Type 0 where
   pub written_so : written ≡ decimal ticks
-  pub most : ticks ≤ 2 ^ 62
+  pub most : ticks ≤ MAX_CLOCK
 
 -- The fields say this: `F <from> <octets>`, `C <ticks>`, `E`, `W`, `O <imsi> <codes>` or `X <imsi>`. The octets of a frame are
 -- any field here.

@@ -1,7 +1,8 @@
 //! The octets of a frame in a script.
 
-ghost use Rattle.std.specs.List.{list_any};
-ghost use Rattle.std.specs.Prelude.{◌==◌, ◌≡◌, ◌↔◌, ◌≤◌, IsTrue, ℕ, List, [], IfOk, IfSome, Some, length, take, drop, slice_index, option_map};
+ghost use Rattle.std.specs.List.{list_all, list_any};
+ghost use Rattle.hex.specs.Hex.{is_hex_digit};
+ghost use Rattle.std.specs.Prelude.{◌==◌, ◌≡◌, ◌↔◌, IsTrue, ℕ, List, [], false, IfOk, IfSome, Some, length, slice_index, option_map};
 ghost use Rattle.hlr_input.specs.declared.group.Group.{Group};
 ghost use Rattle.hlr_input.specs.Octets.{IsOctets, octets_of, are_known};
 ghost use Rattle.hlr_input.specs.Reading.{group_in, letter_in, are_groups, octets_stand, stands, octets_after, octets_in};
@@ -9,7 +10,7 @@ ghost use Rattle.records.specs.Reading.{octet_in};
 
 use crate::group::Group;
 use crate::letters::MAX_LETTERS;
-use hex::FromHex;
+use hex::{FromHex, FromHexError, decode};
 use hlr_types::Tid;
 use std::alloc::{AllocError, Global};
 
@@ -50,8 +51,35 @@ fn stand(text: &[u8], known: usize) -> bool
     are_groups(text, known)
 }
 
-/// Whether the text is groups of two characters, with no letter but the first `known`.
+/// Whether the text is groups of two characters, with no letter but the first `known`. Most texts have no letter: these are looked
+/// at as a whole.
+#[tactic(auto, using(crate::proofs::DigitLaws::groups_of_digits))]
 fn are_groups(text: &[u8], known: usize) -> bool
+    ensures { result ≡ are_groups known text.now }
+{
+    if has_letter(text) {
+        groups_stand(text, known)
+    } else {
+        text.len() % 2 == 0 && are_digits(text)
+    }
+}
+
+/// Whether each character is a hexadecimal digit, of either case.
+fn are_digits(text: &[u8]) -> bool
+    ensures { result ≡ list_all is_hex_digit text.now }
+{
+    text.iter().all(|character| is_digit(*character))
+}
+
+#[tactic(auto, using(crate::proofs::DigitLaws::digit_is_digit))]
+fn is_digit(character: u8) -> bool
+    ensures { result ≡ is_hex_digit character }
+{
+    character.is_ascii_hexdigit()
+}
+
+/// The same, of a text that may have letters.
+fn groups_stand(text: &[u8], known: usize) -> bool
     ensures { result ≡ are_groups known text.now }
 {
     let mut rest = text;
@@ -80,15 +108,18 @@ fn stands(group: Option<Group>, known: usize) -> bool
 #[tactic(auto, using(crate::proofs::OctetLaws::octets_found, crate::proofs::OctetLaws::octets_again))]
 pub fn read_octets(alloc: Global, text: &[u8], ids: &[Tid]) -> Result<Option<Vec<u8>>, AllocError>
     ensures found { IfOk result (λ read. IfSome read (λ octets.
-        (groups : List Group) × IsOctets text.now groups × (octets_of ids.now groups ≡ Some octets.items))) }
+        (groups : List Group) × IsOctets text.now groups
+        × (octets_of ids.now groups ≡ Some octets.items))) }
     ensures only { (groups : List Group) → IsOctets text.now groups
-        → IfOk result (λ read. option_map (λ octets. octets.items) read ≡ octets_of ids.now groups) }
+        → IfOk result (λ read. option_map (λ octets. octets.items) read
+        ≡ octets_of ids.now groups) }
 {
     octets_with(alloc, text, ids)
 }
 
 fn octets_with(alloc: Global, text: &[u8], ids: &[Tid]) -> Result<Option<Vec<u8>>, AllocError>
-    ensures { IfOk result (λ read. option_map (λ octets. octets.items) read ≡ octets_in ids.now text.now) }
+    ensures { IfOk result (λ read. option_map (λ octets. octets.items) read
+        ≡ octets_in ids.now text.now) }
 {
     if text == b"-".as_slice() {
         return Ok(Some(Vec::new(alloc)));
@@ -99,8 +130,35 @@ fn octets_with(alloc: Global, text: &[u8], ids: &[Tid]) -> Result<Option<Vec<u8>
     listed_octets(alloc, text, ids)
 }
 
+/// The octets of a text that is neither `-` nor empty. One without a letter is read as a whole.
 fn listed_octets(alloc: Global, text: &[u8], ids: &[Tid]) -> Result<Option<Vec<u8>>, AllocError>
-    ensures { IfOk result (λ read. option_map (λ octets. octets.items) read ≡ octets_after ids.now [] text.now) }
+    ensures { IfOk result (λ read. option_map (λ octets. octets.items) read
+        ≡ octets_after ids.now [] text.now) }
+{
+    if has_letter(text) {
+        group_octets(alloc, text, ids)
+    } else {
+        digit_octets(alloc, text)
+    }
+}
+
+/// The octets of a text without a letter.
+fn digit_octets(alloc: Global, text: &[u8]) -> Result<Option<Vec<u8>>, AllocError>
+    requires { list_any (λ character. character == 36) text.now ≡ false }
+    ensures { IfOk result (λ read. (ids : List (List ℕ))
+        → option_map (λ octets. octets.items) read ≡ octets_after ids [] text.now) }
+{
+    match decode(alloc, text) {
+        Ok(octets) => Ok(Some(octets)),
+        Err(FromHexError::OutOfMemory) => Err(AllocError),
+        Err(_) => Ok(None),
+    }
+}
+
+/// The octets of a text that may have letters.
+fn group_octets(alloc: Global, text: &[u8], ids: &[Tid]) -> Result<Option<Vec<u8>>, AllocError>
+    ensures { IfOk result (λ read. option_map (λ octets. octets.items) read
+        ≡ octets_after ids.now [] text.now) }
 {
     let mut octets = Vec::with_capacity(alloc, text.len() / 2)?;
     let mut rest = text;

@@ -20,7 +20,8 @@ pub enum InputFault {
 /// Reads a reader to its end. A read that a signal interrupts is repeated.
 pub fn read_all<R: Read>(alloc: Global, reader: &mut R) -> Result<Vec<u8>, InputFault>
     ensures most { IfOk result (λ text. vec_len text ≤ MAX_FILE_OCTETS) }
-    ensures whole { IfOk result (λ text. IfSome (R.remaining reader.old) (λ all. text.items ≡ all)) }
+    ensures whole { IfOk result (λ text. IfSome (R.remaining reader.old)
+        (λ all. text.items ≡ all)) }
 {
     let mut text = Vec::new(alloc);
     match reader

@@ -2,6 +2,7 @@
 
 ghost use Rattle.std.specs.Prelude.{◌≡◌, [], OnOk, OnErr};
 
+use frames::tags;
 use hlr_types::Tid;
 use std::alloc::{AllocError, Global};
 use std::marker::Model;
@@ -9,11 +10,14 @@ use std::marker::Model;
 /// The number of letters, A to Z.
 pub const MAX_LETTERS: usize = 26;
 
-/// The tag of a Begin (Q.773).
-const BEGIN: u8 = 0x62;
+/// The identifier octet of a Begin: application, constructed (X.690, 8.1.2).
+const BEGIN: u8 = 0x60 + tags::BEGIN.number as u8;
 
-/// The tag of a Continue (Q.773).
-const CONTINUE: u8 = 0x65;
+/// The identifier octet of a Continue: application, constructed.
+const CONTINUE: u8 = 0x60 + tags::CONTINUE.number as u8;
+
+/// The identifier octet of an originating transaction id: application, primitive.
+const ORIGIN: u8 = 0x40 + tags::ORIGIN.number as u8;
 
 /// The local ids that the letters stand for: the first 26 different ones that were printed, in that order (profile).
 #[derive(Drop)]
@@ -94,7 +98,7 @@ fn id_in(contents: &[u8]) -> Option<Tid>
     ensures { result ≡ id_in contents.now }
 {
     match contents {
-        [0x48, 0x04, a, b, c, d, ..] => Some(Tid([*a, *b, *c, *d])),
+        [ORIGIN, 0x04, a, b, c, d, ..] => Some(Tid([*a, *b, *c, *d])),
         _ => None,
     }
 }

@@ -37,7 +37,8 @@ impl<'a> Place<'a> {
     #[tactic(auto, using(records::proofs::LinesLemmas::lines_nil))]
     pub fn next(self) -> Option<(Numbered<'a>, Place<'a>)>
         ensures end { IsNone result ↔ (self.entry.rest.now ≡ []) }
-        ensures line { IfSome result (λ p. lines self.entry.rest.now ≡ p.0.text.now ∷ lines p.1.rest.now) }
+        ensures line { IfSome result (λ p. lines self.entry.rest.now
+            ≡ p.0.text.now ∷ lines p.1.rest.now) }
         ensures number { IfSome result (λ p. p.0.number ≡ self.entry.before + 1) }
         ensures before { IfSome result (λ p. p.1.before ≡ self.entry.before + 1) }
         ensures shorter { IfSome result (λ p. length p.1.rest.now < length self.entry.rest.now) }

@@ -4,8 +4,7 @@ ghost use Rattle.std.specs.Prelude.{◌≡◌, ℕ, Some, IfSome};
 ghost use Rattle.hlr_input.specs.Script.{IsTicks};
 ghost use Rattle.hlr_input.specs.Reading.{is_plain};
 
-/// The greatest clock value (profile).
-pub const MAX_TICKS: u64 = 1 << 62;
+use machine::numbers::MAX_CLOCK;
 
 /// A clock value: 0 to 2^62 in decimal digits, without a leading zero.
 pub fn ticks(text: &[u8]) -> Option<u64>
@@ -21,7 +20,7 @@ pub fn ticks(text: &[u8]) -> Option<u64>
     let Ok(ticks) = digits.parse::<u64>() else {
         return None;
     };
-    if ticks <= MAX_TICKS {
+    if ticks <= MAX_CLOCK {
         Some(ticks)
     } else {
         None

@@ -71,7 +71,8 @@ fn options_in(alloc: Global, matches: &ArgMatches<'_>) -> Result<Options, WordsF
 /// 0 to 16. Each option occurs at most once; `--workers=N` is accepted, and `--` ends the options.
 pub fn read_words(alloc: Global, words: &[String]) -> Result<Options, WordsFault>
     // The result is exactly what the words ask for, unless memory runs out.
-    ensures ok { IfOk result (λ options. asked_by (map string_bytes words.now) ≡ Some (asked_of options)) }
+    ensures ok { IfOk result (λ options. asked_by (map string_bytes words.now)
+        ≡ Some (asked_of options)) }
     ensures line { result ≡ Err WordsFault.Line → asked_by (map string_bytes words.now) ≡ None }
 {
     let matches = find_matches(alloc, words)?;

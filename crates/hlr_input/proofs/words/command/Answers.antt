@@ -27,7 +27,9 @@ returns c =
     ∙ ap (λ (r : Rule). record r { long = Some (codes "save"); action = Some SetTrue }) c.new-5.ensures.rule in
     let first = c.in_ok-arg.ensures.shape (ap is_global c.required-records.ensures ∙ c.new.ensures.optional.1) ∙ ap₂ with_rule c.new-6.ensures.app records_is in
     let second = c.in_ok-arg-2.ensures.shape (ap is_global c.required-script.ensures ∙ c.new-2.ensures.optional.1) ∙ ap₂ with_rule first script_is in
-    let third = c.in_ok-arg-3.ensures.shape (ap is_global c.action-workers.ensures ∙ ap is_global c.long.ensures ∙ c.new-3.ensures.optional.1) ∙ ap₂ with_rule second workers_is in
-    let fourth = c.in_ok-arg-4.ensures.shape (ap is_global c.action-list.ensures ∙ ap is_global c.long-2.ensures ∙ c.new-4.ensures.optional.1) ∙ ap₂ with_rule third list_is in
+    let third = c.in_ok-arg-3.ensures.shape (ap is_global c.action-workers.ensures ∙ ap is_global c.long.ensures ∙ c.new-3.ensures.optional.1)
+    ∙ ap₂ with_rule second workers_is in
+    let fourth = c.in_ok-arg-4.ensures.shape (ap is_global c.action-list.ensures ∙ ap is_global c.long-2.ensures ∙ c.new-4.ensures.optional.1)
+    ∙ ap₂ with_rule third list_is in
     let is_local = ap is_global c.action-save.ensures ∙ ap is_global c.long-3.ensures ∙ c.new-5.ensures.optional.1 in
     IfOk-weaker c.arg-5.result _ _ (λ command added. added.shape is_local ∙ ap₂ with_rule fourth save_is) c.arg-5.ensures

@@ -16,4 +16,5 @@ returns-clause-ok c =
     let new : list_any (λ i. is_same i c.in-Some.id) c.args.self.now ≡ false = rw (← seen) (sym c.is_among.ensures ∙ c.if-is_among.false) in
     let room : length c.args.self.now < 26 = search rules in
     let inside : c.self.inside.ids.items ≡ c.args.self.now = search rules in
-    c.in_ok-push.ensures.items ∙ ap (λ (ids : List (List ℕ)). ids ++ c.in-Some.id ∷ []) inside ∙ noted_new c.args.self.now c.in-Some.id (originating_id c.args.frame.now) c.in-Some.ensures new room
+    c.in_ok-push.ensures.items ∙ ap (λ (ids : List (List ℕ)). ids ++ c.in-Some.id ∷ []) inside
+    ∙ noted_new c.args.self.now c.in-Some.id (originating_id c.args.frame.now) c.in-Some.ensures new room

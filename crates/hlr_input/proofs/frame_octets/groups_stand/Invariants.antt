@@ -1,6 +1,6 @@
 use Rattle.std.proofs.Common.{◌≡◌, length}
 use Rattle.hlr_input.specs.Reading.{are_groups}
-use Rattle.hlr_input.proofs.frame_octets.are_groups.Given as goal
+use Rattle.hlr_input.proofs.frame_octets.groups_stand.Given as goal
 
 abbrev pub invariant-groups : goal.invariant-groups
 invariant-groups l = are_groups l.known l.rest ≡ are_groups l.known l.fn.text
