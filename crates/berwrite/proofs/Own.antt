@@ -1,6 +1,7 @@
 -- The tree of each kind of owned tree, and its octets.
 use Rattle.std.proofs.Common.{◌≡◌, ℕ, ◌+◌, ◌-◌, ◌^◌, ◌<◌, ◌≤◌, List, [], ◌∷◌, ◌++◌, length, take, drop, refl, sym, ◌∙◌, ap, arith, length-append, append_assoc, append-nil, Option, Some, None, IfSome, IfNone, Result, Ok, Err}
 use Rattle.std.specs.Global.{Vec}
+use Rattle.smallvec.specs.SmallVec.{SmallVec}
 use Rattle.std.specs.Option.{SomeIff}
 use Rattle.std.specs.Result.{OkIff, result_ok}
 use Rattle.std.proofs.lemmas.List.{drop_all, take_at, drop_at}
@@ -17,7 +18,7 @@ use Rattle.berwrite.specs.declared.own_tree.OwnTree.TheOpen as layer
 use Rattle.berwrite.specs.declared.own_tree.OwnTree.TheVariants.{Primitive, Constructed, rolls-Primitive, rolls-Constructed}
 use Rattle.berwrite.specs.declared.own_tree.OwnTree.TheFolds.{fold-roll-OwnTree}
 
-pub own-Primitive : (tag : Tag) (octets : Vec ℕ) → own (Primitive tag octets) ≡ x690.Primitive tag octets.items
+pub own-Primitive : (tag : Tag) (octets : SmallVec ℕ) → own (Primitive tag octets) ≡ x690.Primitive tag octets.items
 unfolding own
 own-Primitive tag octets = ap own (sym (rolls-Primitive tag octets)) ∙ fold-roll-OwnTree Tree own_step (layer.Primitive tag octets)
 
@@ -42,14 +43,15 @@ pub enc-definite : (t : Tree) → enc t ≡ definite (tag_of t) (contents_of t)
 enc-definite (x690.Primitive tag octets) = refl
 enc-definite (x690.Constructed tag children) = refl
 
-pub contents-primitive : (t : OwnTree) (tag : Tag) (octets : Vec ℕ) → t ≡ Primitive tag octets → contents_of (own t) ≡ octets.items
+pub contents-primitive : (t : OwnTree) (tag : Tag) (octets : SmallVec ℕ) → t ≡ Primitive tag octets → contents_of (own t) ≡ octets.items
 contents-primitive t tag octets is = ap contents_of (ap own is ∙ own-Primitive tag octets)
 
 pub contents-constructed : (t : OwnTree) (tag : Tag) (children : Vec OwnTree) → t ≡ Constructed tag children → contents_of (own t) ≡ enc_each children.items
 contents-constructed t tag children is = ap contents_of (ap own is ∙ own-Constructed tag children)
 
 -- nothing is left after the last child
-pub all-written : (xs : List OwnTree) (i : ℕ) (out start : List ℕ) → length xs ≤ i → out ++ enc_each (drop i xs) ≡ start ++ enc_each xs → out ≡ start ++ enc_each xs
+pub all-written : (xs : List OwnTree) (i : ℕ) (out start : List ℕ) → length xs ≤ i → out ++ enc_each (drop i xs) ≡ start ++ enc_each xs
+    → out ≡ start ++ enc_each xs
 all-written xs i out start h e = sym (append-nil out) ∙ ap (λ ys. out ++ enc_each ys) (sym (drop_all i xs h)) ∙ e
 
 -- ---- the number of octets

@@ -1,6 +1,6 @@
 //! Identifier octets (X.690, 8.1.2).
-ghost use Rattle.std.specs.Prelude.{◌≡◌, ◌*◌, ◌^◌, ◌<◌, ◌≤◌, ◌++◌, length, OnOk};
-ghost use Rattle.x690.specs.Identifier.{class_bits, constructed_bit, leading, number_octets, identifier};
+ghost use Rattle.std.specs.Prelude.{◌≡◌, ◌*◌, ◌<◌, ◌≤◌, ◌++◌, length, OnOk};
+ghost use Rattle.x690.specs.Identifier.{class_bits, leading, number_octets, identifier};
 
 use std::alloc::AllocError;
 use x690::{Class, Tag};

@@ -1,5 +1,5 @@
 //! Length octets of the definite form, in the fewest octets (X.690, 8.1.3.4 and 8.1.3.5).
-ghost use Rattle.std.specs.Prelude.{◌≡◌, ◌+◌, ◌-◌, ◌*◌, ◌/◌, ◌%◌, ◌^◌, ◌<◌, ◌≤◌, ◌++◌, length as list_length, take, drop, OnOk};
+ghost use Rattle.std.specs.Prelude.{◌≡◌, ◌+◌, ◌-◌, ◌/◌, ◌%◌, ◌<◌, ◌≤◌, ◌++◌, length as list_length, take, drop, OnOk};
 ghost use Rattle.x690.specs.Length.{length_octets};
 
 use std::alloc::AllocError;

@@ -8,15 +8,20 @@ ghost use Rattle.berwrite.specs.OwnTrees.{own, owns};
 use crate::identifier::identifier_len;
 use crate::length::length_len;
 use crate::memory::Memory;
+use smallvec::SmallVec;
 use std::alloc::Global;
 use x690::Tag;
+
+/// How many octets of contents stand in the tree itself: those of an IMSI, an address, an object identifier or a number do, and so
+/// need no allocation.
+const ROOM: usize = 16;
 
 /// An element that is to be sent: its tag with its contents, or with its children.
 ///
 /// Limitation: writing, copying and dropping recurse over the levels, whose number is not limited.
 #[derive(Drop)]
 pub enum OwnTree {
-    Primitive(Tag, Vec<u8>),
+    Primitive(Tag, SmallVec<u8, ROOM>),
     Constructed(Tag, Vec<OwnTree>),
 }
 
@@ -26,7 +31,7 @@ impl OwnTree {
     pub fn primitive(alloc: Global, tag: Tag, octets: &[u8]) -> Result<OwnTree, Memory>
         ensures { IfOk result (λ tree. own tree ≡ Primitive tag octets.now) }
     {
-        Ok(OwnTree::Primitive(tag, Vec::from_slice(alloc, octets)?))
+        Ok(OwnTree::Primitive(tag, SmallVec::from_slice(alloc, octets)?))
     }
 
     /// A constructed element with these children.

@@ -1,6 +1,5 @@
 //! The writer: one pass over the tree, from front to end.
-ghost use Rattle.std.specs.Prelude.{◌≡◌, ◌+◌, ◌-◌, ◌^◌, ◌<◌, ◌++◌, [], length, take, drop, IfOk, OnOk};
-ghost use Rattle.x690.specs.Length.{length_octets};
+ghost use Rattle.std.specs.Prelude.{◌≡◌, ◌+◌, ◌-◌, ◌^◌, ◌<◌, ◌++◌, [], length, IfOk, OnOk};
 ghost use Rattle.x690.specs.Spelling.{Spells, enc};
 ghost use Rattle.x690.specs.Tree.{HasTags};
 ghost use Rattle.berwrite.specs.OwnTrees.{own};

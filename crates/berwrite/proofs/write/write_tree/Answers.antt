@@ -1,4 +1,4 @@
-use Rattle.std.proofs.Common.{◌≡◌, ◌++◌, ◌∙◌, ap, subst, sym, ℕ, List, length, ◌<◌, ◌^◌}
+use Rattle.std.proofs.Common.{◌++◌, ◌∙◌, ap, subst, sym, ℕ, List, length, ◌<◌, ◌^◌}
 use Rattle.x690.specs.Spelling.{Spells, enc}
 use Rattle.x690.proofs.Spellings.{enc_spells}
 use Rattle.berwrite.specs.OwnTrees.{own}

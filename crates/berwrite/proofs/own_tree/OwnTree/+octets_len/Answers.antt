@@ -14,7 +14,7 @@ contents-known t c = elim c.match-self.branch [
   | in-Primitive+in_ok-contents-in-Primitive w ↦ (
       let p = ap length (contents-primitive c.args.self.now _ _ w.in-Primitive.is) in
       let n = tried _ w.try_from.result w.in_ok-contents-in-Primitive.contents w.len.result w.in_ok-contents-in-Primitive.ensures.value w.try_from.ensures in
-      omega (arith, w.contents-is, w.len.ensures, w.in-Primitive.octets.ok.0))
+      omega (arith, w.contents-is, w.len.ensures))
   | in-Constructed+else-loop-child-test w ↦ (
       let d = ap (λ ys. length (enc_each ys)) (drop_all w.loop-child.child-index w.deref-child-items.result.now w.loop-child-test.false) in
       let i = w.loop-child.invariant in
@@ -41,4 +41,4 @@ returns-in_err-contents-in-Primitive-clause-none t c =
     let p = ap length (contents-primitive c.args.self.now _ _ c.in-Primitive.is) in
     let n = untried c.try_from.result c.len.result c.in_err-contents-in-Primitive.ensures.value c.try_from.ensures in
     let l = length-enc (own c.args.self.now) in
-    rw c.from_residual.ensures (omega (arith, c.len.ensures, c.in-Primitive.octets.ok.0))
+    rw c.from_residual.ensures (omega (arith, c.len.ensures))
