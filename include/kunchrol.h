@@ -1,7 +1,7 @@
 /*
  * Kunchrol: the signalling side of a home location register, for a program in C.
  *
- * Link with libkunchrol.a and with the heap of the toolchain (libc/c/heap.c), which calls malloc, realloc and free.
+ * Link with libkunchrol.a and, behind it, the toolchain's liblibc_c.a (docs/USING.md), whose heap calls malloc, realloc and free.
  *
  * Octets and texts are passed as a pointer and a length. A pointer is never null, also where the length is 0, and what it points to is
  * changed by nobody else during the call. Rooms overlap with nothing else. A text is ASCII and ends by its length, not by a zero octet.
@@ -31,7 +31,7 @@ enum {
 	KUNCHROL_OPEN = 5,     /* kunchrol_open: the handle has a register already */
 	KUNCHROL_JOURNAL = 6,  /* the journal of the event's shard has 65,536 entries: kunchrol_cut */
 	KUNCHROL_NO_ROOM = 7,  /* an operator's change would open a dialogue, and 4,096 are open in the shard */
-	KUNCHROL_MEMORY = 8,   /* malloc or realloc refused */
+	KUNCHROL_MEMORY = 8,   /* malloc or realloc refused; kunchrol_next never answers it */
 	KUNCHROL_LINE = 9,     /* kunchrol_open: a line of the records file is not of its form */
 	KUNCHROL_TWICE = 10    /* kunchrol_open: the IMSI or MSISDN of a line stands on an earlier line */
 };
@@ -75,7 +75,10 @@ uint32_t kunchrol_frame(struct kunchrol *hlr, const uint8_t *from, size_t from_l
 /* The clock of a shard, in ticks, at most 2^62. No timer runs out by it. */
 uint32_t kunchrol_clock(struct kunchrol *hlr, uint8_t shard, uint64_t now);
 
-/* The least timer of a shard that is due at its clock runs out. Where none is due nothing is sent. One call is one timer. */
+/*
+ * The least timer of a shard that is due at its clock runs out. One call is one timer. Where none is due nothing is sent, as of some
+ * timers too; the journal's last entry then has no subject (kunchrol_cut: a line that ends `E - 0`).
+ */
 uint32_t kunchrol_expire(struct kunchrol *hlr, uint8_t shard);
 
 /* New teleservice codes for the subscriber with this IMSI, as a records file has them: `11,21`, or `-` for none. */

@@ -21,7 +21,8 @@ pub fn frame_event(
     from: &[u8],
     octets: &[u8],
 ) -> Result<Option<RawEvent>, AllocError>
-    ensures found { IfOk result (λ read. IfSome read (λ event. IsFrame from.now octets.now (raw_event event))) }
+    ensures found { IfOk result (λ read. IfSome read
+        (λ event. IsFrame from.now octets.now (raw_event event))) }
     ensures only { (raw : frames.RawEvent) → IsFrame from.now octets.now raw
         → IfOk result (λ read. option_map raw_event read ≡ Some raw) }
 {
@@ -36,7 +37,8 @@ pub fn frame_event(
 /// A clock value of a shard. `None` if there is no such shard, or the value is greater than 2^62.
 pub fn clock_event(shard: u8, now: u64) -> Option<RawEvent>
     ensures found { IfSome result (λ event. IsClock shard now (raw_event event)) }
-    ensures only { (raw : frames.RawEvent) → IsClock shard now raw → option_map raw_event result ≡ Some raw }
+    ensures only { (raw : frames.RawEvent) → IsClock shard now raw
+        → option_map raw_event result ≡ Some raw }
 {
     if now > MAX_TICKS {
         return None;
@@ -48,7 +50,8 @@ pub fn clock_event(shard: u8, now: u64) -> Option<RawEvent>
 /// The expiry of a shard's least timer that is due. `None` if there is no such shard.
 pub fn expiry_event(shard: u8) -> Option<RawEvent>
     ensures found { IfSome result (λ event. IsExpiry shard (raw_event event)) }
-    ensures only { (raw : frames.RawEvent) → IsExpiry shard raw → option_map raw_event result ≡ Some raw }
+    ensures only { (raw : frames.RawEvent) → IsExpiry shard raw
+        → option_map raw_event result ≡ Some raw }
 {
     let shard = ShardNumber::new(shard)?;
     Some(RawEvent::Expire { shard })
@@ -57,7 +60,8 @@ pub fn expiry_event(shard: u8) -> Option<RawEvent>
 /// New teleservice codes for a subscriber, with the texts of an IMSI and of codes as a records file has them. `None` if one of
 /// them is none.
 pub fn codes_event(alloc: Global, imsi: &[u8], codes: &[u8]) -> Result<Option<RawEvent>, AllocError>
-    ensures found { IfOk result (λ read. IfSome read (λ event. IsCodesChange imsi.now codes.now (raw_event event))) }
+    ensures found { IfOk result (λ read. IfSome read
+        (λ event. IsCodesChange imsi.now codes.now (raw_event event))) }
     ensures only { (raw : frames.RawEvent) → IsCodesChange imsi.now codes.now raw
         → IfOk result (λ read. option_map raw_event read ≡ Some raw) }
 {
@@ -74,7 +78,8 @@ pub fn codes_event(alloc: Global, imsi: &[u8], codes: &[u8]) -> Result<Option<Ra
 /// The end of a subscription, with the text of its IMSI. `None` if it is none.
 pub fn withdrawal_event(imsi: &[u8]) -> Option<RawEvent>
     ensures found { IfSome result (λ event. IsWithdrawal imsi.now (raw_event event)) }
-    ensures only { (raw : frames.RawEvent) → IsWithdrawal imsi.now raw → option_map raw_event result ≡ Some raw }
+    ensures only { (raw : frames.RawEvent) → IsWithdrawal imsi.now raw
+        → option_map raw_event result ≡ Some raw }
 {
     let imsi = read_imsi(imsi)?;
     let change = Change::Withdraw;

@@ -49,7 +49,8 @@ impl Register {
     /// empty, and no frame waits. The first line with a fault decides.
     pub fn open(alloc: Global, text: &[u8]) -> Result<Register, RecordsFault>
         // A text that is opened is a records file, and the register begins with its contents.
-        ensures found { IfOk result (λ r. (contents : Contents) × File text.now contents × Opens contents r) }
+        ensures found { IfOk result (λ r.
+            (contents : Contents) × File text.now contents × Opens contents r) }
 
         // A records file is opened, unless memory runs out.
         ensures only { (contents : Contents) → File text.now contents
@@ -59,9 +60,11 @@ impl Register {
         ensures bad_line { (n : ℕ) → result ≡ Err (RecordsFault.BadLine n) → IsBadLine text.now n }
         ensures twice { (n : ℕ) → result ≡ Err (RecordsFault.Twice n) → IsTwice text.now n }
         ensures at_bad_line { (n : ℕ) → IsBadLine text.now n
-            → MatchResult result (λ _. ⊥) (λ fault. (fault ≡ RecordsFault.BadLine n) ⊎ (fault ≡ RecordsFault.Memory)) }
+            → MatchResult result (λ _. ⊥)
+            (λ fault. (fault ≡ RecordsFault.BadLine n) ⊎ (fault ≡ RecordsFault.Memory)) }
         ensures at_twice { (n : ℕ) → IsTwice text.now n
-            → MatchResult result (λ _. ⊥) (λ fault. (fault ≡ RecordsFault.Twice n) ⊎ (fault ≡ RecordsFault.Memory)) }
+            → MatchResult result (λ _. ⊥)
+            (λ fault. (fault ≡ RecordsFault.Twice n) ⊎ (fault ≡ RecordsFault.Memory)) }
     {
         let loaded = read_records(alloc, text)?;
         let node = Node::new(alloc, loaded)?;
@@ -127,9 +130,12 @@ impl Register {
     /// written. On error nothing changes, in the room neither.
     pub fn cut_listed(&mut self, shard: ShardNumber, room: &mut [u8]) -> Result<usize, RoomFault>
         ensures cuts { OnOk result (CutsOff self.old shard self.new) }
-        ensures lists { IfOk result (λ count. (text : List ℕ) × ListsShard self.old.node shard text × Writes text room.old count room.new) }
+        ensures lists { IfOk result (λ count.
+            (text : List ℕ) × ListsShard self.old.node shard text
+            × Writes text room.old count room.new) }
         ensures small { (n : ℕ) → result ≡ Err (RoomFault.Small n)
-            → (text : List ℕ) × ListsShard self.old.node shard text × (length room.old < n) × (n ≡ length text) }
+            → (text : List ℕ) × ListsShard self.old.node shard text × (length room.old < n)
+            × (n ≡ length text) }
         ensures err { OnErr result (self.new ≡ self.old) }
         ensures room { OnErr result (room.new ≡ room.old) }
     {
@@ -151,9 +157,12 @@ impl Register {
     /// Writes the records as a records file (`audit::save_records`) at the front of the room, and returns the number of octets
     /// written. On error the room is unchanged.
     pub fn save(&self, room: &mut [u8]) -> Result<usize, RoomFault>
-        ensures saves { IfOk result (λ count. (text : List ℕ) × Saves self.now.node.shards text × Writes text room.old count room.new) }
+        ensures saves { IfOk result (λ count.
+            (text : List ℕ) × Saves self.now.node.shards text
+            × Writes text room.old count room.new) }
         ensures small { (n : ℕ) → result ≡ Err (RoomFault.Small n)
-            → (text : List ℕ) × Saves self.now.node.shards text × (length room.old < n) × (n ≡ length text) }
+            → (text : List ℕ) × Saves self.now.node.shards text × (length room.old < n)
+            × (n ≡ length text) }
         ensures err { OnErr result (room.new ≡ room.old) }
     {
         let file = save_records(self.alloc, self.node.shards())?;

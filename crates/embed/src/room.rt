@@ -8,7 +8,8 @@ use crate::fault::RoomFault;
 /// `Small` with the length of the text, if the room has fewer octets.
 pub(crate) fn check_room(room: &[u8], text: &[u8]) -> Result<(), RoomFault>
     ensures fits { OnOk result (length text.now ≤ length room.now) }
-    ensures small { IfErr result (λ fault. (length room.now < length text.now) × (fault ≡ RoomFault.Small (length text.now))) }
+    ensures small { IfErr result (λ fault. (length room.now < length text.now)
+        × (fault ≡ RoomFault.Small (length text.now))) }
 {
     if room.len() < text.len() {
         return Err(RoomFault::Small(text.len()));

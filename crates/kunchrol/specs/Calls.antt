@@ -1,5 +1,5 @@
 -- What a call does to what a handle has.
-use Rattle.std.specs.Prelude.{◌≡◌, ◌≤◌, ◌<◌, ℕ, List, drop, length, slice_get, take, Some, None}
+use Rattle.std.specs.Prelude.{◌≡◌, ℕ, List, drop, length, slice_get, take, Some, None}
 use Rattle.frames.specs.Octets.{RawEvent, RawOut}
 use Rattle.hlr_types.specs.DigitTexts.{text_of}
 use Rattle.records.specs.File.{Contents, File}

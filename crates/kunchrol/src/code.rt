@@ -1,8 +1,8 @@
 //! The numbers that C is answered.
 
-ghost use Rattle.std.specs.Prelude.{◌≡◌, ◌≢◌};
+ghost use Rattle.std.specs.Prelude.{◌≡◌};
+ghost use Rattle.kunchrol.specs.Refusals.{code_of, code_of_file, line_of_file};
 
-use embed::RoomFault;
 use records::RecordsFault;
 use wholenode::Cause;
 
@@ -41,7 +41,7 @@ pub const TWICE: u32 = 10;
 
 /// Why an event was not handled.
 pub fn code_of_cause(cause: Cause) -> u32
-    ensures { result ≢ 0 }
+    ensures { result ≡ code_of cause }
 {
     match cause {
         Cause::JournalFull => JOURNAL,
@@ -52,7 +52,7 @@ pub fn code_of_cause(cause: Cause) -> u32
 
 /// Why a text was not read as a records file.
 pub fn code_of_records(fault: RecordsFault) -> u32
-    ensures { result ≢ 0 }
+    ensures { result ≡ code_of_file fault }
 {
     match fault {
         RecordsFault::BadLine(_) => LINE,
@@ -62,19 +62,11 @@ pub fn code_of_records(fault: RecordsFault) -> u32
 }
 
 /// The line of a fault in a records file, from 1; 0 if memory ran out.
-pub fn line_of(fault: RecordsFault) -> u64 {
+pub fn line_of(fault: RecordsFault) -> u64
+    ensures { result ≡ line_of_file fault }
+{
     match fault {
         RecordsFault::BadLine(line) | RecordsFault::Twice(line) => line,
         RecordsFault::Memory => 0,
-    }
-}
-
-/// Why a text was not written.
-pub fn code_of_room(fault: RoomFault) -> u32
-    ensures { result ≢ 0 }
-{
-    match fault {
-        RoomFault::Small(_) => SMALL,
-        RoomFault::Memory => MEMORY,
     }
 }

@@ -43,7 +43,8 @@ impl Handle {
 
     /// Takes the register out, which leaves the handle closed. `None` if it is closed already.
     pub fn take(&mut self, alloc: Global) -> Option<Box<Register>>
-        ensures taken { MatchOption result (self.old.value ≡ None) (λ register. self.old.value ≡ Some register.value) }
+        ensures taken { MatchOption result (self.old.value ≡ None)
+            (λ register. self.old.value ≡ Some register.value) }
         ensures closed { self.new.value ≡ None }
     {
         let at = self.at;

@@ -9,12 +9,12 @@ mod handle;
 mod next;
 mod room;
 
-ghost use Rattle.std.specs.Prelude.{◌≡◌, ◌≢◌, ◌⊎◌, List, ℕ, None, Some, IsTrue, is_some};
+ghost use Rattle.std.specs.Prelude.{◌≡◌, ◌≢◌, length, None, Some};
 ghost use Rattle.hlrcore.specs.Events.{raw_event};
-ghost use Rattle.records.specs.File.{Contents, File, IsBadLine, IsTwice};
 ghost use Rattle.embed.specs.Events.{IsFrame, IsClock, IsExpiry, IsCodesChange, IsWithdrawal};
-ghost use Rattle.embed.specs.Registers.{Answers, RegisterState};
+ghost use Rattle.embed.specs.Registers.{Answers};
 ghost use Rattle.kunchrol.specs.Calls.{OpensText, Takes, SendsFrame, SavesRecords, CutsJournal};
+ghost use Rattle.kunchrol.specs.Refusals.{Refused, RefusesCut, RefusesEvent, RefusesKind, RefusesNext, RefusesSave, RefusesText};
 
 use code::{ARGUMENT, CLOSED, MEMORY, OK, OPEN, code_of_cause, code_of_records, line_of};
 use embed::{Register, clock_event, codes_event, expiry_event, frame_event, withdrawal_event};
@@ -33,6 +33,8 @@ pub extern "C" fn kunchrol_open(
     line: &mut u64,
 ) -> u32
     ensures opened { result ≡ 0 → OpensText text.now handle.old.value handle.new.value }
+    ensures why { result ≢ 0 → RefusesText text.now handle.old.value line.new result }
+    ensures no_line { result ≢ 9 → result ≢ 10 → line.new ≡ 0 }
     ensures refused { result ≢ 0 → handle.new.value ≡ handle.old.value }
 {
     *line = 0;
@@ -63,7 +65,9 @@ pub extern "C" fn kunchrol_frame(
     from: &[u8],
     octets: &[u8],
 ) -> u32
-    ensures handled { result ≡ 0 → Takes (IsFrame from.now octets.now) handle.old.value handle.new.value }
+    ensures handled { result ≡ 0 → Takes
+        (IsFrame from.now octets.now) handle.old.value handle.new.value }
+    ensures why { result ≢ 0 → RefusesKind (IsFrame from.now octets.now) handle.old.value result }
     ensures refused { result ≢ 0 → handle.new.value ≡ handle.old.value }
 {
     match frame_event(alloc, from, octets) {
@@ -77,6 +81,7 @@ pub extern "C" fn kunchrol_frame(
 #[unsafe(no_mangle)]
 pub extern "C" fn kunchrol_clock(alloc: Global, handle: &mut Handle, shard: u8, now: u64) -> u32
     ensures handled { result ≡ 0 → Takes (IsClock shard now) handle.old.value handle.new.value }
+    ensures why { result ≢ 0 → RefusesKind (IsClock shard now) handle.old.value result }
     ensures refused { result ≢ 0 → handle.new.value ≡ handle.old.value }
 {
     match clock_event(shard, now) {
@@ -89,6 +94,7 @@ pub extern "C" fn kunchrol_clock(alloc: Global, handle: &mut Handle, shard: u8, 
 #[unsafe(no_mangle)]
 pub extern "C" fn kunchrol_expire(alloc: Global, handle: &mut Handle, shard: u8) -> u32
     ensures handled { result ≡ 0 → Takes (IsExpiry shard) handle.old.value handle.new.value }
+    ensures why { result ≢ 0 → RefusesKind (IsExpiry shard) handle.old.value result }
     ensures refused { result ≢ 0 → handle.new.value ≡ handle.old.value }
 {
     match expiry_event(shard) {
@@ -105,7 +111,10 @@ pub extern "C" fn kunchrol_codes(
     imsi: &[u8],
     codes: &[u8],
 ) -> u32
-    ensures handled { result ≡ 0 → Takes (IsCodesChange imsi.now codes.now) handle.old.value handle.new.value }
+    ensures handled { result ≡ 0 → Takes
+        (IsCodesChange imsi.now codes.now) handle.old.value handle.new.value }
+    ensures why { result ≢ 0 → RefusesKind
+        (IsCodesChange imsi.now codes.now) handle.old.value result }
     ensures refused { result ≢ 0 → handle.new.value ≡ handle.old.value }
 {
     match codes_event(alloc, imsi, codes) {
@@ -119,6 +128,7 @@ pub extern "C" fn kunchrol_codes(
 #[unsafe(no_mangle)]
 pub extern "C" fn kunchrol_withdraw(alloc: Global, handle: &mut Handle, imsi: &[u8]) -> u32
     ensures handled { result ≡ 0 → Takes (IsWithdrawal imsi.now) handle.old.value handle.new.value }
+    ensures why { result ≢ 0 → RefusesKind (IsWithdrawal imsi.now) handle.old.value result }
     ensures refused { result ≢ 0 → handle.new.value ≡ handle.old.value }
 {
     match withdrawal_event(imsi) {
@@ -128,7 +138,9 @@ pub extern "C" fn kunchrol_withdraw(alloc: Global, handle: &mut Handle, imsi: &[
 }
 
 fn give(alloc: Global, handle: &mut Handle, event: &RawEvent) -> u32
-    ensures handled { result ≡ 0 → Takes (λ raw. raw ≡ raw_event event.now) handle.old.value handle.new.value }
+    ensures handled { result ≡ 0 → Takes
+        (λ raw. raw ≡ raw_event event.now) handle.old.value handle.new.value }
+    ensures why { result ≢ 0 → Refused (raw_event event.now) handle.old.value result }
     ensures refused { result ≢ 0 → handle.new.value ≡ handle.old.value }
 {
     let Some(mut register) = handle.take(alloc) else {
@@ -141,6 +153,7 @@ fn give(alloc: Global, handle: &mut Handle, event: &RawEvent) -> u32
 
 fn answer(register: &mut Register, event: &RawEvent) -> u32
     ensures handled { result ≡ 0 → Answers register.old (raw_event event.now) register.new }
+    ensures why { result ≢ 0 → RefusesEvent register.old (raw_event event.now) result }
     ensures refused { result ≢ 0 → register.new ≡ register.old }
 {
     match register.handle(event) {
@@ -160,7 +173,10 @@ pub extern "C" fn kunchrol_next(
     octets: &mut [u8],
     octets_len: &mut usize,
 ) -> u32
-    ensures sent { result ≡ 0 → SendsFrame handle.old.value to.new to_len.new octets.new octets_len.new handle.new.value }
+    ensures sent { result ≡ 0
+        → SendsFrame handle.old.value to.new to_len.new octets.new octets_len.new handle.new.value }
+    ensures why { result ≢ 0 → RefusesNext handle.old.value (length to.old)
+        (length octets.old) to_len.new octets_len.new result }
     ensures refused { result ≢ 0 → handle.new.value ≡ handle.old.value }
 {
     let Some(mut register) = handle.take(alloc) else {
@@ -179,7 +195,9 @@ pub extern "C" fn kunchrol_save(
     room: &mut [u8],
     len: &mut usize,
 ) -> u32
-    ensures saved { result ≡ 0 → SavesRecords handle.old.value room.old len.new room.new handle.new.value }
+    ensures saved { result ≡ 0
+        → SavesRecords handle.old.value room.old len.new room.new handle.new.value }
+    ensures why { result ≢ 0 → RefusesSave handle.old.value (length room.old) len.new result }
     ensures unchanged { handle.new.value ≡ handle.old.value }
     ensures refused { result ≢ 0 → room.new ≡ room.old }
 {
@@ -200,7 +218,9 @@ pub extern "C" fn kunchrol_cut(
     room: &mut [u8],
     len: &mut usize,
 ) -> u32
-    ensures cut { result ≡ 0 → CutsJournal handle.old.value shard room.old len.new room.new handle.new.value }
+    ensures cut { result ≡ 0
+        → CutsJournal handle.old.value shard room.old len.new room.new handle.new.value }
+    ensures why { result ≢ 0 → RefusesCut shard handle.old.value (length room.old) len.new result }
     ensures refused { result ≢ 0 → handle.new.value ≡ handle.old.value }
     ensures room { result ≢ 0 → room.new ≡ room.old }
 {

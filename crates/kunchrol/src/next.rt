@@ -1,8 +1,9 @@
 //! The frame that is to be sent next.
 
-ghost use Rattle.std.specs.Prelude.{◌≡◌, ◌≢◌, ◌≤◌, length, take, drop, slice_get, Some};
+ghost use Rattle.std.specs.Prelude.{◌≡◌, ◌≢◌, length, take, drop, slice_get, Some, None, ◌⊎◌};
 ghost use Rattle.frames.specs.Octets.{RawOut};
 ghost use Rattle.hlr_types.specs.DigitTexts.{text_of};
+ghost use Rattle.kunchrol.specs.Refusals.{TooSmall};
 
 use crate::code::{NONE, OK, SMALL};
 use embed::Register;
@@ -19,6 +20,9 @@ pub(crate) fn next_frame(
         × (octets_len.new ≡ length out.octets) × (take octets_len.new octets.new ≡ out.octets) }
     ensures rest { result ≡ 0 → register.new.waiting ≡ drop 1 register.old.waiting }
     ensures node { register.new.node ≡ register.old.node }
+    ensures why { result ≢ 0 → (result ≡ 1) × (slice_get register.old.waiting 0 ≡ None)
+        ⊎ (result ≡ 2) × TooSmall register.old (length to.old)
+        (length octets.old) to_len.new octets_len.new }
     ensures refused { result ≢ 0 → register.new ≡ register.old }
 {
     let Some(out) = register.front() else {

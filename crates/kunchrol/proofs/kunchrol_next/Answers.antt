@@ -1,4 +1,4 @@
-use Rattle.std.proofs.Common.{◌≡◌, rules}
+use Rattle.std.proofs.Common.{◌≡◌, rules, inr}
 use Rattle.std.specs.Prelude.{Some}
 use Rattle.kunchrol.proofs.kunchrol_next.Goals as goal
 
@@ -21,3 +21,8 @@ returns-clause-sent c = λ is.
       octets_len_is = sent.4;
       octets_is = sent.5;
     }
+
+pub returns-clause-why : goal.returns-clause-why
+returns-clause-why c = λ no.
+    let before : c.args.handle.now.value ≡ Some c.deref_mut.result.now = search rules in
+    inr (c.deref_mut.result.now, before, c.next_frame-code.ensures.why no)

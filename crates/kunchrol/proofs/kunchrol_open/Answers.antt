@@ -1,4 +1,4 @@
-use Rattle.std.proofs.Common.{◌≡◌, rules}
+use Rattle.std.proofs.Common.{◌≡◌, rules, refl, inl, inr}
 use Rattle.std.specs.Prelude.{None, Some}
 use Rattle.kunchrol.proofs.kunchrol_open.Goals as goal
 
@@ -8,3 +8,7 @@ returns-in-Ok-new-clause-opened c = λ is.
     let after : c.put-in-Ok-new.new.self.value ≡ Some c.in-Ok.register = search rules in
     let found = c.in-Ok.ensures.found in
     record { was_closed = closed; contents = found.0; file = found.1; is = c.in-Ok.register; after_is = after; opens = found.2 }
+
+pub returns-in-Some-clause-why : goal.returns-in-Some-clause-why
+returns-in-Some-clause-why c = λ _.
+    let before : c.args.handle.now.value ≡ Some c.in-Some.register.value = search rules in inr (inl (refl, (c.in-Some.register.value, before)))

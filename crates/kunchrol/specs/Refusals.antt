@@ -1,0 +1,106 @@
+-- Why a call does nothing, and the number that it answers then.
+use Rattle.std.specs.Prelude.{◌≡◌, ◌<◌, ◌≤◌, ◌⊎◌, ℕ, List, length, slice_get, Some, None}
+use Rattle.frames.specs.Octets.{RawEvent, RawOut}
+use Rattle.hlr_types.specs.DigitTexts.{text_of}
+use Rattle.records.specs.File.{IsBadLine, IsTwice}
+use Rattle.records.specs.declared.fault.RecordsFault.{RecordsFault}
+use Rattle.records.specs.declared.fault.RecordsFault.TheVariants as file
+use Rattle.wholenode.specs.declared.fault.Cause.{Cause}
+use Rattle.wholenode.specs.declared.fault.Cause.TheVariants.{Memory, JournalFull, ResetRefused, NoRoom}
+use Rattle.wholenode.specs.Handling.{Refuses}
+use Rattle.audit.specs.Saving.{Saves}
+use Rattle.embed.specs.declared.fault.RoomFault.{RoomFault}
+use Rattle.embed.specs.declared.fault.RoomFault.TheVariants as room
+use Rattle.embed.specs.Journals.{ListsShard}
+use Rattle.embed.specs.Registers.{RegisterState}
+use Rattle.kunchrol.specs.Handles.{Held}
+
+-- Memory ran out.
+abbrev pub IsMemory : (code : ℕ) → Type 0
+IsMemory code = code ≡ 8
+
+-- The handle has no register.
+abbrev pub IsClosed : Held → (code : ℕ) → Type 0
+IsClosed held code = (code ≡ 4) × (held ≡ None)
+
+-- The number for the cause for which the machine's step is not made.
+abbrev pub code_of : Cause → ℕ
+code_of JournalFull = 6
+code_of NoRoom = 7
+code_of Memory = 8
+code_of ResetRefused = 8
+
+-- The number for a fault of a records file, and the line that is put.
+abbrev pub code_of_file : RecordsFault → ℕ
+code_of_file (file.BadLine _) = 9
+code_of_file (file.Twice _) = 10
+code_of_file file.Memory = 8
+
+abbrev pub line_of_file : RecordsFault → ℕ
+line_of_file (file.BadLine line) = line
+line_of_file (file.Twice line) = line
+line_of_file file.Memory = 0
+
+-- The number where a text is not written into a room, and the length that is put.
+abbrev pub code_of_room : RoomFault → ℕ
+code_of_room (room.Small _) = 2
+code_of_room room.Memory = 8
+
+abbrev pub len_of_room : RoomFault → ℕ
+len_of_room (room.Small len) = len
+len_of_room room.Memory = 0
+
+-- The register refuses the event, and this is the cause's number.
+pub record RefusesEvent (is : RegisterState) (raw : RawEvent) (code : ℕ) : Type 0 where
+  pub cause : Cause
+  pub refuses : Refuses is.node raw cause
+  pub code_is : code ≡ code_of cause
+
+-- The handle's register refuses it, or there is none.
+abbrev pub Refused : RawEvent → Held → (code : ℕ) → Type 0
+Refused raw held code = IsClosed held code ⊎ ((is : RegisterState) × (held ≡ Some is) × RefusesEvent is raw code)
+
+-- An event of the kind asked for is not handled: there is none (3), or memory ran out before it was made, or it is refused.
+abbrev pub RefusesKind : (IsAsked : RawEvent → Type 0) → Held → (code : ℕ) → Type 0
+RefusesKind IsAsked held code =
+    IsMemory code
+    ⊎ (code ≡ 3) × ((raw : RawEvent) → IsAsked raw → ⊥)
+    ⊎ ((raw : RawEvent) × IsAsked raw × Refused raw held code)
+
+-- A text is not opened: the handle has a register (5), the first line with a fault is a bad line (9) or there twice (10), or memory ran out.
+abbrev pub RefusesText : List ℕ → Held → (line code : ℕ) → Type 0
+RefusesText text held line code =
+    IsMemory code
+    ⊎ (code ≡ 5) × ((is : RegisterState) × (held ≡ Some is))
+    ⊎ (code ≡ 9) × (held ≡ None) × IsBadLine text line
+    ⊎ (code ≡ 10) × (held ≡ None) × IsTwice text line
+
+-- A frame does not fit: it waits, its lengths are put, and a room has fewer octets.
+pub record TooSmall (is : RegisterState) (to_room octets_room to_len octets_len : ℕ) : Type 0 where
+  pub out : RawOut
+  pub first : slice_get is.waiting 0 ≡ Some out
+  pub to_len_is : to_len ≡ length (text_of out.to)
+  pub octets_len_is : octets_len ≡ length out.octets
+  pub small : (to_room < to_len) ⊎ (octets_room < octets_len)
+
+-- No frame is given: none waits (1), it does not fit (2), or the handle is closed.
+abbrev pub RefusesNext : Held → (to_room octets_room to_len octets_len code : ℕ) → Type 0
+RefusesNext held to_room octets_room to_len octets_len code =
+    IsClosed held code
+    ⊎ ((is : RegisterState) × (held ≡ Some is)
+    × ((code ≡ 1) × (slice_get is.waiting 0 ≡ None) ⊎ (code ≡ 2) × TooSmall is to_room octets_room to_len octets_len))
+
+-- A text of this kind is longer than the room, and its length is put (2); or memory ran out.
+abbrev pub RefusesRoom : (IsText : List ℕ → Type 0) → (room len code : ℕ) → Type 0
+RefusesRoom IsText room len code = IsMemory code ⊎ (code ≡ 2) × ((text : List ℕ) × IsText text × (room < len) × (len ≡ length text))
+
+-- The records are not written.
+abbrev pub RefusesSave : Held → (room len code : ℕ) → Type 0
+RefusesSave held room len code =
+    IsClosed held code ⊎ ((is : RegisterState) × (held ≡ Some is) × RefusesRoom (Saves is.node.shards) room len code)
+
+-- The journal is not cut: there is no such shard (3), or the handle is closed, or the listing is not written.
+abbrev pub RefusesCut : (shard : ℕ) → Held → (room len code : ℕ) → Type 0
+RefusesCut shard held room len code =
+    (code ≡ 3) × (16 ≤ shard)
+    ⊎ (shard < 16) × (IsClosed held code ⊎ ((is : RegisterState) × (held ≡ Some is) × RefusesRoom (ListsShard is.node shard) room len code))
