@@ -1,8 +1,8 @@
 /*
- * Plays a script on records through the library, as the program `hlr` does in one thread: play RECORDS SCRIPT [--list] [--save].
+ * Plays a script on records through the library, as the program `hlr` does in one thread: play RECORDS SCRIPT [--again] [--list] [--save].
  * Prints `S <to> <octets>` for each frame that is sent; with --list then the journals, which are cut, and with --save the records,
- * each line behind `V `. A call that answers MEMORY changed nothing, so it is made once more; where a journal is full all are cut, and
- * the event is given again. A line that is not handled is told on standard error, and the status is then 1.
+ * each line behind `V `. A call that answers MEMORY changed nothing, so with --again it is made once more; where a journal is full all
+ * are cut, and the event is given again. A line that is not handled is told on standard error, and the status is then 1.
  */
 #include "../../include/kunchrol.h"
 #include "libc.h"
@@ -15,10 +15,12 @@ static char script[MAX_TEXT + 1];
 static uint8_t ids[MAX_LETTERS][4];
 static size_t id_count;
 
-/* the call, and once more where memory was refused */
+static int is_made_again;
+
+/* the call, and with --again once more where memory was refused */
 #define CALL(code, call) \
 	do { \
-		if (((code) = (call)) == KUNCHROL_MEMORY) \
+		if (((code) = (call)) == KUNCHROL_MEMORY && is_made_again) \
 			(code) = (call); \
 	} while (0)
 
@@ -230,6 +232,8 @@ int main(int argc, char **argv)
 
 	if (records_len < 0 || script_len < 0)
 		return 2;
+	for (int word = 3; word < argc; word++)
+		is_made_again |= !strcmp(argv[word], "--again");
 	CALL(code, kunchrol_open(records, (size_t)records_len, &hlr, &line));
 	if (code) {
 		dprintf(STANDARD_ERROR, "play: records line %llu: %s\n", (unsigned long long)line, kunchrol_name(code));
@@ -237,7 +241,10 @@ int main(int argc, char **argv)
 	}
 	code = play((size_t)script_len);
 	for (int word = 3; word < argc && !code; word++)
-		code = strcmp(argv[word], "--list") ? print_records() : cut_journals(1);
+		if (!strcmp(argv[word], "--list"))
+			code = cut_journals(1);
+		else if (!strcmp(argv[word], "--save"))
+			code = print_records();
 	kunchrol_close(&hlr);
 	return code != KUNCHROL_OK;
 }
