@@ -6,7 +6,7 @@ use Rattle.x690.specs.Tree.{Tree, Primitive, element}
 use Rattle.hlr_types.specs.Identities.{IsImsi, IsAddress, IsLmsi}
 use Rattle.machine.specs.Received.{Argument, BadValue, Update, Purge, Route, Parameter, Mistyped, Typed, Code, Number, Other}
 use Rattle.frames.specs.declared.tags.TheConstants.{SEQUENCE, OCTET_STRING, UPDATE_MSC_NUMBER, UPDATE_LMSI, PURGE_ARGUMENT, PURGE_VLR_NUMBER, PURGE_SGSN_NUMBER, ROUTE_MSISDN, SM_RP_PRI, SERVICE_CENTRE}
-use Rattle.frames.specs.declared.numbers.TheConstants.{UPDATE_LOCATION, PURGE_MS, SEND_ROUTING_INFO_FOR_SM}
+use Rattle.machine.specs.declared.numbers.TheConstants.{UPDATE_LOCATION, PURGE_MS, SEND_ROUTING_INFO_FOR_SM}
 use Rattle.frames.specs.Arguments.{UpdateContents, PurgeContents}
 
 -- an optional element
@@ -21,14 +21,16 @@ BeginsWith tag ts = (octets : List ℕ) × (rest : List Tree) × (ts ≡ Primiti
 -- UpdateLocationArg. An optional element is absent only if no element with its tag is in its place.
 pub record HasUpdate (t : Tree) (c : UpdateContents) : Type 0 where
   pub further : List Tree
-  pub spelled : t ≡ element SEQUENCE (Primitive OCTET_STRING c.imsi ∷ Primitive UPDATE_MSC_NUMBER c.msc ∷ Primitive OCTET_STRING c.vlr ∷ optional_element UPDATE_LMSI c.lmsi ++ further)
+  pub spelled : t ≡ element SEQUENCE
+      (Primitive OCTET_STRING c.imsi ∷ Primitive UPDATE_MSC_NUMBER c.msc ∷ Primitive OCTET_STRING c.vlr ∷ optional_element UPDATE_LMSI c.lmsi ++ further)
   pub no_lmsi : c.lmsi ≡ None → BeginsWith UPDATE_LMSI further → ⊥
 
 -- PurgeMS-Arg.
 pub record HasPurge (t : Tree) (c : PurgeContents) : Type 0 where
   pub sgsn : Option (List ℕ)
   pub further : List Tree
-  pub spelled : t ≡ element PURGE_ARGUMENT (Primitive OCTET_STRING c.imsi ∷ optional_element PURGE_VLR_NUMBER c.vlr ++ (optional_element PURGE_SGSN_NUMBER sgsn ++ further))
+  pub spelled : t ≡ element PURGE_ARGUMENT (Primitive OCTET_STRING c.imsi ∷ optional_element PURGE_VLR_NUMBER c.vlr
+      ++ (optional_element PURGE_SGSN_NUMBER sgsn ++ further))
   pub no_vlr : c.vlr ≡ None → BeginsWith PURGE_VLR_NUMBER (optional_element PURGE_SGSN_NUMBER sgsn ++ further) → ⊥
 
 -- RoutingInfoForSM-Arg.

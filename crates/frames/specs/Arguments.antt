@@ -9,7 +9,7 @@ use Rattle.x690.specs.Elements.{first, optional}
 use Rattle.hlr_types.specs.Identities.{imsi_of, address_of, lmsi_of}
 use Rattle.machine.specs.Received.{Argument, BadValue, Update, Purge, Route, Parameter, Mistyped, Typed, Code, Number, Other}
 use Rattle.frames.specs.declared.tags.TheConstants.{SEQUENCE, OCTET_STRING, UPDATE_MSC_NUMBER, UPDATE_LMSI, PURGE_ARGUMENT, PURGE_VLR_NUMBER, ROUTE_MSISDN, SM_RP_PRI, SERVICE_CENTRE}
-use Rattle.frames.specs.declared.numbers.TheConstants.{UPDATE_LOCATION, PURGE_MS, SEND_ROUTING_INFO_FOR_SM}
+use Rattle.machine.specs.declared.numbers.TheConstants.{UPDATE_LOCATION, PURGE_MS, SEND_ROUTING_INFO_FOR_SM}
 use Rattle.frames.specs.Choices.{◌>>=◌}
 
 -- what may be absent, and is a value if it is there

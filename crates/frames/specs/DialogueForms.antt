@@ -4,7 +4,8 @@ use Rattle.x690.specs.declared.Tag.{Tag}
 use Rattle.x690.specs.Tree.{Tree, Primitive, element}
 use Rattle.machine.specs.Received.{Diagnostic, OfUser, OfProvider, Apdu, Aarq, Aare, Abrt}
 use Rattle.frames.specs.declared.tags.TheConstants.{INTEGER, OBJECT_IDENTIFIER, EXTERNAL, DIALOGUE_PORTION, SINGLE_ASN1_TYPE, AARQ, AARE, ABRT, VERSION, CONTEXT_NAME, RESULT, RESULT_SOURCE, DIAGNOSTIC_OF_USER, DIAGNOSTIC_OF_PROVIDER, ABORT_SOURCE, USER_INFORMATION}
-use Rattle.frames.specs.declared.numbers.TheConstants.{DIALOGUE_AS_ID, MAX_CONTEXT_NAME}
+use Rattle.machine.specs.declared.numbers.TheConstants.{MAX_CONTEXT_NAME}
+use Rattle.frames.specs.declared.numbers.TheConstants.{DIALOGUE_AS_ID}
 
 -- A version is a BIT STRING (X.690, 8.6) of at least two octets: at most seven bits unused, and the first bit set (profile).
 abbrev pub IsVersion : List ℕ → Type 0

@@ -7,7 +7,8 @@ use Rattle.x690.specs.Reading.{octets_of, octet_of, children_of, only_child}
 use Rattle.x690.specs.Elements.{first, optional}
 use Rattle.machine.specs.Received.{Diagnostic, OfUser, OfProvider, Apdu, Aarq, Aare, Abrt}
 use Rattle.frames.specs.declared.tags.TheConstants.{INTEGER, OBJECT_IDENTIFIER, EXTERNAL, DIALOGUE_PORTION, SINGLE_ASN1_TYPE, AARQ, AARE, ABRT, VERSION, CONTEXT_NAME, RESULT, RESULT_SOURCE, DIAGNOSTIC_OF_USER, DIAGNOSTIC_OF_PROVIDER, ABORT_SOURCE, USER_INFORMATION}
-use Rattle.frames.specs.declared.numbers.TheConstants.{DIALOGUE_AS_ID, MAX_CONTEXT_NAME}
+use Rattle.machine.specs.declared.numbers.TheConstants.{MAX_CONTEXT_NAME}
+use Rattle.frames.specs.declared.numbers.TheConstants.{DIALOGUE_AS_ID}
 use Rattle.frames.specs.Choices.{◌>>=◌, or, when}
 
 -- a BIT STRING that is a version: at most seven bits unused, and the first bit set (profile)

@@ -1,10 +1,10 @@
 -- The verdict on a frame of any octets, as a relation.
 use Rattle.std.specs.Prelude.{◌≡◌, ℕ, ◌≤◌, ◌⊎◌, List, length, Option, Some, None}
-use Rattle.octets.specs.Octets.{AreOctets}
+use Rattle.machine.specs.Octets.{AreOctets}
 use Rattle.x690.specs.Tree.{Tree, levels}
 use Rattle.x690.specs.Spelling.{Spells}
 use Rattle.machine.specs.Received.{Apdu, Aarq, Aare, Message, Begin, Continue, End, Abort, Verdict, Discard, Read}
-use Rattle.frames.specs.declared.numbers.TheConstants.{MAX_OCTETS, MAX_LEVELS}
+use Rattle.x690.specs.declared.limits.TheConstants.{MAX_OCTETS, MAX_LEVELS}
 use Rattle.frames.specs.Messages as tc
 use Rattle.frames.specs.Messages.{Portions, Unread}
 use Rattle.frames.specs.MessageForms.{IsMessage}

@@ -1,7 +1,7 @@
 -- The form of each message (Q.773, transaction portion): the elements in order, as a relation between a tree and a message.
 -- A transaction id has one to four octets; that they are octets is a fact of the whole tree.
 use Rattle.std.specs.Prelude.{◌≡◌, List, [], ◌∷◌, ◌++◌, Option, Some, None, ◌⊎◌}
-use Rattle.octets.specs.Octets.{HasIdLength}
+use Rattle.machine.specs.Octets.{HasIdLength}
 use Rattle.x690.specs.Tree.{Tree, Primitive, element}
 use Rattle.x690.specs.Reading.{tag_of}
 use Rattle.frames.specs.declared.tags.TheConstants.{BEGIN, END, CONTINUE, ABORT, ORIGIN, DESTINATION, ABORT_CAUSE, DIALOGUE_PORTION, COMPONENT_PORTION}

@@ -1,7 +1,7 @@
 -- Journals of octets. Each spells one journal of messages, and statements about it are about that one.
 use Rattle.std.specs.Prelude.{◌≡◌, ℕ, ◌<◌, List, [], ◌∷◌, ◌++◌, Bool, true, false, cond, filter}
 use Rattle.machine.specs.Keys.{Every, put_at}
-use Rattle.machine.specs.Numbers.{shards, no_resources}
+use Rattle.machine.specs.declared.numbers.TheConstants.{SHARDS, RESOURCE_LIMITATION}
 use Rattle.machine.specs.Sent.{Cause, SentAbort}
 use Rattle.machine.specs.State.{State}
 use Rattle.machine.specs.Legal.{Entry, Legal}
@@ -44,7 +44,7 @@ only_raw_of raws x = filter (is_raw_of x) raws
 -- the first frame is an Abort with the cause resourceLimitation: an update met a full shard
 abbrev pub IsTurnedAway : List RawOut → Type 0
 IsTurnedAway [] = ⊥
-IsTurnedAway (out ∷ outs) = (destination : List ℕ) × (out.octets ≡ octets_of_sent (SentAbort destination (Cause no_resources)))
+IsTurnedAway (out ∷ outs) = (destination : List ℕ) × (out.octets ≡ octets_of_sent (SentAbort destination (Cause RESOURCE_LIMITATION)))
 
 abbrev pub NoRawTurnedAway : List RawEntry → List ℕ → Type 0
 NoRawTurnedAway raws x = Every (λ raw. is_subject x raw.subject ≡ true → IsTurnedAway raw.outs → ⊥) raws
@@ -53,9 +53,9 @@ NoRawTurnedAway raws x = Every (λ raw. is_subject x raw.subject ≡ true → Is
 
 -- The merge has the entries of the sixteen journals, each journal's in their order.
 abbrev pub MergesOctets : (ℕ → List RawEntry) → List RawEntry → Type 0
-MergesOctets journals [] = (n : ℕ) → n < shards → journals n ≡ []
+MergesOctets journals [] = (n : ℕ) → n < SHARDS → journals n ≡ []
 MergesOctets journals (raw ∷ merge) =
-    (n : ℕ) × (rest : List RawEntry) × (n < shards) × (journals n ≡ raw ∷ rest) × MergesOctets (put_at journals n rest) merge
+    (n : ℕ) × (rest : List RawEntry) × (n < SHARDS) × (journals n ≡ raw ∷ rest) × MergesOctets (put_at journals n rest) merge
 
 -- ---- consecutive epochs
 

@@ -1,11 +1,12 @@
 -- What keeps a tree from being read as a message, point by point (profile). The first point that applies decides.
 use Rattle.std.specs.Prelude.{◌≡◌, ℕ, ◌<◌, ◌⊎◌, List, [], ◌∷◌, ◌++◌, length, Option, Some, None, Result, Ok, Err}
-use Rattle.octets.specs.Octets.{HasIdLength}
+use Rattle.machine.specs.Octets.{HasIdLength}
 use Rattle.x690.specs.Tree.{Tree, Primitive}
 use Rattle.x690.specs.Reading.{tag_of, children}
 use Rattle.machine.specs.Received.{Apdu, Aarq, Aare}
 use Rattle.frames.specs.declared.tags.TheConstants.{UNIDIRECTIONAL, BEGIN, END, CONTINUE, ABORT, ORIGIN, DESTINATION}
-use Rattle.frames.specs.declared.numbers.TheConstants.{MAX_COMPONENTS, UNRECOGNIZED_MESSAGE_TYPE, BADLY_FORMATTED_TRANSACTION_PORTION, INCORRECT_TRANSACTION_PORTION, RESOURCE_LIMITATION}
+use Rattle.machine.specs.declared.numbers.TheConstants.{MAX_COMPONENTS, RESOURCE_LIMITATION}
+use Rattle.frames.specs.declared.numbers.TheConstants.{UNRECOGNIZED_MESSAGE_TYPE, BADLY_FORMATTED_TRANSACTION_PORTION, INCORRECT_TRANSACTION_PORTION}
 use Rattle.frames.specs.Messages.{TcMessage, Begin, Continue, End, Unread, Discarded, Refused, dialogue_in, components_in}
 use Rattle.frames.specs.MessageForms.{IsMessage}
 use Rattle.frames.specs.DialogueForms.{IsDialogue}

@@ -1,12 +1,13 @@
 -- What may be sent: the conditions under which its octets are octets, determine what was sent, and are read as that.
 use Rattle.std.specs.Prelude.{ℕ, ◌<◌, ◌≤◌, ◌^◌, List, [], length}
 use Rattle.std.specs.List.{AllByRecursion}
-use Rattle.octets.specs.Octets.{IsOctet, AreOctets, HasIdLength}
+use Rattle.machine.specs.Octets.{IsOctet, AreOctets, HasIdLength}
 use Rattle.x690.specs.Tree.{Tree}
 use Rattle.machine.specs.Bounds.{IfThere, IsInvokeId}
 use Rattle.machine.specs.Keys.{Every}
 use Rattle.machine.specs.Sent.{Rejection, SentComponent, Insert, Cancel, UpdateResult, PurgeResult, RouteResult, SentError, Why, NoCause, Cause, Refusing, SentMessage, SentBegin, SentContinue, SentEnd, SentAbort}
-use Rattle.frames.specs.declared.numbers.TheConstants.{MAX_OCTETS, MAX_COMPONENTS}
+use Rattle.machine.specs.declared.numbers.TheConstants.{MAX_COMPONENTS}
+use Rattle.x690.specs.declared.limits.TheConstants.{MAX_OCTETS}
 use Rattle.frames.specs.SentTrees.{component_trees, octets_of_sent}
 
 -- digits 0 to 9

@@ -9,7 +9,8 @@ use Rattle.machine.specs.Received.{Diagnostic, OfUser}
 use Rattle.machine.specs.Sent.{Context, Rejection, CancellationType, UpdateProcedure, SubscriptionWithdraw, SentComponent, Insert, Cancel, UpdateResult, PurgeResult, RouteResult, SentError, Why, NoCause, Cause, Refusing, SentMessage, SentBegin, SentContinue, SentEnd, SentAbort}
 use Rattle.machine.specs.Contexts.{name_of}
 use Rattle.frames.specs.declared.tags.TheConstants.{INTEGER, NULL, OBJECT_IDENTIFIER, SEQUENCE, OCTET_STRING, ENUMERATED, INVOKE, RESULT_LAST, RETURN_ERROR, REJECT, INSERT_IMSI, INSERT_MSISDN, SUBSCRIBER_STATUS, TELESERVICE_LIST, CANCEL_ARGUMENT, FREEZE_TMSI, LOCATION_INFO, NETWORK_NODE_NUMBER, BEGIN, END, CONTINUE, ABORT, ORIGIN, DESTINATION, ABORT_CAUSE, COMPONENT_PORTION, AARQ, AARE, ABRT, VERSION, CONTEXT_NAME, RESULT, ABORT_SOURCE}
-use Rattle.frames.specs.declared.numbers.TheConstants.{VERSION_1, SERVICE_GRANTED, UPDATE_PROCEDURE, SUBSCRIPTION_WITHDRAW, PLMN_ROAMING_NOT_ALLOWED, ROAMING_NOT_ALLOWED, UPDATE_LOCATION, CANCEL_LOCATION, INSERT_SUBSCRIBER_DATA, SEND_ROUTING_INFO_FOR_SM, PURGE_MS, ACCEPTED, REJECT_PERMANENT, NO_DIAGNOSTIC, CONTEXT_NAME_NOT_SUPPORTED}
+use Rattle.machine.specs.declared.numbers.TheConstants.{ROAMING_NOT_ALLOWED, UPDATE_LOCATION, SEND_ROUTING_INFO_FOR_SM, PURGE_MS}
+use Rattle.frames.specs.declared.numbers.TheConstants.{VERSION_1, SERVICE_GRANTED, UPDATE_PROCEDURE, SUBSCRIPTION_WITHDRAW, PLMN_ROAMING_NOT_ALLOWED, CANCEL_LOCATION, INSERT_SUBSCRIBER_DATA, ACCEPTED, REJECT_PERMANENT, NO_DIAGNOSTIC, CONTEXT_NAME_NOT_SUPPORTED}
 use Rattle.frames.specs.ComponentForms.{problem_tag}
 use Rattle.frames.specs.DialogueForms.{octet_in, diagnostic_tree, portion_tree}
 
@@ -80,7 +81,8 @@ purge_result_tree = element SEQUENCE (Primitive FREEZE_TMSI [] ∷ [])
 -- RoutingInfoForSM-Res
 abbrev pub route_result_tree : (imsi msc : List ℕ) → Option (List ℕ) → Tree
 route_result_tree imsi msc lmsi =
-    element SEQUENCE (Primitive OCTET_STRING (tbcd imsi) ∷ element LOCATION_INFO (Primitive NETWORK_NODE_NUMBER (address_octets msc) ∷ option_to_list (option_map (Primitive OCTET_STRING) lmsi)) ∷ [])
+    element SEQUENCE (Primitive OCTET_STRING (tbcd imsi) ∷ element LOCATION_INFO
+    (Primitive NETWORK_NODE_NUMBER (address_octets msc) ∷ option_to_list (option_map (Primitive OCTET_STRING) lmsi)) ∷ [])
 
 -- only roamingNotAllowed has a parameter, RoamingNotAllowedParam: plmnRoamingNotAllowed (profile)
 abbrev pub error_parameter : (code : ℕ) → Option Tree

@@ -2,7 +2,8 @@
 use Rattle.std.specs.Prelude.{ℕ, List, length, Result, Ok, Err, Option, Some, None, nat_le, if◌then◌else◌, option_map, option_and_then}
 use Rattle.x690.specs.Tree.{Tree}
 use Rattle.machine.specs.Received.{Response, Apdu, Aarq, Aare, Abrt, Message, Begin, Continue, End, Abort, Verdict, Discard, Refuse, Read}
-use Rattle.frames.specs.declared.numbers.TheConstants.{MAX_COMPONENTS, INCORRECT_TRANSACTION_PORTION, RESOURCE_LIMITATION}
+use Rattle.machine.specs.declared.numbers.TheConstants.{MAX_COMPONENTS, RESOURCE_LIMITATION}
+use Rattle.frames.specs.declared.numbers.TheConstants.{INCORRECT_TRANSACTION_PORTION}
 use Rattle.frames.specs.Messages as tc
 use Rattle.frames.specs.Messages.{TcMessage, Unread, Discarded, Refused, message_of, components_in}
 use Rattle.frames.specs.Dialogues.{dialogue_of}
@@ -27,7 +28,8 @@ portion_of wanted (Some t) = option_map Some (option_and_then wanted (dialogue_o
 -- the message with its portions read; nothing if the dialogue portion is unreadable
 abbrev pub read_in : TcMessage → Option Message
 read_in (tc.Begin origin p) = option_map (λ context. Begin origin context (all_heard p.components)) (portion_of request_in p.dialogue)
-read_in (tc.Continue origin destination p) = option_map (λ response. Continue origin destination response (all_heard p.components)) (portion_of response_in p.dialogue)
+read_in (tc.Continue origin destination p) = option_map (λ response. Continue origin destination response (all_heard p.components))
+    (portion_of response_in p.dialogue)
 read_in (tc.End destination p) = option_map (λ response. End destination response (all_heard p.components)) (portion_of response_in p.dialogue)
 read_in (tc.Abort destination) = Some (Abort destination)
 

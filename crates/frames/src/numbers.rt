@@ -1,4 +1,5 @@
-//! The numbers and octet strings of the standards, and the limits of this project's profile.
+//! The numbers and octet strings of the standards that only octets have. The other numbers stand in `machine`, the limits of a
+//! frame in `x690`.
 
 /// The abstract syntax of dialogue portions (Q.773): dialogue-as-id, version 1.
 pub const DIALOGUE_AS_ID: [u8; 7] = [0x00, 0x11, 0x86, 0x05, 0x01, 0x01, 0x01];
@@ -6,21 +7,7 @@ pub const DIALOGUE_AS_ID: [u8; 7] = [0x00, 0x11, 0x86, 0x05, 0x01, 0x01, 0x01];
 /// Version 1 of the dialogue portion's protocol as a BIT STRING (X.690, 8.6): seven bits unused, the first set.
 pub const VERSION_1: [u8; 2] = [0x07, 0x80];
 
-// Limits (profile).
-
-/// The most octets in a frame.
-pub const MAX_OCTETS: usize = 4096;
-
-/// The most levels in a frame's tree.
-pub const MAX_LEVELS: usize = 32;
-
-/// The most components in a message.
-pub const MAX_COMPONENTS: usize = 16;
-
-/// The most octets in an application context's name.
-pub const MAX_CONTEXT_NAME: usize = 32;
-
-// P-Abort causes (Q.773).
+// P-Abort causes (Q.773, P-AbortCause) of what cannot be read.
 
 /// The tag is of no message.
 pub const UNRECOGNIZED_MESSAGE_TYPE: u8 = 0;
@@ -30,9 +17,6 @@ pub const BADLY_FORMATTED_TRANSACTION_PORTION: u8 = 2;
 
 /// A message has an unexpected child, or an unreadable dialogue portion.
 pub const INCORRECT_TRANSACTION_PORTION: u8 = 3;
-
-/// A message has too many components, or there is no room for a dialogue.
-pub const RESOURCE_LIMITATION: u8 = 4;
 
 // General problems (Q.773).
 
@@ -58,25 +42,13 @@ pub const CONTEXT_NAME_NOT_SUPPORTED: u8 = 2;
 
 // Operations (TS 29.002, MAP-MobileServiceOperations and MAP-ShortMessageServiceOperations).
 
-/// updateLocation (8.1.2, MAP_UPDATE_LOCATION).
-pub const UPDATE_LOCATION: u8 = 2;
-
 /// cancelLocation (8.1.3, MAP_CANCEL_LOCATION).
 pub const CANCEL_LOCATION: u8 = 3;
 
 /// insertSubscriberData (8.8.1, MAP-INSERT-SUBSCRIBER-DATA).
 pub const INSERT_SUBSCRIBER_DATA: u8 = 7;
 
-/// sendRoutingInfoForSM (12.1, MAP-SEND-ROUTING-INFO-FOR-SM).
-pub const SEND_ROUTING_INFO_FOR_SM: u8 = 45;
-
-/// purgeMS (8.1.6, MAP_PURGE_MS).
-pub const PURGE_MS: u8 = 67;
-
-// Errors and values (TS 29.002, MAP-Errors, MAP-ER-DataTypes and MAP-MS-DataTypes).
-
-/// roamingNotAllowed, the error that is sent with a parameter.
-pub const ROAMING_NOT_ALLOWED: u8 = 8;
+// Values (TS 29.002, MAP-ER-DataTypes and MAP-MS-DataTypes).
 
 /// The roamingNotAllowedCause that is sent: plmnRoamingNotAllowed.
 pub const PLMN_ROAMING_NOT_ALLOWED: u8 = 0;

@@ -72,7 +72,8 @@ Before m = m < 1 → Account journals jobs [] m
 pub accounts : Accounts
 accounts = record {
   all = record {
-    each = All-cons Counted 1 (2 ∷ 2 ∷ 1 ∷ []) first (All-cons Counted 2 (2 ∷ 1 ∷ []) second (All-cons Counted 2 (1 ∷ []) second (All-cons Counted 1 [] first (All-nil Counted))));
+    each = All-cons Counted 1 (2 ∷ 2 ∷ 1 ∷ []) first (All-cons Counted 2 (2 ∷ 1 ∷ []) second
+        (All-cons Counted 2 (1 ∷ []) second (All-cons Counted 1 [] first (All-nil Counted))));
     none_stray = no_stray;
   };
   another_event = λ a.
@@ -80,7 +81,8 @@ accounts = record {
       let same : RawClock 0 7 ≡ RawClock 0 5 = ap (λ (e : RawEntry). e.event) (some_of _ _ b.stands) ∙ b.event in
       differ 7 5 (times_of 7 5 same) refl;
   other_octets = λ a.
-      let b = at_five journals jobs (receipt_of_abort 1 0 ∷ receipt_at 2 1 ∷ []) (receipt_of_abort 1 0) (record { shard = 0; position = 0; outs = sent_abort ∷ [] }) refl refl refl a in
+      let b = at_five journals jobs (receipt_of_abort 1 0 ∷ receipt_at 2 1 ∷ []) (receipt_of_abort 1 0)
+      (record { shard = 0; position = 0; outs = sent_abort ∷ [] }) refl refl refl a in
       let same : [] ≡ sent_abort ∷ [] = ap (λ (e : RawEntry). e.outs) (some_of _ _ b.stands) ∙ b.outs in absurd (cc same);
   place_named_twice = λ a.
       let b = at_five journals jobs (receipt_at 1 0 ∷ receipt_at 2 0 ∷ []) (receipt_at 1 0) (record { shard = 0; position = 0; outs = [] }) refl refl refl a in

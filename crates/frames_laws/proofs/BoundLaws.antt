@@ -5,7 +5,7 @@ use Rattle.std.specs.Int.{w8}
 use Rattle.std.specs.List.{AllByRecursion}
 use Rattle.std.proofs.lemmas.Bool.{cases_lt}
 use Rattle.std.proofs.Math.Facts.{sfits_to_z, Fits-of_lt}
-use Rattle.octets.specs.Octets.{IsOctet, AreOctets, HasIdLength}
+use Rattle.machine.specs.Octets.{IsOctet, AreOctets, HasIdLength}
 use Rattle.x690.specs.Tree.{Tree, Trees, Primitive, Constructed, Empty, More, trees, HasOctets, AllHaveOctets}
 use Rattle.x690.specs.declared.Tag.{Tag}
 use Rattle.x690.specs.Identifier.{identifier}
@@ -17,10 +17,10 @@ use Rattle.hlr_types.specs.Identities.{IsImsi, IsAddress, IsLmsi}
 use Rattle.machine.specs.Keys.{Every}
 use Rattle.machine.specs.Received.{Argument, BadValue, Update, Purge, Route, Parameter, Mistyped, Typed, Code, Number, Other, Component, Invoke, ResultLast, ResultNotLast, ReturnError, Reject, Bad, Ignored, Aarq, Message, Begin, Continue, End, Abort, Verdict}
 use Rattle.machine.specs.Bounds.{IfThere, AreDigits, IsTransactionId, IsInvokeId, IsName, IsOfOperation, ArgumentInBounds, ParameterInBounds, ComponentInBounds, MessageInBounds, VerdictInBounds}
-use Rattle.frames.specs.declared.numbers.TheConstants.{MAX_COMPONENTS}
+use Rattle.machine.specs.declared.numbers.TheConstants.{MAX_COMPONENTS}
 use Rattle.frames.specs.declared.tags.TheConstants.{INTEGER, UPDATE_LMSI}
 use Rattle.frames.specs.Messages as tc
-use Rattle.frames.specs.Messages.{Portions, TcMessage, Unread, Discarded, Refused, components_in}
+use Rattle.frames.specs.Messages.{Portions, TcMessage, Unread, components_in}
 use Rattle.frames.specs.MessageForms.{AreDialogue, AreComponents, ArePortions, IsMessage}
 use Rattle.frames.specs.DialogueForms.{IsDialogue}
 use Rattle.frames.specs.ComponentForms.{IsId, IsWellFormed, HasIdTag, BeginsWithId}
@@ -39,7 +39,8 @@ mutual
   spells_octets octets (Constructed tag ts) are (is, contents, all, inl (size, l, e)) =
       all_spell_octets contents ts (AreOctets-back size contents (AreOctets-back (identifier tag) (size ++ contents) (subst AreOctets e are))) all
   spells_octets octets (Constructed tag ts) are (is, contents, all, inr e) =
-      all_spell_octets contents ts (AreOctets-front contents (0 ∷ 0 ∷ []) (AreOctets-back (identifier tag) (128 ∷ (contents ++ 0 ∷ 0 ∷ [])) (subst AreOctets e are)).1) all
+      all_spell_octets contents ts (AreOctets-front contents (0 ∷ 0 ∷ [])
+      (AreOctets-back (identifier tag) (128 ∷ (contents ++ 0 ∷ 0 ∷ [])) (subst AreOctets e are)).1) all
 
   all_spell_octets : (octets : List ℕ) (ts : Trees) → AreOctets octets → SpellsAll octets ts → AllHaveOctets ts
   all_spell_octets octets Empty are e = tt
@@ -88,13 +89,15 @@ address_if (Some octets) None h = absurd h
 address_if None (Some ds) h = absurd h
 address_if (Some octets) (Some ds) h = address_digits octets ds h
 
-lmsi_if : (octets lmsi : Option (List ℕ)) → ((o : List ℕ) → octets ≡ Some o → AreOctets o) → AreIfThere IsLmsi octets lmsi → IfThere (λ l. AreOctets l × (length l ≡ 4)) lmsi
+lmsi_if : (octets lmsi : Option (List ℕ)) → ((o : List ℕ) → octets ≡ Some o → AreOctets o) → AreIfThere IsLmsi octets lmsi
+    → IfThere (λ l. AreOctets l × (length l ≡ 4)) lmsi
 lmsi_if None None are h = tt
 lmsi_if (Some o) None are h = absurd h
 lmsi_if None (Some l) are h = absurd h
 lmsi_if (Some o) (Some l) are h = (subst AreOctets h.same (are o refl), h.count)
 
-optional_octets : (tag : Tag) (o : Option (List ℕ)) (rest : List Tree) → ListOctets (optional_element tag o ++ rest) → (octets : List ℕ) → o ≡ Some octets → AreOctets octets
+optional_octets : (tag : Tag) (o : Option (List ℕ)) (rest : List Tree) → ListOctets (optional_element tag o ++ rest) → (octets : List ℕ) → o ≡ Some octets
+    → AreOctets octets
 optional_octets tag None rest h octets e = absurd cc
 optional_octets tag (Some own) rest h octets e = let same : own ≡ octets = cc in subst AreOctets same h.0
 
@@ -103,7 +106,12 @@ argument_within operation t (Update imsi register) h (of, c, has, i, m, v, l) =
     let inner = subst HasOctets has.spelled h in (
       (
         imsi_digits c.imsi imsi i,
-        record { vlr = address_digits c.vlr register.vlr v; msc = address_digits c.msc register.msc m; lmsi = lmsi_if c.lmsi register.lmsi (optional_octets UPDATE_LMSI c.lmsi has.further inner.1.1.1) l },
+        record {
+          vlr = address_digits c.vlr register.vlr v;
+          msc = address_digits c.msc register.msc m;
+          lmsi = lmsi_if c.lmsi register.lmsi
+              (optional_octets UPDATE_LMSI c.lmsi has.further inner.1.1.1) l;
+        },
       ),
       of,
     )
@@ -123,7 +131,8 @@ parameter_within Other t (Typed a) h is = absurd is
 -- ---- components
 
 -- the first id, and the parameter of an Invoke
-invoke_parts : (t : Tree) (id : ℤ) (linked : Option ℤ) (code : Code) (p : Option Tree) → HasOctets t → IsWellFormed t (Invoke id linked code p) → IsInvokeId id × ListOctets (option_to_list p)
+invoke_parts : (t : Tree) (id : ℤ) (linked : Option ℤ) (code : Code) (p : Option Tree) → HasOctets t → IsWellFormed t (Invoke id linked code p)
+    → IsInvokeId id × ListOctets (option_to_list p)
 invoke_parts t id linked code p h (i, is_id, ls, are_linked, cs, (u, is_code, coded), is) =
     let inner = subst HasOctets is h in
     let rest = list_back ls cs inner.1 in
@@ -165,7 +174,8 @@ components_within (t ∷ ts) (c ∷ cs) h are =
 
 -- ---- portions
 
-portions_octets : (ts : List Tree) (p : Portions) → ListOctets ts → ArePortions ts p → ((d : Tree) → p.dialogue ≡ Some d → HasOctets d) × ListOctets p.components
+portions_octets : (ts : List Tree) (p : Portions) → ListOctets ts → ArePortions ts p
+    → ((d : Tree) → p.dialogue ≡ Some d → HasOctets d) × ListOctets p.components
 portions_octets ts p h are =
     let inner = subst ListOctets are.whole h in
     (dialogue are.ds p.dialogue (list_front are.ds are.cs inner) are.dialogue, components are.cs p.components (list_back are.ds are.cs inner) are.components)

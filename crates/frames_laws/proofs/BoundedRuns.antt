@@ -4,11 +4,11 @@ use Rattle.std.specs.Prelude.{map}
 use Rattle.machine.specs.Keys.{Every}
 use Rattle.machine.specs.Sent.{Out}
 use Rattle.machine.specs.Events.{Event, Frame, Clock, Expire, Operator}
-use Rattle.machine.specs.Numbers.{shards}
+use Rattle.machine.specs.declared.numbers.TheConstants.{SHARDS}
 use Rattle.machine.specs.Legal.{Entry, events_of, answers_of}
 use Rattle.machine.specs.Bounds.{AreDigits, ChangeInBounds, EventInBounds, OutInBounds, AnswerInBounds}
 use Rattle.machine_laws.proofs.Within.{run_within}
-use Rattle.frames.specs.declared.numbers.TheConstants.{MAX_OCTETS}
+use Rattle.x690.specs.declared.limits.TheConstants.{MAX_OCTETS}
 use Rattle.frames.specs.Sane.{Sane}
 use Rattle.frames.specs.OctetJournals.{SaneEntries}
 use Rattle.frames.specs.Octets.{RawEvent, RawFrame, RawClock, RawExpire, RawChange, RawOut, RawEntry, IsEvent, spelled_out, SpellsJournal}
@@ -24,19 +24,20 @@ event_within (RawFrame from octets) (Clock n t) h is = absurd is
 event_within (RawFrame from octets) (Expire n) h is = absurd is
 event_within (RawFrame from octets) (Operator x c) h is = absurd is
 event_within (RawClock shard now) (Frame source v) h is = absurd is
-event_within (RawClock shard now) (Clock n t) h is = subst (λ m. m < shards) (sym is.0) h
+event_within (RawClock shard now) (Clock n t) h is = subst (λ m. m < SHARDS) (sym is.0) h
 event_within (RawClock shard now) (Expire n) h is = absurd is
 event_within (RawClock shard now) (Operator x c) h is = absurd is
 event_within (RawExpire shard) (Frame source v) h is = absurd is
 event_within (RawExpire shard) (Clock n t) h is = absurd is
-event_within (RawExpire shard) (Expire n) h is = subst (λ m. m < shards) (sym is) h
+event_within (RawExpire shard) (Expire n) h is = subst (λ m. m < SHARDS) (sym is) h
 event_within (RawExpire shard) (Operator x c) h is = absurd is
 event_within (RawChange imsi change) (Frame source v) h is = absurd is
 event_within (RawChange imsi change) (Clock n t) h is = absurd is
 event_within (RawChange imsi change) (Expire n) h is = absurd is
 event_within (RawChange imsi change) (Operator x c) h is = subst ChangeInBounds (sym is.1) h
 
-events_within : (raws : List RawEntry) (js : List Entry) → Every (λ raw. RawInBounds raw.event) raws → SpellsJournal raws js → Every EventInBounds (events_of js)
+events_within : (raws : List RawEntry) (js : List Entry) → Every (λ raw. RawInBounds raw.event) raws → SpellsJournal raws js
+    → Every EventInBounds (events_of js)
 events_within [] [] h spells = tt
 events_within [] (j ∷ js) h spells = absurd spells
 events_within (r ∷ rs) [] h spells = absurd spells
@@ -49,7 +50,8 @@ outs_short : (outs : List Out) → Every OutInBounds outs → Every IsShort (map
 outs_short [] h = tt
 outs_short (out ∷ outs) h = (sent_size out.message h.0.1, outs_short outs h.1)
 
-entries_short : (raws : List RawEntry) (js : List Entry) → SpellsJournal raws js → Every AnswerInBounds (answers_of js) → Every (λ raw. Every IsShort raw.outs) raws
+entries_short : (raws : List RawEntry) (js : List Entry) → SpellsJournal raws js → Every AnswerInBounds (answers_of js)
+    → Every (λ raw. Every IsShort raw.outs) raws
 entries_short [] js spells h = tt
 entries_short (r ∷ rs) [] spells h = absurd spells
 entries_short (r ∷ rs) (j ∷ js) spells h = (subst (Every IsShort) (sym spells.0.outs) (outs_short j.answer.sent h.0), entries_short rs js spells.1 h.1)

@@ -12,7 +12,7 @@ use Rattle.x690.proofs.Lengths.{IsLength-not-128}
 use Rattle.x690.proofs.Spellings.{one_tree, tags-differ}
 use Rattle.machine.specs.Received.{Discard}
 use Rattle.frames.specs.declared.tags.TheConstants.{BEGIN, ORIGIN}
-use Rattle.frames.specs.declared.numbers.TheConstants.{MAX_OCTETS}
+use Rattle.x690.specs.declared.limits.TheConstants.{MAX_OCTETS}
 use Rattle.frames.specs.Frames.{IsVerdict}
 use Rattle.frames_laws.proofs.SentShape.{tag_is}
 
@@ -44,13 +44,15 @@ length_begins first rest [] contents n h l e = l
 length_begins first rest (f ∷ os) contents n h (inl (small, empty, same)) e = let g : f ≡ first = cc in omega arith
 length_begins first rest (f ∷ os) contents n h (inr (some, most, is, same)) e = let g : f ≡ first = cc in omega arith
 
-no_length : (tag : Tag) (c : Bool) (first : ℕ) (rest octets : List ℕ) → IsTag c tag → 132 < first → octets ≡ identifier tag ++ first ∷ rest → (t : Tree) → Spells octets t → ⊥
+no_length : (tag : Tag) (c : Bool) (first : ℕ) (rest octets : List ℕ) → IsTag c tag → 132 < first → octets ≡ identifier tag ++ first ∷ rest → (t : Tree)
+    → Spells octets t → ⊥
 no_length tag c first rest octets is h same (Primitive own contents) (own_is, (size, l, e)) =
     length_begins first rest size contents _ h l (identifier-inj own tag (size ++ contents) (first ∷ rest) own_is.small is.small (sym e ∙ same)).1
 no_length tag c first rest octets is h same (Constructed own ts) (own_is, contents, all, inl (size, l, e)) =
     length_begins first rest size contents _ h l (identifier-inj own tag (size ++ contents) (first ∷ rest) own_is.small is.small (sym e ∙ same)).1
 no_length tag c first rest octets is h same (Constructed own ts) (own_is, contents, all, inr e) =
-    let f : 128 ∷ (contents ++ 0 ∷ 0 ∷ []) ≡ first ∷ rest = (identifier-inj own tag (128 ∷ (contents ++ 0 ∷ 0 ∷ [])) (first ∷ rest) own_is.small is.small (sym e ∙ same)).1 in
+    let f : 128 ∷ (contents ++ 0 ∷ 0 ∷ []) ≡ first ∷ rest = (identifier-inj own tag (128 ∷ (contents ++ 0 ∷ 0 ∷ [])) (first ∷ rest) own_is.small is.small
+    (sym e ∙ same)).1 in
     let g : 128 ≡ first = cc in
     omega arith
 
@@ -65,7 +67,8 @@ five_length_octets rest t h = no_length BEGIN true 0x85 rest (0x62 ∷ 0x85 ∷ 
 origin_begins : (tag : Tag) (c : Bool) (front back more rest : List ℕ) → IsTag c tag → front ≡ identifier tag ++ more → front ++ back ≡ 0x48 ∷ rest → (tag ≡ ORIGIN) × (more ++ back ≡ rest)
 unfolding identifier
 origin_begins tag c front back more rest is e same =
-    let f : identifier tag ++ (more ++ back) ≡ identifier ORIGIN ++ rest = sym (append_assoc (identifier tag) more back) ∙ ap (λ (x : List ℕ). x ++ back) (sym e) ∙ same in
+    let f : identifier tag ++ (more ++ back) ≡ identifier ORIGIN ++ rest = sym (append_assoc (identifier tag) more back)
+    ∙ ap (λ (x : List ℕ). x ++ back) (sym e) ∙ same in
     identifier-inj tag ORIGIN (more ++ back) rest is.small (tag_is false ORIGIN refl).small f
 
 -- no element begins with 48 80
@@ -85,7 +88,8 @@ no_contents rest contents (More t ts) (front, back, is, all, e) same = no_open r
 -- a Begin of a short length, whose contents begin with 48 80
 size_is : (first : ℕ) (rest size contents : List ℕ) (n : ℕ) → first < 128 → IsLength size n → size ++ contents ≡ first ∷ rest → contents ≡ rest
 size_is first rest [] contents n small l e = absurd l
-size_is first rest (f ∷ os) contents n small (inl (less, empty, same)) e = let g : os ++ contents ≡ rest = cc in sym (ap (λ (x : List ℕ). x ++ contents) empty) ∙ g
+size_is first rest (f ∷ os) contents n small (inl (less, empty, same)) e = let g : os ++ contents
+    ≡ rest = cc in sym (ap (λ (x : List ℕ). x ++ contents) empty) ∙ g
 size_is first rest (f ∷ os) contents n small (inr (some, most, is, same)) e = let g : f ≡ first = cc in absurd (omega arith)
 
 pub open_primitive : (first : ℕ) (rest : List ℕ) (t : Tree) → first < 128 → Spells (0x62 ∷ first ∷ 0x48 ∷ 0x80 ∷ rest) t → ⊥

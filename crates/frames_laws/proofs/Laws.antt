@@ -1,7 +1,7 @@
 -- The laws as they are stated.
-use Rattle.std.proofs.Common.{refl, subst, arith}
+use Rattle.std.proofs.Common.{subst, arith}
 use Rattle.machine.specs.Received.{Number}
-use Rattle.frames.specs.declared.numbers.TheConstants.{UPDATE_LOCATION, PURGE_MS, SEND_ROUTING_INFO_FOR_SM}
+use Rattle.machine.specs.declared.numbers.TheConstants.{UPDATE_LOCATION, PURGE_MS, SEND_ROUTING_INFO_FOR_SM}
 use Rattle.frames.specs.ArgumentForms.{IsParameter}
 use Rattle.frames.specs.ComponentForms.{IsComponent}
 use Rattle.frames.specs.Heard.{IsHeard}
@@ -9,17 +9,17 @@ use Rattle.frames.specs.Verdicts.{verdict_of}
 use Rattle.frames.specs.Frames.{IsJudged}
 use Rattle.frames.specs.SentTrees.{reject_tree, component_tree}
 use Rattle.frames.specs.SentHeard.{reject_meant, component_meant}
-use Rattle.frames_laws.specs.Laws.{MessagesAreRead, DialoguesAreRead, ComponentsAreRead, ParametersAreRead, ComponentsAreHeard, TreesAreJudged, OneMessage, OneVerdict, VerdictsAreWithinBounds, SentComponentsHaveForms, SentPortionsHaveForms, SentIsMeant, SentIsOctets, SentIsShallow, SentIsShort, OctetsTell, SentIsRead, NumbersAgree}
-use Rattle.frames_laws.proofs.PointLaws.{message_or_not_found, message_or_not_again}
-use Rattle.frames_laws.proofs.DialogueLaws.{dialogue_found, dialogue_again}
-use Rattle.frames_laws.proofs.ComponentLaws.{component_found, component_again, well_formed}
-use Rattle.frames_laws.proofs.ArgumentLaws.{update_found, update_again, purge_found, purge_again, route_found, route_again, parameter_found, parameter_again}
-use Rattle.frames_laws.proofs.HeardLaws.{heard_found, heard_again}
-use Rattle.frames_laws.proofs.JudgingLaws.{judged, one_judgement, one_verdict as one_verdict_of}
+use Rattle.frames_laws.specs.Laws.{MessagesAreRead, DialoguesAreRead, ComponentsAreRead, ParametersAreRead, ComponentsAreHeard, TreesAreJudged, OneMessage, OneVerdict, VerdictsAreWithinBounds, SentComponentsHaveForms, SentPortionsHaveForms, SentIsMeant, SentIsOctets, SentIsShallow, SentIsShort, OctetsTell, SentIsRead}
+use Rattle.frames.proofs.PointLaws.{message_or_not_found, message_or_not_again}
+use Rattle.frames.proofs.DialogueLaws.{dialogue_found, dialogue_again}
+use Rattle.frames.proofs.ComponentLaws.{component_found, component_again, well_formed}
+use Rattle.frames.proofs.ArgumentLaws.{update_found, update_again, purge_found, purge_again, route_found, route_again, parameter_found, parameter_again}
+use Rattle.frames.proofs.HeardLaws.{heard_found, heard_again}
+use Rattle.frames.proofs.JudgingLaws.{judged, one_judgement, one_verdict as one_verdict_of}
 use Rattle.frames_laws.proofs.ParsingLaws.{a_verdict}
 use Rattle.frames_laws.proofs.BoundLaws.{verdict_within}
 use Rattle.frames_laws.proofs.SizeLaws.{sent_size}
-use Rattle.frames_laws.proofs.ReadLaws.{one_message as one_message_of}
+use Rattle.frames.proofs.ReadLaws.{one_message as one_message_of}
 use Rattle.frames_laws.proofs.SentShape.{sent_octets, sent_levels, octets_tell as sent_octets_tell}
 use Rattle.frames_laws.specs.JournalLaws.{OneJournal, HoldersAreServing, OwnEntriesAreLegal, JournalsGrow, ChainsAreJournals, MergesAreRuns}
 use Rattle.frames_laws.proofs.OctetLaws.{one_journal as one_journal_of, one_legal_journal, run_one, holders_of_octets, one_holding, isolation_of_octets, octets_push, chain_cut, chain_joined, merge_of_octets}
@@ -83,9 +83,6 @@ octets_tell m n h k e = sent_octets_tell m n h k e
 
 pub sent_is_read : SentIsRead
 sent_is_read m h = sent_is_read_again m h
-
-pub numbers_agree : NumbersAgree
-numbers_agree = record { update = refl; purge = refl; route = refl; resources = refl; roaming = refl }
 
 -- ---- journals of octets
 

@@ -1,11 +1,3 @@
-pub mod MessageLaws
-pub mod DialogueLaws
-pub mod ComponentLaws
-pub mod ArgumentLaws
-pub mod HeardLaws
-pub mod ReadLaws
-pub mod PointLaws
-pub mod JudgingLaws
 pub mod ParsingLaws
 pub mod SentBack
 pub mod SentShape

@@ -48,7 +48,8 @@ module _ (jobs : List Job) (receipts : List Receipt) where
   walk rests nss [] are merges = (
     [],
     tt,
-    λ m. sym (total_none 16 (λ n. count m (nss n)) (λ n low. ap (count m) (no_number (nss n) (subst (λ es. AreEntriesOf jobs receipts es (nss n)) (merges n low) (are n low))))),
+    λ m. sym (total_none 16 (λ n. count m (nss n)) (λ n low. ap (count m)
+        (no_number (nss n) (subst (λ es. AreEntriesOf jobs receipts es (nss n)) (merges n low) (are n low))))),
   )
   walk rests nss (raw ∷ merge) are merges =
       let n = merges.0 in let rest = merges.1 in let low = merges.2 in let is = merges.3 in
@@ -62,7 +63,8 @@ module _ (jobs : List Job) (receipts : List Receipt) where
             (subst (λ (p : List RawEntry × List ℕ). AreEntriesOf jobs receipts p.0 p.1) (λ i. (sym (put_same rests n rest) i, sym (put_same nss n xs) i)) h.4)
         | false ↦ λ e.
             let other = eqb-false j n e in
-            subst (λ (p : List RawEntry × List ℕ). AreEntriesOf jobs receipts p.0 p.1) (λ i. (sym (put_other rests n rest j other) i, sym (put_other nss n xs j other) i)) (are j under)
+            subst (λ (p : List RawEntry × List ℕ). AreEntriesOf jobs receipts p.0 p.1)
+            (λ i. (sym (put_other rests n rest j other) i, sym (put_other nss n xs j other) i)) (are j under)
       ] refl in
       let more = walk (put_at rests n rest) (put_at nss n xs) merge next merges.4 in (
         x ∷ more.0,
@@ -70,7 +72,8 @@ module _ (jobs : List Job) (receipts : List Receipt) where
         λ m.
             let here : count m (nss n) ≡ one_at m x + count m (put_at nss n xs n) =
             ap (count m) h.2 ∙ count-cons m x xs ∙ ap (λ l. one_at m x + count m l) (sym (put_same nss n xs)) in
-            let sums = total_more 16 n (one_at m x) (λ j. count m (nss j)) (λ j. count m (put_at nss n xs j)) low here (λ j other. ap (count m) (sym (put_other nss n xs j other))) in
+            let sums = total_more 16 n (one_at m x) (λ j. count m (nss j)) (λ j. count m (put_at nss n xs j)) low here
+            (λ j other. ap (count m) (sym (put_other nss n xs j other))) in
             let a = count-cons m x more.0 in let b = more.2 m in omega arith,
       )
 
@@ -95,7 +98,8 @@ module _ (ls : List (List RawEntry)) (jobs : List Job) (receipts : List Receipt)
   number s p (e ∷ es) stand =
       let here : entry_at ls s p ≡ Some e = let plain : p + 0 ≡ p = omega arith in subst (λ k. entry_at ls s k ≡ Some e) plain (stand 0 e refl) in
       let n = h.some s p e here in
-      let rest = number s (suc p) es (λ k x at. let same : p + suc k ≡ suc p + k = omega arith in subst (λ j. entry_at ls s j ≡ Some x) same (stand (suc k) x at)) in
+      let rest = number s (suc p) es (λ k x at. let same : p + suc k
+      ≡ suc p + k = omega arith in subst (λ j. entry_at ls s j ≡ Some x) same (stand (suc k) x at)) in
       (n.0 ∷ rest.0, (n.1, here, rest.1))
 
   some_same : (a b : RawEntry) (o : Option RawEntry) → o ≡ Some a → o ≡ Some b → a ≡ b
@@ -104,7 +108,8 @@ module _ (ls : List (List RawEntry)) (jobs : List Job) (receipts : List Receipt)
   entry_of : (s p n : ℕ) (e : RawEntry) → Stands n s p → entry_at ls s p ≡ Some e → IsEntryOf jobs receipts e n
   entry_of s p n e stands at =
       let a = stands.account in
-      let there : entry_at ls s p ≡ Some a.answers.entry = subst (λ (q : ℕ × ℕ). entry_at ls q.0 q.1 ≡ Some a.answers.entry) (λ i. (stands.shard_is i, stands.position_is i)) a.answers.stands in
+      let there : entry_at ls s p ≡ Some a.answers.entry = subst (λ (q : ℕ × ℕ). entry_at ls q.0 q.1 ≡ Some a.answers.entry)
+      (λ i. (stands.shard_is i, stands.position_is i)) a.answers.stands in
       let same : e ≡ a.answers.entry = some_same e a.answers.entry (entry_at ls s p) at there in
       record {
         job = a.job;
@@ -183,9 +188,12 @@ module _ (ls : List (List RawEntry)) (jobs : List Job) (receipts : List Receipt)
 count_filtered : (n : ℕ) (jobs : List Job) → length (filter (λ j. eqb j.number n) jobs) ≡ count n (map (λ j. j.number) jobs)
 count_filtered n [] = refl
 count_filtered n (j ∷ jobs) =
-    elim (eqb j.number n) as (λ b. eqb j.number n ≡ b → length (cond b (j ∷ filter (λ x. eqb x.number n) jobs) (filter (λ x. eqb x.number n) jobs)) ≡ count n (j.number ∷ map (λ x. x.number) jobs)) [
-      | true ↦ λ e. let a = count-cons n j.number (map (λ (x : Job). x.number) jobs) in let one : one_at n j.number ≡ 1 = ap (λ b. cond b 1 0) e in let rest = count_filtered n jobs in omega arith
-      | false ↦ λ e. let a = count-cons n j.number (map (λ (x : Job). x.number) jobs) in let none : one_at n j.number ≡ 0 = ap (λ b. cond b 1 0) e in let rest = count_filtered n jobs in omega arith
+    elim (eqb j.number n) as (λ b. eqb j.number n ≡ b → length (cond b (j ∷ filter (λ x. eqb x.number n) jobs) (filter (λ x. eqb x.number n) jobs))
+    ≡ count n (j.number ∷ map (λ x. x.number) jobs)) [
+      | true ↦ λ e. let a = count-cons n j.number (map (λ (x : Job). x.number) jobs) in let one : one_at n j.number
+          ≡ 1 = ap (λ b. cond b 1 0) e in let rest = count_filtered n jobs in omega arith
+      | false ↦ λ e. let a = count-cons n j.number (map (λ (x : Job). x.number) jobs) in let none : one_at n j.number
+          ≡ 0 = ap (λ b. cond b 1 0) e in let rest = count_filtered n jobs in omega arith
     ] refl
 
 among_counted : (n : ℕ) (ms : List ℕ) → 0 < count n ms → Among ms n
@@ -225,7 +233,8 @@ module _ (ls : List (List RawEntry)) (jobs : List Job) (receipts : List Receipt)
   at s = journal_of (slice_get ls s)
 
   numbered : (s : ℕ) → (ns : List ℕ) × AreNumbered ls jobs receipts once s 0 (at s) ns
-  numbered s = number ls jobs receipts once s 0 (at s) (λ k e found. let same : k ≡ 0 + k = omega arith in subst (λ j. entry_at ls s j ≡ Some e) same (in_own (slice_get ls s) k e found))
+  numbered s = number ls jobs receipts once s 0 (at s) (λ k e found. let same : k
+      ≡ 0 + k = omega arith in subst (λ j. entry_at ls s j ≡ Some e) same (in_own (slice_get ls s) k e found))
 
   ns : ℕ → List ℕ
   ns s = (numbered s).0
@@ -240,7 +249,8 @@ module _ (ls : List (List RawEntry)) (jobs : List Job) (receipts : List Receipt)
 
   no_job : (m : ℕ) → count m (map (λ (j : Job). j.number) jobs) ≡ 0 → (s : ℕ) → count m (ns s) ≡ 0
   no_job m none s =
-      let stands_not : 0 < count m (ns s) → ⊥ = λ some. let f = found ls jobs receipts once m s 0 (at s) (ns s) (are s) some in let one = one_job m f.1.account in omega arith in
+      let stands_not : 0 < count m (ns s) → ⊥ = λ some. let f = found ls jobs receipts once m s 0 (at s) (ns s)
+      (are s) some in let one = one_job m f.1.account in omega arith in
       omega arith
 
   each : (m : ℕ) → count m (map (λ (j : Job). j.number) jobs) ≡ total 16 (λ s. count m (ns s))
@@ -251,17 +261,20 @@ module _ (ls : List (List RawEntry)) (jobs : List Job) (receipts : List Receipt)
         | false ↦ λ e.
             let other = eqb-false c 0 e in
             let a : Account ls jobs receipts m = all_among (Account ls jobs receipts) (numbers jobs receipts) m all.each
-            (among_left (map (λ (j : Job). j.number) jobs) (map (λ (r : Receipt). r.job) receipts) m (among_counted m (map (λ (j : Job). j.number) jobs) (omega arith))) in
+            (among_left (map (λ (j : Job). j.number) jobs) (map (λ (r : Receipt). r.job) receipts) m
+            (among_counted m (map (λ (j : Job). j.number) jobs) (omega arith))) in
             let s = a.place.shard in let p = a.place.position in
             let stands : StandsAt ls jobs receipts m s p = record { account = a; shard_is = refl; position_is = refl } in
             let low : s < 16 = let under = is_there ls s p a.answers.entry a.answers.stands in omega arith in
             let within = own_in (slice_get ls s) p a.answers.entry a.answers.stands in
             let here = one_here ls jobs receipts once m s p stands 0 (at s) (ns s) (omega arith) (omega arith) (are s) in
-            let elsewhere : (j : ℕ) → (j ≡ s → ⊥) → count m (ns j) ≡ 0 = λ j apart. none_past ls jobs receipts once m s p stands 0 (at j) (ns j) j (λ k over x. apart (sym x.0)) (are j) in
+            let elsewhere : (j : ℕ) → (j ≡ s → ⊥) → count m (ns j)
+            ≡ 0 = λ j apart. none_past ls jobs receipts once m s p stands 0 (at j) (ns j) j (λ k over x. apart (sym x.0)) (are j) in
             let sums = total_one 16 s 1 (λ j. count m (ns j)) low here elsewhere in let one = one_job m a in omega arith
       ] refl
 
-  jobs_merged : (js : ℕ → List RawEntry) (merge : List RawEntry) → ((n : ℕ) → n < 16 → slice_get ls n ≡ Some (js n)) → MergesOctets js merge → AreJobs jobs receipts merge
+  jobs_merged : (js : ℕ → List RawEntry) (merge : List RawEntry) → ((n : ℕ) → n < 16 → slice_get ls n ≡ Some (js n)) → MergesOctets js merge
+      → AreJobs jobs receipts merge
   jobs_merged js merge is merges =
       let mine : (n : ℕ) → n < 16 → AreEntriesOf jobs receipts (js n) (ns n) = λ n low.
       subst (λ es. AreEntriesOf jobs receipts es (ns n)) (ap journal_of (is n low)) (are_entries ls jobs receipts once n 0 (at n) (ns n) (are n)) in

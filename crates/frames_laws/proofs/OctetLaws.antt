@@ -3,7 +3,7 @@ use Rattle.std.proofs.Common.{◌≡◌, ℕ, ◌<◌, Bool, true, false, eqb, c
 use Rattle.std.specs.Prelude.{Option, map}
 use Rattle.std.proofs.lemmas.Bool.{eqb-true, cases_lt}
 use Rattle.machine.specs.Keys.{Every, put_at}
-use Rattle.machine.specs.Numbers.{shards, no_resources}
+use Rattle.machine.specs.declared.numbers.TheConstants.{SHARDS, RESOURCE_LIMITATION}
 use Rattle.machine.specs.Received.{Verdict}
 use Rattle.machine.specs.Sent.{NoCause, Cause, Refusing, SentMessage, SentBegin, SentContinue, SentEnd, SentAbort, Out}
 use Rattle.machine.specs.Events.{Change, Event, Frame, Clock, Expire, Operator}
@@ -28,7 +28,7 @@ use Rattle.frames.specs.Sane.{Sane}
 use Rattle.frames.specs.SentTrees.{octets_of_sent}
 use Rattle.frames.specs.Octets.{RawEvent, RawFrame, RawClock, RawExpire, RawChange, RawOut, RawEntry, IsEvent, spelled_out, SpellsEntry, SpellsJournal, IsRouted, StepOctets, RunOctets}
 use Rattle.frames.specs.OctetJournals.{LegalOctets, AreHolders, SaneEntries, is_raw_clock, is_raw_of, only_raw_of, IsTurnedAway, NoRawTurnedAway, MergesOctets, RawEpoch, first_raw_base, ChainOctets, joined_raws}
-use Rattle.frames_laws.proofs.JudgingLaws.{one_verdict}
+use Rattle.frames.proofs.JudgingLaws.{one_verdict}
 use Rattle.frames_laws.proofs.SentShape.{octets_tell}
 
 -- ---- one event
@@ -72,14 +72,16 @@ entry_of : Entry → Event → Answer → Entry
 entry_of d e a = record { event = e; answer = a }
 
 -- from one state, one entry of messages and one state after
-pub step_one : (raw : RawEntry) (j k : Entry) (S T U : State) → SpellsEntry raw j → SpellsEntry raw k → Step S j.event T j.answer → Step S k.event U k.answer → (j ≡ k) × (T ≡ U)
+pub step_one : (raw : RawEntry) (j k : Entry) (S T U : State) → SpellsEntry raw j → SpellsEntry raw k → Step S j.event T j.answer → Step S k.event U k.answer
+    → (j ≡ k) × (T ≡ U)
 step_one r j k S T U h g step pace =
     let same_event : j.event ≡ k.event = event_one r.event j.event k.event h.event g.event in
     let pace' : Step S j.event U k.answer = subst (λ e. Step S e U k.answer) (sym same_event) pace in
     let first : (T ≡ U) × (j.answer ≡ k.answer) = determined S j.event T U j.answer k.answer step pace' (sym h.id ∙ g.id) in
     ((λ i. record { event = same_event i; answer = first.1 i }), first.0)
 
-spells_one : (raw : List RawEntry) (js ks : List Entry) (S T U : State) → SpellsJournal raw js → SpellsJournal raw ks → Run S (events_of js) T (answers_of js) → Run S (events_of ks) U (answers_of ks) → (js ≡ ks) × (T ≡ U)
+spells_one : (raw : List RawEntry) (js ks : List Entry) (S T U : State) → SpellsJournal raw js → SpellsJournal raw ks → Run S (events_of js) T (answers_of js)
+    → Run S (events_of ks) U (answers_of ks) → (js ≡ ks) × (T ≡ U)
 spells_one [] [] [] S T U h g run go = (refl, run ∙ sym go)
 spells_one [] (j ∷ js) ks S T U h g run go = absurd h
 spells_one [] [] (k ∷ ks) S T U h g run go = absurd g
@@ -92,7 +94,8 @@ spells_one (r ∷ rs) (j ∷ js) (k ∷ ks) S T U (h, hs) (g, gs) (M, step, run)
     (ap (λ (x : Entry). x ∷ js) first.0 ∙ ap (λ (xs : List Entry). k ∷ xs) rest.0, rest.1)
 
 -- a legal journal of octets spells one journal, and leads to one state, whatever is sent
-pub one_legal_journal : (n : ℕ) (base S T : State) (raw : List RawEntry) (a : LegalOctets n base raw S) (b : LegalOctets n base raw T) → (a.journal ≡ b.journal) × (S ≡ T)
+pub one_legal_journal : (n : ℕ) (base S T : State) (raw : List RawEntry) (a : LegalOctets n base raw S) (b : LegalOctets n base raw T)
+    → (a.journal ≡ b.journal) × (S ≡ T)
 one_legal_journal n base S T raw a b = spells_one raw a.journal b.journal base S T a.spelled b.spelled a.legal.run b.legal.run
 
 -- a run of octets is a run of messages
@@ -139,7 +142,8 @@ one_sending (m ∷ ms) (n ∷ ns) h k e =
     let q : ms ≡ ns = one_sending ms ns h.1 k.1 (ap later_outs e) in
     λ i. p i ∷ q i
 
-one_entry : (r : RawEntry) (j k : Entry) → Every (λ o. Sane o.message) j.answer.sent → Every (λ o. Sane o.message) k.answer.sent → SpellsEntry r j → SpellsEntry r k → j ≡ k
+one_entry : (r : RawEntry) (j k : Entry) → Every (λ o. Sane o.message) j.answer.sent → Every (λ o. Sane o.message) k.answer.sent → SpellsEntry r j
+    → SpellsEntry r k → j ≡ k
 one_entry r j k sj sk h g =
     let e : j.event ≡ k.event = event_one r.event j.event k.event h.event g.event in
     let i : j.answer.id ≡ k.answer.id = sym h.id ∙ g.id in
@@ -163,7 +167,8 @@ one_journal (r ∷ rs) (j ∷ js) (k ∷ ks) sj sk h g =
 pub holders_of_octets : (n : ℕ) (base S : State) (raw : List RawEntry) (x : List ℕ) (h : Holding) → AreHolders n base raw S x h → h ≡ serving (S.records x)
 holders_of_octets n base S raw x h a = a.same ∙ holders_run base S a.octets.journal x a.octets.legal.base_sound a.octets.legal.run
 
-pub one_holding : (n : ℕ) (base S T : State) (raw : List RawEntry) (x : List ℕ) (h k : Holding) → AreHolders n base raw S x h → AreHolders n base raw T x k → h ≡ k
+pub one_holding : (n : ℕ) (base S T : State) (raw : List RawEntry) (x : List ℕ) (h k : Holding) → AreHolders n base raw S x h → AreHolders n base raw T x k
+    → h ≡ k
 one_holding n base S T raw x h k a b = a.same ∙ ap (λ js. holders base js x) (one_legal_journal n base S T raw a.octets b.octets).0 ∙ sym b.same
 
 -- ---- isolation
@@ -187,9 +192,11 @@ same_clock (RawChange x c) (Expire m) h = absurd h
 same_clock (RawChange x c) (Operator y k) h = refl
 
 same_of : (x : List ℕ) (r : RawEntry) (j : Entry) → SpellsEntry r j → is_raw_of x r ≡ machine.is_of x j
-same_of x r j h = ap (λ b. cond b true (is_subject x r.subject)) (same_clock r.event j.event h.event) ∙ ap (λ (s : Option (List ℕ)). cond (machine.is_clock j.event) true (is_subject x s)) h.subject
+same_of x r j h = ap (λ b. cond b true (is_subject x r.subject)) (same_clock r.event j.event h.event)
+    ∙ ap (λ (s : Option (List ℕ)). cond (machine.is_clock j.event) true (is_subject x s)) h.subject
 
-kept : (b : Bool) (r : RawEntry) (j : Entry) (rs : List RawEntry) (js : List Entry) → SpellsEntry r j → SpellsJournal rs js → SpellsJournal (cond b (r ∷ rs) rs) (cond b (j ∷ js) js)
+kept : (b : Bool) (r : RawEntry) (j : Entry) (rs : List RawEntry) (js : List Entry) → SpellsEntry r j → SpellsJournal rs js
+    → SpellsJournal (cond b (r ∷ rs) rs) (cond b (j ∷ js) js)
 kept true r j rs js h hs = (h, hs)
 kept false r j rs js h hs = hs
 
@@ -201,21 +208,25 @@ only_spells x (r ∷ rs) [] h = absurd h
 only_spells x (r ∷ rs) (j ∷ js) h =
     let R = only_raw_of rs x in
     let J = machine.only_of js x in
-    subst (λ (c : Bool). SpellsJournal (cond (is_raw_of x r) (r ∷ R) R) (cond c (j ∷ J) J)) (same_of x r j h.0) (kept (is_raw_of x r) r j R J h.0 (only_spells x rs js h.1))
+    subst (λ (c : Bool). SpellsJournal (cond (is_raw_of x r) (r ∷ R) R) (cond c (j ∷ J) J)) (same_of x r j h.0)
+    (kept (is_raw_of x r) r j R J h.0 (only_spells x rs js h.1))
 
-limited : (to : List ℕ) (ms : List Out) (m : SentMessage) → is_turned_away (record { to = to; message = m } ∷ ms) ≡ true → (destination : List ℕ) × (octets_of_sent m ≡ octets_of_sent (SentAbort destination (Cause no_resources)))
+limited : (to : List ℕ) (ms : List Out) (m : SentMessage) → is_turned_away (record { to = to; message = m } ∷ ms) ≡ true
+    → (destination : List ℕ) × (octets_of_sent m ≡ octets_of_sent (SentAbort destination (Cause RESOURCE_LIMITATION)))
 limited to ms (SentBegin i c cs) e = absurd cc
 limited to ms (SentContinue i r c rs cs) e = absurd cc
 limited to ms (SentEnd r c rs cs) e = absurd cc
 limited to ms (SentAbort r NoCause) e = absurd cc
 limited to ms (SentAbort r (Refusing name)) e = absurd cc
-limited to ms (SentAbort r (Cause c)) e = let f : c ≡ no_resources = eqb-true c no_resources e in (r, ap (λ (k : ℕ). octets_of_sent (SentAbort r (Cause k))) f)
+limited to ms (SentAbort r (Cause c)) e = let f : c ≡ RESOURCE_LIMITATION = eqb-true c RESOURCE_LIMITATION e in
+    (r, ap (λ (k : ℕ). octets_of_sent (SentAbort r (Cause k))) f)
 
 turned : (ms : List Out) → is_turned_away ms ≡ true → IsTurnedAway (map spelled_out ms)
 turned [] e = absurd cc
 turned (m ∷ ms) e = limited m.to ms m.message e
 
-no_turn : (x : List ℕ) (r : RawEntry) (j : Entry) → SpellsEntry r j → (is_subject x r.subject ≡ true → IsTurnedAway r.outs → ⊥) → is_subject x j.answer.subject && is_turned_away j.answer.sent ≡ false
+no_turn : (x : List ℕ) (r : RawEntry) (j : Entry) → SpellsEntry r j → (is_subject x r.subject ≡ true → IsTurnedAway r.outs → ⊥)
+    → is_subject x j.answer.subject && is_turned_away j.answer.sent ≡ false
 no_turn x r j h none = go (is_subject x j.answer.subject) (is_turned_away j.answer.sent) refl refl
   where
     go : (b c : Bool) → is_subject x j.answer.subject ≡ b → is_turned_away j.answer.sent ≡ c → b && c ≡ false
@@ -229,7 +240,8 @@ none_turned x [] (j ∷ js) h n = absurd h
 none_turned x (r ∷ rs) [] h n = absurd h
 none_turned x (r ∷ rs) (j ∷ js) h n = (no_turn x r j h.0 n.0, none_turned x rs js h.1 n.1)
 
-pub isolation_of_octets : (n : ℕ) (base S : State) (raw : List RawEntry) (x : List ℕ) → LegalOctets n base raw S → NoRawTurnedAway raw x → (T : State) × LegalOctets n (own base x) (only_raw_of raw x) T × SameOf x S T
+pub isolation_of_octets : (n : ℕ) (base S : State) (raw : List RawEntry) (x : List ℕ) → LegalOctets n base raw S → NoRawTurnedAway raw x
+    → (T : State) × LegalOctets n (own base x) (only_raw_of raw x) T × SameOf x S T
 isolation_of_octets n base S raw x a none =
     let i = isolation n base S a.journal x a.legal (none_turned x raw a.journal a.spelled none) in
     (i.0, record { journal = machine.only_of a.journal x; spelled = only_spells x raw a.journal a.spelled; legal = i.1 }, i.2)
@@ -242,7 +254,8 @@ spells_append [] ss (j ∷ js) ks h g = absurd h
 spells_append (r ∷ rs) ss [] ks h g = absurd h
 spells_append (r ∷ rs) ss (j ∷ js) ks h g = (h.0, spells_append rs ss js ks h.1 g)
 
-pub octets_push : (n : ℕ) (base S T : State) (raw : List RawEntry) (r : RawEntry) → LegalOctets n base raw S → IsRouted S.directory r.event n → StepOctets S r T → LegalOctets n base (raw ++ r ∷ []) T
+pub octets_push : (n : ℕ) (base S T : State) (raw : List RawEntry) (r : RawEntry) → LegalOctets n base raw S → IsRouted S.directory r.event n → StepOctets S r T
+    → LegalOctets n base (raw ++ r ∷ []) T
 octets_push n base S T raw r a (e, is, routed) (j, spells, step) =
     let same : e ≡ j.event = event_one r.event e j.event is spells.event in
     record {
@@ -260,27 +273,36 @@ octets_append n S T U rs ss a b = record {
   legal = legal_append n S T U a.journal b.journal a.legal b.legal;
 }
 
-first_after : (es : List RawEpoch) (base state : State) (entries : List RawEntry) → first_raw_base (es ++ record { base = base; entries = entries } ∷ []) state ≡ first_raw_base es base
+first_after : (es : List RawEpoch) (base state : State) (entries : List RawEntry)
+    → first_raw_base (es ++ record { base = base; entries = entries } ∷ []) state ≡ first_raw_base es base
 first_after [] base state entries = refl
 first_after (e ∷ es) base state entries = refl
 
-pub chain_cut : (n : ℕ) (es : List RawEpoch) (base state : State) (entries : List RawEntry) → ChainOctets n es base → LegalOctets n base entries state → ChainOctets n (es ++ record { base = base; entries = entries } ∷ []) state
+pub chain_cut : (n : ℕ) (es : List RawEpoch) (base state : State) (entries : List RawEntry) → ChainOctets n es base → LegalOctets n base entries state
+    → ChainOctets n (es ++ record { base = base; entries = entries } ∷ []) state
 chain_cut n [] base state entries c h = (h, tt)
-chain_cut n (e ∷ es) base state entries c h = (subst (λ U. LegalOctets n e.base e.entries U) (sym (first_after es base state entries)) c.0, chain_cut n es base state entries c.1 h)
+chain_cut n (e ∷ es) base state entries c h = (
+  subst (λ U. LegalOctets n e.base e.entries U)
+      (sym (first_after es base state entries)) c.0,
+  chain_cut n es base state entries c.1 h,
+)
 
-pub chain_joined : (n : ℕ) (es : List RawEpoch) (base state : State) (entries : List RawEntry) → ChainOctets n es base → LegalOctets n base entries state → LegalOctets n (first_raw_base es base) (joined_raws es ++ entries) state
+pub chain_joined : (n : ℕ) (es : List RawEpoch) (base state : State) (entries : List RawEntry) → ChainOctets n es base → LegalOctets n base entries state
+    → LegalOctets n (first_raw_base es base) (joined_raws es ++ entries) state
 chain_joined n [] base state entries c h = h
 chain_joined n (e ∷ es) base state entries c h =
     let P : List RawEntry → Type 0 = λ js. LegalOctets n e.base js state in
-    subst P (sym (append_assoc e.entries (joined_raws es) entries)) (octets_append n e.base (first_raw_base es base) state e.entries (joined_raws es ++ entries) c.0 (chain_joined n es base state entries c.1 h))
+    subst P (sym (append_assoc e.entries (joined_raws es) entries))
+    (octets_append n e.base (first_raw_base es base) state e.entries (joined_raws es ++ entries) c.0 (chain_joined n es base state entries c.1 h))
 
 -- ---- merges
 
 -- the journals of messages that sixteen journals of octets spell
 abbrev AllSpell : (ℕ → List RawEntry) → (ℕ → List Entry) → Type 0
-AllSpell raws journals = (n : ℕ) → n < shards → SpellsJournal (raws n) (journals n)
+AllSpell raws journals = (n : ℕ) → n < SHARDS → SpellsJournal (raws n) (journals n)
 
-put_spells : (raws : ℕ → List RawEntry) (journals : ℕ → List Entry) (n : ℕ) (rs : List RawEntry) (js : List Entry) → AllSpell raws journals → SpellsJournal rs js → AllSpell (put_at raws n rs) (put_at journals n js)
+put_spells : (raws : ℕ → List RawEntry) (journals : ℕ → List Entry) (n : ℕ) (rs : List RawEntry) (js : List Entry) → AllSpell raws journals
+    → SpellsJournal rs js → AllSpell (put_at raws n rs) (put_at journals n js)
 unfolding put_at
 put_spells raws journals n rs js all h m small = go (eqb n m)
   where
@@ -288,7 +310,8 @@ put_spells raws journals n rs js all h m small = go (eqb n m)
     go true = h
     go false = all m small
 
-front_spells : (raw : RawEntry) (rest : List RawEntry) (rs : List RawEntry) (js : List Entry) → rs ≡ raw ∷ rest → SpellsJournal rs js → (j : Entry) × (ks : List Entry) × (js ≡ j ∷ ks) × SpellsEntry raw j × SpellsJournal rest ks
+front_spells : (raw : RawEntry) (rest : List RawEntry) (rs : List RawEntry) (js : List Entry) → rs ≡ raw ∷ rest → SpellsJournal rs js → (j : Entry) ×
+    (ks : List Entry) × (js ≡ j ∷ ks) × SpellsEntry raw j × SpellsJournal rest ks
 front_spells raw rest rs js e h = go js (subst (λ (xs : List RawEntry). SpellsJournal xs js) e h)
   where
     go : (js : List Entry) → SpellsJournal (raw ∷ rest) js → (j : Entry) × (ks : List Entry) × (js ≡ j ∷ ks) × SpellsEntry raw j × SpellsJournal rest ks
@@ -300,7 +323,8 @@ none_spells [] [] e h = refl
 none_spells [] (j ∷ js) e h = absurd h
 none_spells (r ∷ rs) js e h = absurd cc
 
-merge_spells : (merge : List RawEntry) (raws : ℕ → List RawEntry) (journals : ℕ → List Entry) → AllSpell raws journals → MergesOctets raws merge → (js : List Entry) × SpellsJournal merge js × Merges journals js
+merge_spells : (merge : List RawEntry) (raws : ℕ → List RawEntry) (journals : ℕ → List Entry) → AllSpell raws journals → MergesOctets raws merge
+    → (js : List Entry) × SpellsJournal merge js × Merges journals js
 merge_spells [] raws journals all h = ([], tt, λ n small. none_spells (raws n) (journals n) (h n small) (all n small))
 merge_spells (r ∷ merge) raws journals all (n, rest, small, e, later) =
     let (j, ks, is, spells, others) = front_spells r rest (raws n) (journals n) e (all n small) in
@@ -309,19 +333,21 @@ merge_spells (r ∷ merge) raws journals all (n, rest, small, e, later) =
 
 -- the journal of messages of each shard
 abbrev Legals : (bases states : ℕ → State) → (ℕ → List RawEntry) → Type 0
-Legals bases states raws = (n : ℕ) → n < shards → LegalOctets n (bases n) (raws n) (states n)
+Legals bases states raws = (n : ℕ) → n < SHARDS → LegalOctets n (bases n) (raws n) (states n)
 
-journal_of : (bases states : ℕ → State) (raws : ℕ → List RawEntry) → Legals bases states raws → (n : ℕ) → (j : List Entry) × (n < shards → SpellsJournal (raws n) j × Legal n (bases n) j (states n))
+journal_of : (bases states : ℕ → State) (raws : ℕ → List RawEntry) → Legals bases states raws → (n : ℕ)
+    → (j : List Entry) × (n < SHARDS → SpellsJournal (raws n) j × Legal n (bases n) j (states n))
 journal_of bases states raws legal n =
-    elim (cases_lt n shards) [
+    elim (cases_lt n SHARDS) [
       | inl small ↦ ((legal n small).journal, λ _. ((legal n small).spelled, (legal n small).legal))
       | inr large ↦ ([], λ small. absurd (omega arith))
     ]
 
 pub merge_of_octets : (bases states : ℕ → State) (raws : ℕ → List RawEntry) (merge : List RawEntry) → Legals bases states raws
-    → ((n : ℕ) → n < shards → (bases n).directory ≡ (bases 0).directory) → ((n : ℕ) → n < shards → (bases n).hlr ≡ (bases 0).hlr)
+    → ((n : ℕ) → n < SHARDS → (bases n).directory ≡ (bases 0).directory) → ((n : ℕ) → n < SHARDS → (bases n).hlr ≡ (bases 0).hlr)
     → MergesOctets raws merge → RunOctets (union bases) merge (union states)
 merge_of_octets bases states raws merge legal directories hlrs merges =
     let journals : ℕ → List Entry = λ n. (journal_of bases states raws legal n).0 in
     let (js, spells, merged) = merge_spells merge raws journals (λ n small. ((journal_of bases states raws legal n).1 small).0) merges in
-    run_again merge js (union bases) (union states) spells (merge_law bases states journals js (λ n small. ((journal_of bases states raws legal n).1 small).1) directories hlrs merged)
+    run_again merge js (union bases) (union states) spells (merge_law bases states journals js
+    (λ n small. ((journal_of bases states raws legal n).1 small).1) directories hlrs merged)

@@ -7,18 +7,18 @@ use Rattle.x690.specs.declared.Class.TheVariants.{Universal, Application, Contex
 use Rattle.x690.specs.declared.Tag.{Tag}
 use Rattle.x690.specs.Identifier.{IsTag, leading, identifier}
 use Rattle.x690.specs.Length.{IsLength, unsigned}
-use Rattle.octets.specs.Octets.{AreOctets}
+use Rattle.machine.specs.Octets.{AreOctets}
 use Rattle.x690.specs.Tree.{Tree, Trees, Primitive, Constructed, Empty, More, levels}
 use Rattle.x690.specs.Spelling.{Definite, Indefinite, Spells, SpellsAll}
 use Rattle.x690.proofs.Identifiers.{tag-inj, identifier-length}
 use Rattle.x690.proofs.Lengths.{IsLength-length}
 use Rattle.x690.proofs.Spellings.{Spells-unique}
 use Rattle.machine.specs.Received.{Verdict, Discard}
-use Rattle.frames.specs.declared.numbers.TheConstants.{MAX_OCTETS, MAX_LEVELS}
+use Rattle.x690.specs.declared.limits.TheConstants.{MAX_OCTETS, MAX_LEVELS}
 use Rattle.frames.specs.Verdicts.{verdict_of}
 use Rattle.frames.specs.Frames.{IsVerdict}
-use Rattle.frames_laws.proofs.PointLaws.{Either}
-use Rattle.frames_laws.proofs.JudgingLaws.{judged}
+use Rattle.frames.proofs.PointLaws.{Either}
+use Rattle.frames.proofs.JudgingLaws.{judged}
 
 -- ---- decisions
 
@@ -57,7 +57,8 @@ either_same : (a b : List ℕ) → Either (a ≡ b)
 either_same [] [] = inl refl
 either_same [] (y ∷ ys) = inr (λ e. cc)
 either_same (x ∷ xs) [] = inr (λ e. cc)
-either_same (x ∷ xs) (y ∷ ys) = either_as ((x ≡ y) × (xs ≡ ys)) (x ∷ xs ≡ y ∷ ys) (λ h. λ i. h.0 i ∷ h.1 i) (λ e. (let f : x ≡ y = cc in f, let f : xs ≡ ys = cc in f)) (both_then (x ≡ y) (xs ≡ ys) (either_equal x y) (λ p. either_same xs ys))
+either_same (x ∷ xs) (y ∷ ys) = either_as ((x ≡ y) × (xs ≡ ys)) (x ∷ xs ≡ y ∷ ys) (λ h. λ i. h.0 i ∷ h.1 i)
+    (λ e. (let f : x ≡ y = cc in f, let f : xs ≡ ys = cc in f)) (both_then (x ≡ y) (xs ≡ ys) (either_equal x y) (λ p. either_same xs ys))
 
 -- a number below m
 below : (P : ℕ → Type 0) → ((n : ℕ) → Either (P n)) → (m : ℕ) → Either ((n : ℕ) × (n < m) × P n)
@@ -80,7 +81,8 @@ split_none : (P : List ℕ → List ℕ → Type 0) → (P [] [] → ⊥) → (f
 split_none P n [] r e p = n (subst (λ (s : List ℕ). P [] s) (sym e) p)
 split_none P n (a ∷ f) r e p = cc
 
-split_later : (P : List ℕ → List ℕ → Type 0) (o : ℕ) (os : List ℕ) → (P [] (o ∷ os) → ⊥) → (Split (λ f r. P (o ∷ f) r) os → ⊥) → (f r : List ℕ) → o ∷ os ≡ f ++ r → P f r → ⊥
+split_later : (P : List ℕ → List ℕ → Type 0) (o : ℕ) (os : List ℕ) → (P [] (o ∷ os) → ⊥) → (Split (λ f r. P (o ∷ f) r) os → ⊥) → (f r : List ℕ)
+    → o ∷ os ≡ f ++ r → P f r → ⊥
 split_later P o os n m [] r e p = n (subst (λ (s : List ℕ). P [] s) (sym e) p)
 split_later P o os n m (a ∷ f) r e p =
     let same : a ≡ o = cc in
@@ -110,7 +112,8 @@ made : Class → Bool → ℕ → Tag
 made c b n = record { class = c; constructed = b; number = n }
 
 abbrev Named : Bool → List ℕ → Class → ℕ → Type 0
-Named c i class n = (0 < leading (record { class = class; constructed = c; number = n }) n) × (identifier (record { class = class; constructed = c; number = n }) ≡ i)
+Named c i class n = (0 < leading (record { class = class; constructed = c; number = n }) n)
+    × (identifier (record { class = class; constructed = c; number = n }) ≡ i)
 
 abbrev InClass : Bool → List ℕ → Class → Type 0
 InClass c i class = (n : ℕ) × (n < 2 ^ 28) × Named c i class n
@@ -138,13 +141,15 @@ in_some c i Private h = inr (inr (inr h))
 
 some_names : (c : Bool) (i : List ℕ) → Names c i → InSome c i
 some_names c i (tag, h, is) =
-    let same : tag ≡ record { class = tag.class; constructed = c; number = tag.number } = tag-inj tag (record { class = tag.class; constructed = c; number = tag.number }) refl h.kind refl in
+    let same : tag ≡ record { class = tag.class; constructed = c; number = tag.number } = tag-inj tag
+    (record { class = tag.class; constructed = c; number = tag.number }) refl h.kind refl in
     in_some c i tag.class (tag.number, h.small, (subst (λ (t : Tag). 0 < leading t t.number) same h.no_end, ap identifier (sym same) ∙ is))
 
 either_names : (c : Bool) (i : List ℕ) → Either (Names c i)
 either_names c i =
     either_as (InSome c i) (Names c i) (names_some c i) (some_names c i)
-    (either_or _ _ (either_class c i Universal) (either_or _ _ (either_class c i Application) (either_or _ _ (either_class c i ContextSpecific) (either_class c i Private))))
+    (either_or _ _ (either_class c i Universal) (either_or _ _ (either_class c i Application)
+    (either_or _ _ (either_class c i ContextSpecific) (either_class c i Private))))
 
 either_length : (s : List ℕ) (n : ℕ) → Either (IsLength s n)
 either_length [] n = inr (λ h. h)
@@ -155,7 +160,8 @@ either_length (first ∷ octets) n = either_or _ _ short long
         (both_then _ _ (either_less first 128) (λ p. both_then _ _ (either_same octets []) (λ q. either_equal n first)))
 
     long : Either ((1 ≤ length octets) × (length octets ≤ 4) × (first ≡ 128 + length octets) × (n ≡ unsigned octets))
-    long = either_as ((1 ≤ length octets) × ((length octets ≤ 4) × ((first ≡ 128 + length octets) × (n ≡ unsigned octets)))) _ (λ h. (h.0, h.1.0, h.1.1.0, h.1.1.1)) (λ h. (h.0, (h.1, (h.2, h.3))))
+    long = either_as ((1 ≤ length octets) × ((length octets ≤ 4) × ((first ≡ 128 + length octets) × (n ≡ unsigned octets)))) _
+        (λ h. (h.0, h.1.0, h.1.1.0, h.1.1.1)) (λ h. (h.0, (h.1, (h.2, h.3))))
         (both_then _ _ (either_most 1 _) (λ p. both_then _ _ (either_most _ 4) (λ q. both_then _ _ (either_equal first _) (λ r. either_equal n _))))
 
 -- ---- elements, if it is decided what shorter texts are
@@ -193,10 +199,12 @@ IsEnded Q f g = (g ≡ 0 ∷ 0 ∷ []) × ((contents : List ℕ) × (f ≡ 128 �
 abbrev SomeIndefinite : (List ℕ → Type 0) → List ℕ → Type 0
 SomeIndefinite Q text = (tag : Tag) × (contents : List ℕ) × IsTag true tag × Indefinite text tag contents × Q contents
 
-either_open : (Q : List ℕ → Type 0) (f : List ℕ) → ((contents : List ℕ) → length contents < length f → Either (Q contents)) → Either ((contents : List ℕ) × (f ≡ 128 ∷ contents) × Q contents)
+either_open : (Q : List ℕ → Type 0) (f : List ℕ) → ((contents : List ℕ) → length contents < length f → Either (Q contents))
+    → Either ((contents : List ℕ) × (f ≡ 128 ∷ contents) × Q contents)
 either_open Q [] dec = inr (λ h. let e = h.1 in cc)
 either_open Q (a ∷ as') dec =
-    either_as ((a ≡ 128) × Q as') _ (λ h. (as', ap (λ (b : ℕ). b ∷ as') h.0, h.1)) (λ h. let e = h.1 in let p : a ≡ 128 = cc in let q : h.0 ≡ as' = cc in (p, subst Q q h.2))
+    either_as ((a ≡ 128) × Q as') _ (λ h. (as', ap (λ (b : ℕ). b ∷ as') h.0, h.1))
+    (λ h. let e = h.1 in let p : a ≡ 128 = cc in let q : h.0 ≡ as' = cc in (p, subst Q q h.2))
     (both_then _ _ (either_equal a 128) (λ p. dec as' (omega arith)))
 
 either_indefinite : (Q : List ℕ → Type 0) (text : List ℕ) → Shorter Q text → Either (SomeIndefinite Q text)
@@ -211,11 +219,22 @@ either_indefinite Q text dec =
     shorter i r f g contents e e' less = let a = ap length e in let b = ap length e' in omega (arith, length-append i r, length-append f g)
 
     there : Split (λ i r. Names true i × Split (IsEnded Q) r) text → SomeIndefinite Q text
-    there (i, r, e, ((tag, is, named), (f, g, e', (ends, (contents, opens, q))))) =
-        (tag, contents, is, e ∙ ap (λ (j : List ℕ). j ++ r) (sym named) ∙ ap (λ (u : List ℕ). identifier tag ++ u) (e' ∙ ap (λ (u : List ℕ). u ++ g) opens ∙ ap (λ (u : List ℕ). 128 ∷ (contents ++ u)) ends), q)
+    there (i, r, e, ((tag, is, named), (f, g, e', (ends, (contents, opens, q))))) = (
+      tag,
+      contents,
+      is,
+      e ∙ ap (λ (j : List ℕ). j ++ r) (sym named)
+          ∙ ap (λ (u : List ℕ). identifier tag ++ u) (e' ∙ ap (λ (u : List ℕ). u ++ g) opens ∙ ap (λ (u : List ℕ). 128 ∷ (contents ++ u)) ends),
+      q,
+    )
 
     back : SomeIndefinite Q text → Split (λ i r. Names true i × Split (IsEnded Q) r) text
-    back (tag, contents, is, e, q) = (identifier tag, 128 ∷ (contents ++ 0 ∷ 0 ∷ []), e, ((tag, is, refl), (128 ∷ contents, 0 ∷ 0 ∷ [], refl, (refl, (contents, refl, q)))))
+    back (tag, contents, is, e, q) = (
+      identifier tag,
+      128 ∷ (contents ++ 0 ∷ 0 ∷ []),
+      e,
+      ((tag, is, refl), (128 ∷ contents, 0 ∷ 0 ∷ [], refl, (refl, (contents, refl, q)))),
+    )
 
 -- ---- trees
 
@@ -226,9 +245,12 @@ abbrev SomeTrees : List ℕ → Type 0
 SomeTrees text = (ts : Trees) × SpellsAll text ts
 
 spells_length : (text : List ℕ) (t : Tree) → Spells text t → 1 ≤ length text
-spells_length text (Primitive tag contents) (h, (s, l, e)) = let a = ap length e in omega (arith, length-append (identifier tag) (s ++ contents), identifier-length tag)
-spells_length text (Constructed tag ts) (h, contents, all, inl (s, l, e)) = let a = ap length e in omega (arith, length-append (identifier tag) (s ++ contents), identifier-length tag)
-spells_length text (Constructed tag ts) (h, contents, all, inr e) = let a = ap length e in omega (arith, length-append (identifier tag) (128 ∷ (contents ++ 0 ∷ 0 ∷ [])), identifier-length tag)
+spells_length text (Primitive tag contents) (h, (s, l, e)) = let a = ap length e in omega
+    (arith, length-append (identifier tag) (s ++ contents), identifier-length tag)
+spells_length text (Constructed tag ts) (h, contents, all, inl (s, l, e)) = let a = ap length e in omega
+    (arith, length-append (identifier tag) (s ++ contents), identifier-length tag)
+spells_length text (Constructed tag ts) (h, contents, all, inr e) = let a = ap length e in omega
+    (arith, length-append (identifier tag) (128 ∷ (contents ++ 0 ∷ 0 ∷ [])), identifier-length tag)
 
 -- an element or Empty, by its form
 abbrev Forms : List ℕ → Type 0
@@ -255,7 +277,8 @@ row_of_trees : (text : List ℕ) (ts : Trees) → SpellsAll text ts → Row text
 row_of_trees text Empty e = inl e
 row_of_trees text (More t ts) (f, r, s, all, e) = inr (f, r, e, ((t, s), (ts, all)))
 
-either_trees : (n : ℕ) → ((text : List ℕ) → length text < n → Either (SomeTree text)) → (m : ℕ) (text : List ℕ) → length text < m → length text < n → Either (SomeTrees text)
+either_trees : (n : ℕ) → ((text : List ℕ) → length text < n → Either (SomeTree text)) → (m : ℕ) (text : List ℕ) → length text < m → length text < n
+    → Either (SomeTrees text)
 either_trees n dec zero text h k = absurd (omega arith)
 either_trees n dec (suc m) text h k =
     either_as (Row text) (SomeTrees text) (trees_of_row text) (λ x. row_of_trees text x.0 x.1)
@@ -296,10 +319,19 @@ either_octets (n ∷ ns) = both_then _ _ (either_less n 256) (λ p. either_octet
 pub a_verdict : (octets : List ℕ) → (v : Verdict) × IsVerdict octets v
 a_verdict octets = go (spelled_or_not octets)
   where
-    fits : (t : Tree) → Spells octets t → Either (AreOctets octets × ((length octets ≤ MAX_OCTETS) × (levels t ≤ MAX_LEVELS))) → (v : Verdict) × IsVerdict octets v
+    fits : (t : Tree) → Spells octets t → Either (AreOctets octets × ((length octets ≤ MAX_OCTETS) × (levels t ≤ MAX_LEVELS)))
+        → (v : Verdict) × IsVerdict octets v
     fits t s (inl h) = (verdict_of t, inr (t, record { are = h.0; spelled = s; short = h.1.0; shallow = h.1.1 }, judged t))
-    fits t s (inr n) = (Discard, inl (λ u f. let e : u ≡ t = Spells-unique octets u t f.spelled s in n (f.are, (f.short, subst (λ (w : Tree). levels w ≤ MAX_LEVELS) e f.shallow)), refl))
+    fits t s (inr n) = (
+      Discard,
+      inl (
+        λ u f. let e : u ≡ t = Spells-unique octets u t f.spelled s in n
+            (f.are, (f.short, subst (λ (w : Tree). levels w ≤ MAX_LEVELS) e f.shallow)),
+        refl,
+      ),
+    )
 
     go : Either (SomeTree octets) → (v : Verdict) × IsVerdict octets v
-    go (inl (t, s)) = fits t s (both_then _ _ (either_octets octets) (λ o. both_then _ _ (either_most (length octets) MAX_OCTETS) (λ p. either_most (levels t) MAX_LEVELS)))
+    go (inl (t, s)) = fits t s (both_then _ _ (either_octets octets)
+        (λ o. both_then _ _ (either_most (length octets) MAX_OCTETS) (λ p. either_most (levels t) MAX_LEVELS)))
     go (inr n) = (Discard, inl (λ t f. n (t, f.spelled), refl))

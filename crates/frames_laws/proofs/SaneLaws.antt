@@ -1,11 +1,11 @@
 -- What the machine sends within its bounds may be sent.
 use Rattle.std.proofs.Common.{◌≡◌, ℕ, ◌<◌, ◌≤◌, ◌^◌, List, [], ◌∷◌, length, arith}
 use Rattle.std.specs.Prelude.{Option, Some, None}
-use Rattle.octets.specs.Octets.{AreOctets}
+use Rattle.machine.specs.Octets.{AreOctets}
 use Rattle.machine.specs.Keys.{Every}
 use Rattle.machine.specs.Sent.{Rejection, SentComponent, Insert, Cancel, UpdateResult, PurgeResult, RouteResult, SentError, Why, NoCause, Cause, Refusing, SentMessage, SentBegin, SentContinue, SentEnd, SentAbort}
 use Rattle.machine.specs.Bounds.{IfThere, AreDigits, RejectInBounds, SentComponentInBounds, WhyInBounds, SentInBounds}
-use Rattle.frames.specs.declared.numbers.TheConstants.{MAX_OCTETS}
+use Rattle.x690.specs.declared.limits.TheConstants.{MAX_OCTETS}
 use Rattle.frames.specs.Sane.{AreDecimal, SaneComponent, SaneRejection, SaneWhy, SaneContent, Sane, HasIds}
 use Rattle.frames.specs.SentTrees.{octets_of_sent}
 use Rattle.frames_laws.proofs.SizeLaws.{sent_size}

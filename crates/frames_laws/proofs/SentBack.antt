@@ -15,7 +15,8 @@ use Rattle.machine.specs.Received.{Side, General, OfInvoke, OfResult, OfError}
 use Rattle.machine.specs.Sent.{Context, NetworkLocUp, LocationCancellation, SubscriberDataMngt, ShortMsgGateway, MsPurging, Rejection, CancellationType, UpdateProcedure, SubscriptionWithdraw, SentComponent, Insert, Cancel, UpdateResult, PurgeResult, RouteResult, SentError, Why, NoCause, Cause, Refusing, SentMessage, SentBegin, SentContinue, SentEnd, SentAbort}
 use Rattle.machine.specs.Contexts.{name_of}
 use Rattle.frames.specs.declared.tags.TheConstants.{NULL, DIALOGUE_PORTION, COMPONENT_PORTION}
-use Rattle.frames.specs.declared.numbers.TheConstants.{INSERT_SUBSCRIBER_DATA, UPDATE_LOCATION, PURGE_MS, UPDATE_PROCEDURE}
+use Rattle.machine.specs.declared.numbers.TheConstants.{UPDATE_LOCATION, PURGE_MS}
+use Rattle.frames.specs.declared.numbers.TheConstants.{INSERT_SUBSCRIBER_DATA, UPDATE_PROCEDURE}
 use Rattle.machine.specs.Bounds.{IfThere, IsInvokeId}
 use Rattle.frames.specs.Sane.{SaneComponent, SaneRejection, SaneContent}
 use Rattle.frames.specs.SentTrees.{error_tree, reject_tree, error_parameter, component_tree, teleservice_tree, asking, accepting, component_portion, portion_trees, component_trees, reason_tree, tree_of}
@@ -81,13 +82,15 @@ id_back id h = to_z-of_z w8 id h
 -- ---- components
 
 abbrev insert_from : ℤ → List Tree → SentComponent
-insert_from id ts = Insert id (option_map (λ t. unfilled (content t)) (find 0 ts)) (option_map (λ t. address_from (content t)) (find 1 ts)) (codes_from (kids_of (find 6 ts)))
+insert_from id ts = Insert id (option_map (λ t. unfilled (content t)) (find 0 ts)) (option_map (λ t. address_from (content t)) (find 1 ts))
+    (codes_from (kids_of (find 6 ts)))
 
 abbrev cancellation_from : ℕ → CancellationType
 cancellation_from n = cond (eqb n UPDATE_PROCEDURE) UpdateProcedure SubscriptionWithdraw
 
 abbrev invoke_from : ℤ → ℕ → List Tree → SentComponent
-invoke_from id code ts = cond (eqb code INSERT_SUBSCRIBER_DATA) (insert_from id ts) (Cancel id (unfilled (content (head ts))) (cancellation_from (octet_in (head (tail ts)))))
+invoke_from id code ts = cond (eqb code INSERT_SUBSCRIBER_DATA) (insert_from id ts)
+    (Cancel id (unfilled (content (head ts))) (cancellation_from (octet_in (head (tail ts)))))
 
 abbrev route_from : ℤ → List ℕ → List Tree → SentComponent
 route_from id imsi ts = RouteResult id (unfilled imsi) (address_from (content (head ts))) (option_map content (find 4 (tail ts)))
@@ -115,7 +118,8 @@ component_back (Insert id None (Some m) (c ∷ cs)) h = λ k. Insert (id_back id
 component_back (Insert id (Some i) None []) h = λ k. Insert (id_back id h.0 k) (Some (unfilled-tbcd i h.1 k)) (None) []
 component_back (Insert id (Some i) None (c ∷ cs)) h = λ k. Insert (id_back id h.0 k) (Some (unfilled-tbcd i h.1 k)) (None) (c ∷ codes_back cs k)
 component_back (Insert id (Some i) (Some m) []) h = λ k. Insert (id_back id h.0 k) (Some (unfilled-tbcd i h.1 k)) (Some (unfilled-tbcd m h.2 k)) []
-component_back (Insert id (Some i) (Some m) (c ∷ cs)) h = λ k. Insert (id_back id h.0 k) (Some (unfilled-tbcd i h.1 k)) (Some (unfilled-tbcd m h.2 k)) (c ∷ codes_back cs k)
+component_back (Insert id (Some i) (Some m) (c ∷ cs)) h = λ k. Insert (id_back id h.0 k) (Some (unfilled-tbcd i h.1 k)) (Some (unfilled-tbcd m h.2 k))
+    (c ∷ codes_back cs k)
 component_back (Cancel id imsi UpdateProcedure) h = λ k. Cancel (id_back id h.0 k) (unfilled-tbcd imsi h.1 k) UpdateProcedure
 component_back (Cancel id imsi SubscriptionWithdraw) h = λ k. Cancel (id_back id h.0 k) (unfilled-tbcd imsi h.1 k) SubscriptionWithdraw
 component_back (UpdateResult id hlr) h = λ k. UpdateResult (id_back id h.0 k) (unfilled-tbcd hlr h.1 k)
@@ -148,7 +152,8 @@ made i s p = record { id = i; side = s; problem = p }
 pub reject_back : (r : Rejection) → SaneRejection r → reject_from (reject_tree r) ≡ r
 reject_back r h = go r.id r.side r.problem h.0
   where
-    go : (i : Option ℤ) (s : Side) (p : ℕ) → IfThere IsInvokeId i → reject_from (reject_tree (record { id = i; side = s; problem = p })) ≡ record { id = i; side = s; problem = p }
+    go : (i : Option ℤ) (s : Side) (p : ℕ) → IfThere IsInvokeId i
+        → reject_from (reject_tree (record { id = i; side = s; problem = p })) ≡ record { id = i; side = s; problem = p }
     go None General p h = refl
     go (Some id) General p h = λ k. record { id = Some (id_back id h k); side = General; problem = p }
     go None OfInvoke p h = refl
@@ -179,7 +184,8 @@ not_a_reject (SentError id code) = refl
 
 no_rejects : (cs : List SentComponent) → rejects_from (map component_tree cs) ≡ []
 no_rejects [] = refl
-no_rejects (c ∷ cs) = ap (λ b. cond b (reject_from (component_tree c) ∷ rejects_from (map component_tree cs)) (rejects_from (map component_tree cs))) (not_a_reject c) ∙ no_rejects cs
+no_rejects (c ∷ cs) = ap (λ b. cond b (reject_from (component_tree c) ∷ rejects_from (map component_tree cs)) (rejects_from (map component_tree cs)))
+    (not_a_reject c) ∙ no_rejects cs
 
 rejects_back : (rs : List Rejection) (cs : List SentComponent) → Every SaneRejection rs → rejects_from (component_trees rs cs) ≡ rs
 rejects_back [] cs h = no_rejects cs
@@ -267,13 +273,15 @@ message_from t =
     (cond (eqb (number t) 4) (ending_from (content (head ts)) (tail ts))
     (SentAbort (content (head ts)) (why_from (tail ts)))))
 
-ending_back : (d : List ℕ) (c : Option Context) (rs : List Rejection) (cs : List SentComponent) → Every SaneRejection rs → Every SaneComponent cs → ending_from d (portion_trees (option_map accepting c) (component_trees rs cs)) ≡ SentEnd d c rs cs
+ending_back : (d : List ℕ) (c : Option Context) (rs : List Rejection) (cs : List SentComponent) → Every SaneRejection rs → Every SaneComponent cs
+    → ending_from d (portion_trees (option_map accepting c) (component_trees rs cs)) ≡ SentEnd d c rs cs
 ending_back d c rs cs hr hc =
     let ts = component_trees rs cs in
     let parts = parts_back (option_map accepting c) ts (is_portion c) in
     λ k. SentEnd d (accepted_back c ts k) ((ap rejects_from parts ∙ rejects_back rs cs hr) k) ((ap components_from parts ∙ components_back rs cs hc) k)
 
-going_back : (o d : List ℕ) (c : Option Context) (rs : List Rejection) (cs : List SentComponent) → Every SaneRejection rs → Every SaneComponent cs → going_from o d (portion_trees (option_map accepting c) (component_trees rs cs)) ≡ SentContinue o d c rs cs
+going_back : (o d : List ℕ) (c : Option Context) (rs : List Rejection) (cs : List SentComponent) → Every SaneRejection rs → Every SaneComponent cs
+    → going_from o d (portion_trees (option_map accepting c) (component_trees rs cs)) ≡ SentContinue o d c rs cs
 going_back o d c rs cs hr hc =
     let ts = component_trees rs cs in
     let parts = parts_back (option_map accepting c) ts (is_portion c) in
@@ -282,15 +290,19 @@ going_back o d c rs cs hr hc =
 no_portion : (t : Tree) → None ≡ Some t → tag_of t ≡ DIALOGUE_PORTION
 no_portion t e = absurd cc
 
-beginning_back : (o : List ℕ) (t : Tree) (c : Context) (cs : List SentComponent) → name_from t ≡ name_of c → Every SaneComponent cs → beginning_from o t (component_portion (component_trees [] cs)) ≡ SentBegin o c cs
+beginning_back : (o : List ℕ) (t : Tree) (c : Context) (cs : List SentComponent) → name_from t ≡ name_of c → Every SaneComponent cs
+    → beginning_from o t (component_portion (component_trees [] cs)) ≡ SentBegin o c cs
 beginning_back o t c cs e h =
     let ts = component_trees [] cs in
     λ k. SentBegin o ((ap context_from e ∙ context_back c) k) ((ap components_from (parts_back None ts no_portion) ∙ components_back [] cs h) k)
 
 pub message_back : (m : SentMessage) → SaneContent m → message_from (tree_of m) ≡ m
-message_back (SentBegin o c cs) h = ap (beginning_from o (asking c)) (list_of-trees (component_portion (component_trees [] cs))) ∙ beginning_back o (asking c) c cs refl h.1
-message_back (SentContinue o d c rs cs) h = ap (going_from o d) (list_of-trees (portion_trees (option_map accepting c) (component_trees rs cs))) ∙ going_back o d c rs cs h.2 h.3
-message_back (SentEnd d c rs cs) h = ap (ending_from d) (list_of-trees (portion_trees (option_map accepting c) (component_trees rs cs))) ∙ ending_back d c rs cs h.1 h.2
+message_back (SentBegin o c cs) h = ap (beginning_from o (asking c)) (list_of-trees (component_portion (component_trees [] cs)))
+    ∙ beginning_back o (asking c) c cs refl h.1
+message_back (SentContinue o d c rs cs) h = ap (going_from o d) (list_of-trees (portion_trees (option_map accepting c) (component_trees rs cs)))
+    ∙ going_back o d c rs cs h.2 h.3
+message_back (SentEnd d c rs cs) h = ap (ending_from d) (list_of-trees (portion_trees (option_map accepting c) (component_trees rs cs)))
+    ∙ ending_back d c rs cs h.1 h.2
 message_back (SentAbort d why) h = ap (SentAbort d) (why_back why)
 
 -- one tree was sent for one message

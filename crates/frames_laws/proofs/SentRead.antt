@@ -9,7 +9,8 @@ use Rattle.machine.specs.Received.{Number, Response, Aarq, Aare, Abrt, Read}
 use Rattle.machine.specs.Sent.{Context, NetworkLocUp, LocationCancellation, SubscriberDataMngt, ShortMsgGateway, MsPurging, Rejection, SentComponent, Insert, Cancel, UpdateResult, PurgeResult, RouteResult, SentError, Why, NoCause, Cause, Refusing, SentMessage, SentBegin, SentContinue, SentEnd, SentAbort}
 use Rattle.machine.specs.Contexts.{name_of}
 use Rattle.frames.specs.declared.tags.TheConstants.{INTEGER, SEQUENCE}
-use Rattle.frames.specs.declared.numbers.TheConstants.{INSERT_SUBSCRIBER_DATA, CANCEL_LOCATION, UPDATE_LOCATION, PURGE_MS, SEND_ROUTING_INFO_FOR_SM, VERSION_1, MAX_CONTEXT_NAME, MAX_COMPONENTS}
+use Rattle.machine.specs.declared.numbers.TheConstants.{UPDATE_LOCATION, PURGE_MS, SEND_ROUTING_INFO_FOR_SM, MAX_CONTEXT_NAME, MAX_COMPONENTS}
+use Rattle.frames.specs.declared.numbers.TheConstants.{INSERT_SUBSCRIBER_DATA, CANCEL_LOCATION, VERSION_1}
 use Rattle.frames.specs.Messages as tc
 use Rattle.frames.specs.Messages.{Portions, TcMessage, components_in}
 use Rattle.frames.specs.MessageForms.{AreComponents, ArePortions, AreReason, IsMessage}
@@ -21,9 +22,9 @@ use Rattle.machine.specs.Bounds.{IfThere, IsInvokeId}
 use Rattle.frames.specs.Sane.{SaneComponent, SaneRejection, SaneContent, HasIds, trees_sent, Readable}
 use Rattle.frames.specs.SentTrees.{insert_tree, cancel_tree, update_result_tree, purge_result_tree, route_result_tree, id_tree, code_tree, rejected_tree, reject_tree, component_tree, error_parameter, version_tree, context_tree, aarq_tree, aare_tree, abrt_tree, asking, accepting, component_portion, portion_trees, component_trees, reason_tree, tree_of, octets_of_sent}
 use Rattle.frames.specs.SentHeard.{reject_meant, component_meant, components_heard, accepted_heard, message_heard}
-use Rattle.frames_laws.proofs.ComponentLaws.{well_formed_again}
-use Rattle.frames_laws.proofs.HeardLaws.{all_found}
-use Rattle.frames_laws.proofs.JudgingLaws.{reads_judged}
+use Rattle.frames.proofs.ComponentLaws.{well_formed_again}
+use Rattle.frames.proofs.HeardLaws.{all_found}
+use Rattle.frames.proofs.JudgingLaws.{reads_judged}
 use Rattle.frames_laws.proofs.SentBack.{id_back}
 use Rattle.frames_laws.proofs.SentShape.{sent_levels, sent_octets, sent_spells}
 
@@ -40,7 +41,16 @@ outcome_is code parameter = inr (code_tree code ∷ parameter ∷ [], Number cod
 
 -- each component that is sent has the form of what was meant
 pub component_is : (c : SentComponent) → SaneComponent c → IsWellFormed (component_tree c) (component_meant c)
-component_is (Insert id imsi msisdn codes) h = (id_tree id, id_is id h.0, [], refl, _, coded_is INSERT_SUBSCRIBER_DATA (Some (insert_tree imsi msisdn codes)), refl)
+component_is (Insert id imsi msisdn codes) h = (
+  id_tree id,
+  id_is id h.0,
+  [],
+  refl,
+  _,
+  coded_is INSERT_SUBSCRIBER_DATA
+      (Some (insert_tree imsi msisdn codes)),
+  refl,
+)
 component_is (Cancel id imsi cancellation) h = (id_tree id, id_is id h.0, [], refl, _, coded_is CANCEL_LOCATION (Some (cancel_tree imsi cancellation)), refl)
 component_is (UpdateResult id hlr) h = (id_tree id, id_is id h.0, _, outcome_is UPDATE_LOCATION (update_result_tree hlr), refl)
 component_is (PurgeResult id true) h = (id_tree id, id_is id h, _, outcome_is PURGE_MS purge_result_tree, refl)
@@ -65,11 +75,13 @@ alone_heard : (cs : List SentComponent) → Every SaneComponent cs → all_heard
 alone_heard [] h = refl
 alone_heard (c ∷ cs) h = λ k. component_heard c h.0 k ∷ alone_heard cs h.1 k
 
-trees_heard : (rs : List Rejection) (cs : List SentComponent) → Every SaneRejection rs → Every SaneComponent cs → all_heard (component_trees rs cs) ≡ components_heard rs cs
+trees_heard : (rs : List Rejection) (cs : List SentComponent) → Every SaneRejection rs → Every SaneComponent cs
+    → all_heard (component_trees rs cs) ≡ components_heard rs cs
 trees_heard [] cs hr hc = alone_heard cs hc
 trees_heard (r ∷ rs) cs hr hc = λ k. reject_heard r hr.0 k ∷ trees_heard rs cs hr.1 hc k
 
-are_heard : (rs : List Rejection) (cs : List SentComponent) → Every SaneRejection rs → Every SaneComponent cs → AreHeard (component_trees rs cs) (components_heard rs cs)
+are_heard : (rs : List Rejection) (cs : List SentComponent) → Every SaneRejection rs → Every SaneComponent cs
+    → AreHeard (component_trees rs cs) (components_heard rs cs)
 are_heard rs cs hr hc = subst (AreHeard (component_trees rs cs)) (trees_heard rs cs hr hc) (all_found (component_trees rs cs))
 
 -- ---- portions
@@ -82,8 +94,11 @@ aarq_is name some most = (aarq_tree name, (version_tree ∷ [], is_version_1, co
 
 pub aare_is : (response : Response) → 1 ≤ length response.context → length response.context ≤ MAX_CONTEXT_NAME →
     IsDialogue (portion_tree (aare_tree response.context response.result response.diagnostic)) (Aare response)
-aare_is response some most =
-    (aare_tree response.context response.result response.diagnostic, (version_tree ∷ [], is_version_1, context_tree response.context, (refl, some, most), [], inl refl, refl), refl)
+aare_is response some most = (
+  aare_tree response.context response.result response.diagnostic,
+  (version_tree ∷ [], is_version_1, context_tree response.context, (refl, some, most), [], inl refl, refl),
+  refl,
+)
 
 pub abrt_is : (source : ℕ) → source ≤ 1 → IsDialogue (portion_tree (abrt_tree source)) (Abrt source)
 abrt_is source most = (abrt_tree source, ([], inl refl, most, refl), refl)

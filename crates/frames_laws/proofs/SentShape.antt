@@ -8,7 +8,7 @@ use Rattle.std.proofs.Math.Facts.{Fits-of_z, Fits-lt-pow}
 use Rattle.x690.specs.declared.Tag.{Tag}
 use Rattle.x690.specs.Identifier.{IsTag, leading}
 use Rattle.x690.specs.Tags.{same_bool}
-use Rattle.octets.specs.Octets.{AreOctets}
+use Rattle.machine.specs.Octets.{AreOctets}
 use Rattle.x690.specs.Tree.{Tree, Trees, Primitive, Constructed, Empty, More, element, trees, levels, levels_of_all, HasTags, AllHaveTags, HasOctets, AllHaveOctets}
 use Rattle.x690.specs.Spelling.{Spells}
 use Rattle.x690.proofs.Encoding.{enc_is_octets}
@@ -21,7 +21,8 @@ use Rattle.machine.specs.Received.{Side, General, OfInvoke, OfResult, OfError, O
 use Rattle.machine.specs.Sent.{Context, NetworkLocUp, LocationCancellation, SubscriberDataMngt, ShortMsgGateway, MsPurging, Rejection, UpdateProcedure, SubscriptionWithdraw, SentComponent, Insert, Cancel, UpdateResult, PurgeResult, RouteResult, SentError, NoCause, Cause, Refusing, SentMessage, SentBegin, SentContinue, SentEnd, SentAbort}
 use Rattle.machine.specs.Contexts.{name_of}
 use Rattle.frames.specs.declared.tags.TheConstants.{OCTET_STRING, ENUMERATED, INSERT_IMSI, SEQUENCE}
-use Rattle.frames.specs.declared.numbers.TheConstants.{SERVICE_GRANTED, INSERT_SUBSCRIBER_DATA, CANCEL_LOCATION, UPDATE_PROCEDURE, SUBSCRIPTION_WITHDRAW, UPDATE_LOCATION, PURGE_MS, SEND_ROUTING_INFO_FOR_SM, DIALOGUE_AS_ID, VERSION_1, ROAMING_NOT_ALLOWED, PLMN_ROAMING_NOT_ALLOWED, ACCEPTED, REJECT_PERMANENT, NO_DIAGNOSTIC, CONTEXT_NAME_NOT_SUPPORTED}
+use Rattle.machine.specs.declared.numbers.TheConstants.{UPDATE_LOCATION, PURGE_MS, SEND_ROUTING_INFO_FOR_SM, ROAMING_NOT_ALLOWED}
+use Rattle.frames.specs.declared.numbers.TheConstants.{SERVICE_GRANTED, INSERT_SUBSCRIBER_DATA, CANCEL_LOCATION, UPDATE_PROCEDURE, SUBSCRIPTION_WITHDRAW, DIALOGUE_AS_ID, VERSION_1, PLMN_ROAMING_NOT_ALLOWED, ACCEPTED, REJECT_PERMANENT, NO_DIAGNOSTIC, CONTEXT_NAME_NOT_SUPPORTED}
 use Rattle.machine.specs.Bounds.{IfThere, IsInvokeId}
 use Rattle.frames.specs.Sane.{AreDecimal, SaneComponent, SaneRejection, SaneContent, Sane}
 use Rattle.frames.specs.SentTrees.{rejected_tree, reject_tree, subscriber_trees, teleservice_tree, teleservice_trees, error_parameter, component_tree, aare_tree, asking, accepting, component_portion, portion_trees, component_trees, tree_of, octets_of_sent}
@@ -147,8 +148,10 @@ imsi_fine : (imsi : Option (List ℕ)) → IfThere AreDecimal imsi → ListFine 
 imsi_fine None h = tt
 imsi_fine (Some ds) h = ((refl, tbcd_octets ds h, refl), tt)
 
-insert_fine : (imsi msisdn : Option (List ℕ)) (codes : List ℕ) → IfThere AreDecimal imsi → IfThere AreDecimal msisdn → AreOctets codes → ListFine 4 (imsi_trees imsi ++ (subscriber_trees msisdn ++ teleservice_trees codes))
-insert_fine imsi msisdn codes i m c = fine_append 4 (imsi_trees imsi) (subscriber_trees msisdn ++ teleservice_trees codes) (imsi_fine imsi i) (fine_append 4 (subscriber_trees msisdn) (teleservice_trees codes) (subscriber_fine msisdn m) (list_fine codes c))
+insert_fine : (imsi msisdn : Option (List ℕ)) (codes : List ℕ) → IfThere AreDecimal imsi → IfThere AreDecimal msisdn → AreOctets codes
+    → ListFine 4 (imsi_trees imsi ++ (subscriber_trees msisdn ++ teleservice_trees codes))
+insert_fine imsi msisdn codes i m c = fine_append 4 (imsi_trees imsi) (subscriber_trees msisdn ++ teleservice_trees codes) (imsi_fine imsi i)
+    (fine_append 4 (subscriber_trees msisdn) (teleservice_trees codes) (subscriber_fine msisdn m) (list_fine codes c))
 
 lmsi_fine : (lmsi : Option (List ℕ)) → IfThere AreOctets lmsi → ListFine 2 (option_to_list (option_map (Primitive OCTET_STRING) lmsi))
 lmsi_fine None h = tt
@@ -162,14 +165,71 @@ error_fine code = go (eqb code ROAMING_NOT_ALLOWED)
     go false = tt
 
 component_fine : (c : SentComponent) → SaneComponent c → Fine (component_tree c) 6
-component_fine (Insert id imsi msisdn codes) h = (refl, refl, ((refl, id_octets id h.0, refl), ((refl, written (INSERT_SUBSCRIBER_DATA ∷ []) refl, refl), ((refl, refl, insert_fine imsi msisdn codes h.1 h.2 h.3), tt))))
-component_fine (Cancel id imsi UpdateProcedure) h = (refl, refl, ((refl, id_octets id h.0, refl), ((refl, written (CANCEL_LOCATION ∷ []) refl, refl), ((refl, refl, ((refl, tbcd_octets imsi h.1, refl), ((refl, written (UPDATE_PROCEDURE ∷ []) refl, refl), tt))), tt))))
-component_fine (Cancel id imsi SubscriptionWithdraw) h = (refl, refl, ((refl, id_octets id h.0, refl), ((refl, written (CANCEL_LOCATION ∷ []) refl, refl), ((refl, refl, ((refl, tbcd_octets imsi h.1, refl), ((refl, written (SUBSCRIPTION_WITHDRAW ∷ []) refl, refl), tt))), tt))))
-component_fine (UpdateResult id hlr) h = (refl, refl, ((refl, id_octets id h.0, refl), ((refl, refl, ((refl, written (UPDATE_LOCATION ∷ []) refl, refl), ((refl, refl, ((refl, address_are hlr h.1, refl), tt)), tt))), tt)))
-component_fine (PurgeResult id true) h = (refl, refl, ((refl, id_octets id h, refl), ((refl, refl, ((refl, written (PURGE_MS ∷ []) refl, refl), ((refl, refl, ((refl, tt, refl), tt)), tt))), tt)))
+component_fine (Insert id imsi msisdn codes) h = (
+  refl,
+  refl,
+  (
+    (refl, id_octets id h.0, refl),
+    ((refl, written (INSERT_SUBSCRIBER_DATA ∷ []) refl, refl), ((refl, refl, insert_fine imsi msisdn codes h.1 h.2 h.3), tt)),
+  ),
+)
+component_fine (Cancel id imsi UpdateProcedure) h = (
+  refl,
+  refl,
+  (
+    (refl, id_octets id h.0, refl),
+    (
+      (refl, written (CANCEL_LOCATION ∷ []) refl, refl),
+      ((refl, refl, ((refl, tbcd_octets imsi h.1, refl), ((refl, written (UPDATE_PROCEDURE ∷ []) refl, refl), tt))), tt),
+    ),
+  ),
+)
+component_fine (Cancel id imsi SubscriptionWithdraw) h = (
+  refl,
+  refl,
+  (
+    (refl, id_octets id h.0, refl),
+    (
+      (refl, written (CANCEL_LOCATION ∷ []) refl, refl),
+      ((refl, refl, ((refl, tbcd_octets imsi h.1, refl), ((refl, written (SUBSCRIPTION_WITHDRAW ∷ []) refl, refl), tt))), tt),
+    ),
+  ),
+)
+component_fine (UpdateResult id hlr) h = (
+  refl,
+  refl,
+  (
+    (refl, id_octets id h.0, refl),
+    ((refl, refl, ((refl, written (UPDATE_LOCATION ∷ []) refl, refl), ((refl, refl, ((refl, address_are hlr h.1, refl), tt)), tt))), tt),
+  ),
+)
+component_fine (PurgeResult id true) h = (
+  refl,
+  refl,
+  (
+    (refl, id_octets id h, refl),
+    ((refl, refl, ((refl, written (PURGE_MS ∷ []) refl, refl), ((refl, refl, ((refl, tt, refl), tt)), tt))), tt),
+  ),
+)
 component_fine (PurgeResult id false) h = (refl, refl, ((refl, id_octets id h, refl), tt))
-component_fine (RouteResult id imsi msc lmsi) h =
-    (refl, refl, ((refl, id_octets id h.0, refl), ((refl, refl, ((refl, written (SEND_ROUTING_INFO_FOR_SM ∷ []) refl, refl), ((refl, refl, ((refl, tbcd_octets imsi h.1, refl), ((refl, refl, ((refl, address_are msc h.2, refl), lmsi_fine lmsi h.3)), tt))), tt))), tt)))
+component_fine (RouteResult id imsi msc lmsi) h = (
+  refl,
+  refl,
+  (
+    (refl, id_octets id h.0, refl),
+    (
+      (
+        refl,
+        refl,
+        (
+          (refl, written (SEND_ROUTING_INFO_FOR_SM ∷ []) refl, refl),
+          ((refl, refl, ((refl, tbcd_octets imsi h.1, refl), ((refl, refl, ((refl, address_are msc h.2, refl), lmsi_fine lmsi h.3)), tt))), tt),
+        ),
+      ),
+      tt,
+    ),
+  ),
+)
 component_fine (SentError id code) h = (refl, refl, ((refl, id_octets id h.0, refl), ((refl, one code h.1, refl), error_fine code)))
 
 rejected_fine : (i : Option ℤ) → IfThere IsInvokeId i → Fine (rejected_tree i) 5
@@ -186,7 +246,8 @@ reject_fine r h = go r.side
     go OfError = (refl, refl, (rejected_fine r.id h.0, ((refl, one r.problem h.1, refl), tt)))
 
 components_fine : (rs : List Rejection) (cs : List SentComponent) → Every SaneRejection rs → Every SaneComponent cs → ListFine 6 (component_trees rs cs)
-components_fine rs cs hr hc = fine_append 6 (map reject_tree rs) (map component_tree cs) (fine_map 6 SaneRejection reject_tree reject_fine rs hr) (fine_map 6 SaneComponent component_tree component_fine cs hc)
+components_fine rs cs hr hc = fine_append 6 (map reject_tree rs) (map component_tree cs) (fine_map 6 SaneRejection reject_tree reject_fine rs hr)
+    (fine_map 6 SaneComponent component_tree component_fine cs hc)
 
 -- ---- portions
 
@@ -202,30 +263,99 @@ name_octets ShortMsgGateway = written (name_of ShortMsgGateway) refl
 name_octets MsPurging = written (name_of MsPurging) refl
 
 asking_fine : (c : Context) → Fine (asking c) 7
-asking_fine c = (refl, refl, ((refl, refl, ((refl, written DIALOGUE_AS_ID refl, refl), ((refl, refl, ((refl, refl, ((refl, written VERSION_1 refl, refl), ((refl, refl, ((refl, name_octets c, refl), tt)), tt))), tt)), tt))), tt))
+asking_fine c = (
+  refl,
+  refl,
+  (
+    (
+      refl,
+      refl,
+      (
+        (refl, written DIALOGUE_AS_ID refl, refl),
+        ((refl, refl, ((refl, refl, ((refl, written VERSION_1 refl, refl), ((refl, refl, ((refl, name_octets c, refl), tt)), tt))), tt)), tt),
+      ),
+    ),
+    tt,
+  ),
+)
 
 response_fine : (name : List ℕ) (r d : ℕ) → AreOctets name → r < 256 → d < 256 → Fine (portion_tree (aare_tree name r (OfUser d))) 7
-response_fine name r d h small small' =
-    (refl, refl, ((refl, refl, ((refl, written DIALOGUE_AS_ID refl, refl), ((refl, refl, ((refl, refl, ((refl, written VERSION_1 refl, refl), ((refl, refl, ((refl, h, refl), tt)), ((refl, refl, ((refl, one r small, refl), tt)), ((refl, refl, ((refl, refl, ((refl, one d small', refl), tt)), tt)), tt))))), tt)), tt))), tt))
+response_fine name r d h small small' = (
+  refl,
+  refl,
+  (
+    (
+      refl,
+      refl,
+      (
+        (refl, written DIALOGUE_AS_ID refl, refl),
+        (
+          (
+            refl,
+            refl,
+            (
+              (
+                refl,
+                refl,
+                (
+                  (refl, written VERSION_1 refl, refl),
+                  (
+                    (refl, refl, ((refl, h, refl), tt)),
+                    (
+                      (refl, refl, ((refl, one r small, refl), tt)),
+                      ((refl, refl, ((refl, refl, ((refl, one d small', refl), tt)), tt)), tt),
+                    ),
+                  ),
+                ),
+              ),
+              tt,
+            ),
+          ),
+          tt,
+        ),
+      ),
+    ),
+    tt,
+  ),
+)
 
 accepting_fine : (c : Option Context) → ListFine 7 (option_to_list (option_map accepting c))
 accepting_fine None = tt
 accepting_fine (Some c) = (response_fine (name_of c) ACCEPTED NO_DIAGNOSTIC (name_octets c) (ltb-true ACCEPTED 256 refl) (ltb-true NO_DIAGNOSTIC 256 refl), tt)
 
-portions_fine : (c : Option Context) (rs : List Rejection) (cs : List SentComponent) → Every SaneRejection rs → Every SaneComponent cs → ListFine 7 (portion_trees (option_map accepting c) (component_trees rs cs))
+portions_fine : (c : Option Context) (rs : List Rejection) (cs : List SentComponent) → Every SaneRejection rs → Every SaneComponent cs
+    → ListFine 7 (portion_trees (option_map accepting c) (component_trees rs cs))
 portions_fine c rs cs hr hc =
-    fine_append 7 (option_to_list (option_map accepting c)) (component_portion (component_trees rs cs)) (accepting_fine c) (component_portion_fine (component_trees rs cs) (components_fine rs cs hr hc))
+    fine_append 7 (option_to_list (option_map accepting c)) (component_portion (component_trees rs cs)) (accepting_fine c)
+    (component_portion_fine (component_trees rs cs) (components_fine rs cs hr hc))
 
 -- ---- messages
 
 sent_fine : (m : SentMessage) → SaneContent m → Fine (tree_of m) 8
-sent_fine (SentBegin origin c cs) h = (refl, refl, ((refl, h.0, refl), (asking_fine c, component_portion_fine (component_trees [] cs) (components_fine [] cs tt h.1))))
+sent_fine (SentBegin origin c cs) h = (
+  refl,
+  refl,
+  (
+    (refl, h.0, refl),
+    (asking_fine c, component_portion_fine (component_trees [] cs) (components_fine [] cs tt h.1)),
+  ),
+)
 sent_fine (SentContinue origin destination c rs cs) h = (refl, refl, ((refl, h.0, refl), ((refl, h.1, refl), portions_fine c rs cs h.2 h.3)))
 sent_fine (SentEnd destination c rs cs) h = (refl, refl, ((refl, h.0, refl), portions_fine c rs cs h.1 h.2))
 sent_fine (SentAbort destination NoCause) h = (refl, refl, ((refl, h.0, refl), tt))
 sent_fine (SentAbort destination (Cause cause)) h = (refl, refl, ((refl, h.0, refl), ((refl, one cause h.1, refl), tt)))
-sent_fine (SentAbort destination (Refusing name)) h =
-    (refl, refl, ((refl, h.0, refl), (response_fine name REJECT_PERMANENT CONTEXT_NAME_NOT_SUPPORTED h.1 (ltb-true REJECT_PERMANENT 256 refl) (ltb-true CONTEXT_NAME_NOT_SUPPORTED 256 refl), tt)))
+sent_fine (SentAbort destination (Refusing name)) h = (
+  refl,
+  refl,
+  (
+    (refl, h.0, refl),
+    (
+      response_fine name REJECT_PERMANENT CONTEXT_NAME_NOT_SUPPORTED h.1 (ltb-true REJECT_PERMANENT 256 refl)
+          (ltb-true CONTEXT_NAME_NOT_SUPPORTED 256 refl),
+      tt,
+    ),
+  ),
+)
 
 -- what is sent has at most eight levels
 pub sent_levels : (m : SentMessage) → SaneContent m → levels (tree_of m) ≤ 8

@@ -10,9 +10,11 @@ use Rattle.machine.specs.Keys.{Every}
 use Rattle.machine.specs.Received.{OfUser}
 use Rattle.machine.specs.Sent.{Context, NetworkLocUp, LocationCancellation, SubscriberDataMngt, ShortMsgGateway, MsPurging, Rejection, SentComponent, Insert, Cancel, UpdateResult, PurgeResult, RouteResult, SentError, NoCause, Cause, Refusing, SentMessage, SentBegin, SentContinue, SentEnd, SentAbort}
 use Rattle.machine.specs.Contexts.{name_of}
-use Rattle.octets.specs.Octets.{AreOctets}
+use Rattle.machine.specs.Octets.{AreOctets}
 use Rattle.machine.specs.Bounds.{AreDigits, IfThere, SentComponentInBounds, OwnInBounds, SentInBounds}
-use Rattle.frames.specs.declared.numbers.TheConstants.{MAX_OCTETS, INSERT_SUBSCRIBER_DATA, CANCEL_LOCATION, UPDATE_LOCATION, SEND_ROUTING_INFO_FOR_SM, ACCEPTED, NO_DIAGNOSTIC, REJECT_PERMANENT, CONTEXT_NAME_NOT_SUPPORTED, ROAMING_NOT_ALLOWED, PLMN_ROAMING_NOT_ALLOWED}
+use Rattle.machine.specs.declared.numbers.TheConstants.{UPDATE_LOCATION, SEND_ROUTING_INFO_FOR_SM, ROAMING_NOT_ALLOWED}
+use Rattle.x690.specs.declared.limits.TheConstants.{MAX_OCTETS}
+use Rattle.frames.specs.declared.numbers.TheConstants.{INSERT_SUBSCRIBER_DATA, CANCEL_LOCATION, ACCEPTED, NO_DIAGNOSTIC, REJECT_PERMANENT, CONTEXT_NAME_NOT_SUPPORTED, PLMN_ROAMING_NOT_ALLOWED}
 use Rattle.frames.specs.declared.tags.TheConstants.{SEQUENCE, ENUMERATED, OCTET_STRING, INSERT_IMSI}
 use Rattle.frames.specs.DialogueForms.{portion_tree}
 use Rattle.frames.specs.SentTrees.{invoke_tree, result_tree, cancel_tree, update_result_tree, route_result_tree, rejected_tree, reject_tree, subscriber_trees, teleservice_tree, teleservice_trees, insert_tree, error_parameter, component_tree, aare_tree, asking, accepting, component_portion, portion_trees, component_trees, tree_of, octets_of_sent}
@@ -68,7 +70,8 @@ imsi_size : (imsi : Option (List ℕ)) → IfThere AreDigits imsi → list_weigh
 imsi_size None h = omega arith
 imsi_size (Some ds) h = let a = digits_size ds h in omega arith
 
-insert_size : (imsi msisdn : Option (List ℕ)) (codes : List ℕ) → IfThere AreDigits imsi → IfThere AreDigits msisdn → length codes ≤ 8 → weight (insert_tree imsi msisdn codes) ≤ 169
+insert_size : (imsi msisdn : Option (List ℕ)) (codes : List ℕ) → IfThere AreDigits imsi → IfThere AreDigits msisdn → length codes ≤ 8
+    → weight (insert_tree imsi msisdn codes) ≤ 169
 insert_size imsi msisdn codes i m c =
     let a = imsi_size imsi i in
     let b = subscriber_size msisdn m in
@@ -83,7 +86,8 @@ invoke_size id operation p = omega arith
 result_size : (id : ℤ) (operation : ℕ) (p : Tree) → weight (result_tree id operation p) ≡ weight p + 46
 result_size id operation p = omega arith
 
-lmsi_size : (lmsi : Option (List ℕ)) → IfThere (λ l. AreOctets l × (length l ≡ 4)) lmsi → list_weight (option_to_list (option_map (Primitive OCTET_STRING) lmsi)) ≤ 15
+lmsi_size : (lmsi : Option (List ℕ)) → IfThere (λ l. AreOctets l × (length l ≡ 4)) lmsi
+    → list_weight (option_to_list (option_map (Primitive OCTET_STRING) lmsi)) ≤ 15
 lmsi_size None h = omega arith
 lmsi_size (Some l) h = let a = h.1 in omega arith
 
@@ -95,8 +99,10 @@ error_size code = go (eqb code ROAMING_NOT_ALLOWED)
     go false = omega arith
 
 component_size : (c : SentComponent) → SentComponentInBounds c → weight (component_tree c) ≤ 240
-component_size (Insert id imsi msisdn codes) h = let a = insert_size imsi msisdn codes h.1 h.2 h.4 in let b = invoke_size id INSERT_SUBSCRIBER_DATA (insert_tree imsi msisdn codes) in omega arith
-component_size (Cancel id imsi cancellation) h = let a = digits_size imsi h.1 in let b = invoke_size id CANCEL_LOCATION (cancel_tree imsi cancellation) in omega arith
+component_size (Insert id imsi msisdn codes) h = let a = insert_size imsi msisdn codes h.1 h.2 h.4 in let b = invoke_size id INSERT_SUBSCRIBER_DATA
+    (insert_tree imsi msisdn codes) in omega arith
+component_size (Cancel id imsi cancellation) h = let a = digits_size imsi h.1 in let b = invoke_size id CANCEL_LOCATION
+    (cancel_tree imsi cancellation) in omega arith
 component_size (UpdateResult id hlr) h = let a = digits_size hlr h.1 in let b = result_size id UPDATE_LOCATION (update_result_tree hlr) in omega arith
 component_size (PurgeResult id true) h = omega arith
 component_size (PurgeResult id false) h = omega arith

@@ -12,10 +12,10 @@ use Rattle.x690.specs.Spelling.{Definite, Indefinite, Spells, SpellsAll}
 use Rattle.x690.proofs.Readings.{both_true}
 use Rattle.x690.proofs.Spellings.{Spells-unique}
 use Rattle.machine.specs.Received.{Verdict, Discard}
-use Rattle.frames.specs.declared.numbers.TheConstants.{MAX_OCTETS, MAX_LEVELS}
+use Rattle.x690.specs.declared.limits.TheConstants.{MAX_OCTETS, MAX_LEVELS}
 use Rattle.frames.specs.Verdicts.{verdict_of}
 use Rattle.frames.specs.Frames.{IsFrame, IsVerdict, IsJudged}
-use Rattle.frames_laws.proofs.JudgingLaws.{judged}
+use Rattle.frames.proofs.JudgingLaws.{judged}
 use Rattle.frames_laws.proofs.SentShape.{is_tag, tag_is, are_octets, written}
 
 -- with its length octets, or none of them in the indefinite form
@@ -93,7 +93,8 @@ length_is (first ∷ octets) n e = elim (either_true _ _ e) [
       inr (leb-true _ _ some, leb-true _ _ most, eqb-true _ _ is, eqb-true _ _ same)
 ]
 
-around_is : (tag : Tag) (size : Option (List ℕ)) (contents : List ℕ) → is_size size (length contents) ≡ true → Definite (around tag size contents) tag contents ⊎ Indefinite (around tag size contents) tag contents
+around_is : (tag : Tag) (size : Option (List ℕ)) (contents : List ℕ) → is_size size (length contents) ≡ true
+    → Definite (around tag size contents) tag contents ⊎ Indefinite (around tag size contents) tag contents
 around_is tag (Some size) contents e = inl (size, length_is size (length contents) e, refl)
 around_is tag None contents e = inr refl
 
@@ -115,7 +116,8 @@ mutual
 
 -- the octets are these, and the tree is within the limits
 abbrev pub fits : List ℕ → Styled → Bool
-fits octets s = bytes_eq (octets_in s) octets && (is_spelled s && (are_octets octets && (leb (length octets) MAX_OCTETS && leb (levels (tree_in s)) MAX_LEVELS)))
+fits octets s = bytes_eq (octets_in s) octets && (is_spelled s &&
+    (are_octets octets && (leb (length octets) MAX_OCTETS && leb (levels (tree_in s)) MAX_LEVELS)))
 
 pub frame_is : (octets : List ℕ) (s : Styled) → fits octets s ≡ true → IsFrame octets (tree_in s)
 frame_is octets s e =
@@ -124,14 +126,21 @@ frame_is octets s e =
     let (are, rest'') = both_true (are_octets octets) _ rest' in
     let (short, shallow) = both_true (leb (length octets) MAX_OCTETS) _ rest'' in
     let same_octets = (bytes_eq-Decides (octets_in s) octets).0 same in
-    record { are = written octets are; spelled = subst (λ (o : List ℕ). Spells o (tree_in s)) same_octets (spelled s is); short = leb-true _ _ short; shallow = leb-true _ _ shallow }
+    record {
+      are = written octets are;
+      spelled = subst (λ (o : List ℕ). Spells o (tree_in s)) same_octets
+          (spelled s is);
+      short = leb-true _ _ short;
+      shallow = leb-true _ _ shallow;
+    }
 
 -- the verdict on octets, computed
 pub verdict_is : (octets : List ℕ) (s : Styled) (v : Verdict) → fits octets s ≡ true → verdict_of (tree_in s) ≡ v → IsVerdict octets v
 verdict_is octets s v e f = inr (tree_in s, frame_is octets s e, subst (IsJudged (tree_in s)) f (judged (tree_in s)))
 
 -- octets of a tree with too many levels
-pub too_deep : (octets : List ℕ) (s : Styled) → bytes_eq (octets_in s) octets && (is_spelled s && ltb MAX_LEVELS (levels (tree_in s))) ≡ true → IsVerdict octets Discard
+pub too_deep : (octets : List ℕ) (s : Styled) → bytes_eq (octets_in s) octets && (is_spelled s && ltb MAX_LEVELS (levels (tree_in s))) ≡ true
+    → IsVerdict octets Discard
 too_deep octets s e =
     let (same, rest) = both_true (bytes_eq (octets_in s) octets) _ e in
     let (is, many) = both_true (is_spelled s) _ rest in

@@ -3,6 +3,8 @@ use Rattle.std.proofs.Common.{refl}
 use Rattle.x690.specs.Identifier.{identifier, number_octets}
 use Rattle.frames.specs.Dialogues.{request_of, response_of, dialogue_abort_of, dialogue_of}
 use Rattle.frames.specs.Arguments.{update_typed, update_value, purge_typed, purge_value, route_typed, route_value, parameter_of}
+use Rattle.frames.specs.Messages.{continue_of, message_of}
+use Rattle.frames.specs.Verdicts.{verdict_of}
 use Rattle.frames_laws.specs.TagExamples as example
 
 pub tag_octets : example.TagOctets
@@ -97,7 +99,7 @@ numbers_of_frames = record {
 }
 
 pub elements_read : example.ElementsRead
-unfolding request_of response_of dialogue_abort_of dialogue_of update_typed update_value purge_typed purge_value route_typed route_value parameter_of
+unfolding request_of response_of dialogue_abort_of dialogue_of update_typed update_value purge_typed purge_value route_typed route_value parameter_of verdict_of message_of continue_of
 elements_read = record {
   version = refl;
   eight_bits_unused = refl;
@@ -116,4 +118,5 @@ elements_read = record {
   priority = refl;
   long_priority = refl;
   no_priority = refl;
+  no_destination = refl;
 }

@@ -15,4 +15,5 @@ pub record EachEntryOnce (journals : List (List RawEntry)) (jobs : List Job) (re
   pub one : (n m shard position : ℕ) → StandsAt journals jobs receipts n shard position → StandsAt journals jobs receipts m shard position → n ≡ m
 
 abbrev pub EntriesAreOneJob : Type 0
-EntriesAreOneJob = (journals : List (List RawEntry)) (jobs : List Job) (receipts : List Receipt) → Reconciles journals jobs receipts → EachEntryOnce journals jobs receipts
+EntriesAreOneJob = (journals : List (List RawEntry)) (jobs : List Job) (receipts : List Receipt) → Reconciles journals jobs receipts
+    → EachEntryOnce journals jobs receipts

@@ -1,6 +1,6 @@
 -- What holds of journals of octets, as the contracts of this crate's functions state it.
 use Rattle.std.specs.Prelude.{◌≡◌, ℕ, ◌<◌, ◌≤◌, List, [], ◌∷◌, ◌++◌, length}
-use Rattle.machine.specs.Numbers.{shards}
+use Rattle.machine.specs.declared.numbers.TheConstants.{SHARDS}
 use Rattle.machine.specs.State.{State}
 use Rattle.machine.specs.Parts.{union}
 use Rattle.machine.specs.Run.{Run}
@@ -9,7 +9,7 @@ use Rattle.machine.specs.Holders.{Holding, serving}
 use Rattle.machine.specs.Isolation.{own, SameOf}
 use Rattle.machine.specs.Keys.{Every}
 use Rattle.machine.specs.Bounds.{AreDigits, ChangeInBounds, StateInBounds}
-use Rattle.frames.specs.declared.numbers.TheConstants.{MAX_OCTETS}
+use Rattle.x690.specs.declared.limits.TheConstants.{MAX_OCTETS}
 use Rattle.frames.specs.Octets.{RawEvent, RawFrame, RawClock, RawExpire, RawChange, RawEntry, SpellsJournal, IsRouted, StepOctets, RunOctets}
 use Rattle.frames.specs.OctetJournals.{LegalOctets, AreHolders, SaneEntries, only_raw_of, NoRawTurnedAway, MergesOctets, RawEpoch, first_raw_base, ChainOctets, joined_raws}
 
@@ -17,12 +17,14 @@ use Rattle.frames.specs.OctetJournals.{LegalOctets, AreHolders, SaneEntries, onl
 -- to one state.
 pub record OneJournal : Type 0 where
   pub sane : (raws : List RawEntry) (js ks : List Entry) → SaneEntries js → SaneEntries ks → SpellsJournal raws js → SpellsJournal raws ks → js ≡ ks
-  pub legal : (n : ℕ) (base S T : State) (raws : List RawEntry) (a : LegalOctets n base raws S) (b : LegalOctets n base raws T) → (a.journal ≡ b.journal) × (S ≡ T)
+  pub legal : (n : ℕ) (base S T : State) (raws : List RawEntry) (a : LegalOctets n base raws S) (b : LegalOctets n base raws T)
+      → (a.journal ≡ b.journal) × (S ≡ T)
   pub run : (S T U : State) (raws : List RawEntry) → RunOctets S raws T → RunOctets S raws U → T ≡ U
 
 -- Exactly the serving register, or none, holds each subscriber, and there is one such set.
 pub record HoldersAreServing : Type 0 where
-  pub serving : (n : ℕ) (base S : State) (raws : List RawEntry) (x : List ℕ) (holding : Holding) → AreHolders n base raws S x holding → holding ≡ serving (S.records x)
+  pub serving : (n : ℕ) (base S : State) (raws : List RawEntry) (x : List ℕ) (holding : Holding) → AreHolders n base raws S x holding
+      → holding ≡ serving (S.records x)
   pub one : (n : ℕ) (base S T : State) (raws : List RawEntry) (x : List ℕ) (h k : Holding) → AreHolders n base raws S x h → AreHolders n base raws T x k → h ≡ k
 
 -- Isolation: the entries of x are a legal journal from the state with x alone to a state with the same record and dialogues
@@ -49,16 +51,16 @@ pub record ChainsAreJournals : Type 0 where
 abbrev pub MergesAreRuns : Type 0
 MergesAreRuns =
     (bases states : ℕ → State) (journals : ℕ → List RawEntry) (merge : List RawEntry)
-    → ((n : ℕ) → n < shards → LegalOctets n (bases n) (journals n) (states n))
-    → ((n : ℕ) → n < shards → (bases n).directory ≡ (bases 0).directory) → ((n : ℕ) → n < shards → (bases n).hlr ≡ (bases 0).hlr)
+    → ((n : ℕ) → n < SHARDS → LegalOctets n (bases n) (journals n) (states n))
+    → ((n : ℕ) → n < SHARDS → (bases n).directory ≡ (bases 0).directory) → ((n : ℕ) → n < SHARDS → (bases n).hlr ≡ (bases 0).hlr)
     → MergesOctets journals merge → RunOctets (union bases) merge (union states)
 
 -- An event from outside is within bounds: an address has digits, a shard exists, and an operator's codes are codes. The
 -- octets of a frame may be any.
 abbrev pub RawInBounds : RawEvent → Type 0
 RawInBounds (RawFrame from octets) = AreDigits from
-RawInBounds (RawClock shard now) = shard < shards
-RawInBounds (RawExpire shard) = shard < shards
+RawInBounds (RawClock shard now) = shard < SHARDS
+RawInBounds (RawExpire shard) = shard < SHARDS
 RawInBounds (RawChange imsi change) = ChangeInBounds change
 
 -- Runs of octets stay within bounds, whatever the octets of the frames are. They send only short frames, and the laws of what

@@ -1,13 +1,12 @@
 -- What holds of frames, as the contracts of this crate's functions state it.
 use Rattle.std.specs.Prelude.{◌≡◌, ℕ, ◌≤◌, ◌↔◌, List, length, Result, Some}
-use Rattle.octets.specs.Octets.{AreOctets}
+use Rattle.machine.specs.Octets.{AreOctets}
 use Rattle.x690.specs.Tree.{Tree, levels}
 use Rattle.machine.specs.Received.{Code, Number, Parameter, ComponentOf, Component, Response, Apdu, Aarq, Aare, Abrt, Message, Verdict, Read}
-use Rattle.machine.specs.Sent.{NetworkLocUp, ShortMsgGateway, MsPurging, Rejection, SentComponent, SentMessage}
-use Rattle.machine.specs.Numbers.{no_resources, roaming_not_allowed}
-use Rattle.machine.specs.Contexts.{operation_of}
+use Rattle.machine.specs.Sent.{Rejection, SentComponent, SentMessage}
+use Rattle.machine.specs.declared.numbers.TheConstants.{MAX_CONTEXT_NAME, UPDATE_LOCATION, PURGE_MS, SEND_ROUTING_INFO_FOR_SM}
 use Rattle.machine.specs.Bounds.{VerdictInBounds, SentInBounds}
-use Rattle.frames.specs.declared.numbers.TheConstants.{MAX_OCTETS, MAX_CONTEXT_NAME, MAX_LEVELS, RESOURCE_LIMITATION, ROAMING_NOT_ALLOWED, UPDATE_LOCATION, PURGE_MS, SEND_ROUTING_INFO_FOR_SM}
+use Rattle.x690.specs.declared.limits.TheConstants.{MAX_OCTETS, MAX_LEVELS}
 use Rattle.frames.specs.Messages.{TcMessage, Unread, message_of}
 use Rattle.frames.specs.Dialogues.{dialogue_of}
 use Rattle.frames.specs.DialogueForms.{IsDialogue, portion_tree}
@@ -74,7 +73,8 @@ pub record SentComponentsHaveForms : Type 0 where
 -- A dialogue portion that is sent holds the APDU that is meant, also in an Abort.
 pub record SentPortionsHaveForms : Type 0 where
   pub request : (name : List ℕ) → 1 ≤ length name → length name ≤ MAX_CONTEXT_NAME → IsDialogue (portion_tree (aarq_tree name)) (Aarq name)
-  pub response : (r : Response) → 1 ≤ length r.context → length r.context ≤ MAX_CONTEXT_NAME → IsDialogue (portion_tree (aare_tree r.context r.result r.diagnostic)) (Aare r)
+  pub response : (r : Response) → 1 ≤ length r.context → length r.context ≤ MAX_CONTEXT_NAME
+      → IsDialogue (portion_tree (aare_tree r.context r.result r.diagnostic)) (Aare r)
   pub abort : (source : ℕ) → source ≤ 1 → IsDialogue (portion_tree (abrt_tree source)) (Abrt source)
 
 -- The tree that is sent is the message that is meant, however many its components.
@@ -104,12 +104,3 @@ OctetsTell = (m n : SentMessage) → Sane m → Sane n → octets_of_sent m ≡ 
 -- What is sent within the limits is read as what is meant.
 abbrev pub SentIsRead : Type 0
 SentIsRead = (m : SentMessage) → Readable m → IsVerdict (octets_of_sent m) (Read (message_heard m))
-
--- The numbers with which frames are read and sent are those of the machine: the operations that a peer may invoke, the
--- P-Abort cause resourceLimitation, and the error that has a parameter.
-pub record NumbersAgree : Type 0 where
-  pub update : operation_of NetworkLocUp ≡ Some UPDATE_LOCATION
-  pub purge : operation_of MsPurging ≡ Some PURGE_MS
-  pub route : operation_of ShortMsgGateway ≡ Some SEND_ROUTING_INFO_FOR_SM
-  pub resources : no_resources ≡ RESOURCE_LIMITATION
-  pub roaming : roaming_not_allowed ≡ ROAMING_NOT_ALLOWED

@@ -1,7 +1,7 @@
 -- What holds of merges of journals that are accounted for, as the contract of this crate's function states it.
 use Rattle.std.specs.Prelude.{◌≡◌, ◌==◌, ℕ, ◌<◌, List, [], ◌∷◌, length, map, filter, Some, slice_get}
 use Rattle.std.specs.List.Sorted.{IsPermutation}
-use Rattle.machine.specs.Numbers.{shards}
+use Rattle.machine.specs.declared.numbers.TheConstants.{SHARDS}
 use Rattle.machine.specs.State.{State}
 use Rattle.machine.specs.Parts.{union}
 use Rattle.frames.specs.Octets.{RawEntry, RunOctets}
@@ -36,7 +36,7 @@ pub record AreJobs (jobs : List Job) (receipts : List Receipt) (entries : List R
 abbrev pub MergedAreJobs : Type 0
 MergedAreJobs =
     (journal_of : ℕ → List RawEntry) (list : List (List RawEntry)) (jobs : List Job) (receipts : List Receipt) (merge : List RawEntry)
-    → length list ≡ shards → ((n : ℕ) → n < shards → slice_get list n ≡ Some (journal_of n)) → Reconciles list jobs receipts
+    → length list ≡ SHARDS → ((n : ℕ) → n < SHARDS → slice_get list n ≡ Some (journal_of n)) → Reconciles list jobs receipts
     → MergesOctets journal_of merge → AreJobs jobs receipts merge
 
 -- A run of the whole register whose events are the jobs', each once, with their receipts' frames.
@@ -47,8 +47,9 @@ pub record IsRunOfJobs (before : State) (jobs : List Job) (receipts : List Recei
 -- If the sixteen journals are legal too, the merge is such a run, from the union of the bases to the union of the states.
 abbrev pub MergedAreRunsOfJobs : Type 0
 MergedAreRunsOfJobs =
-    (bases states : ℕ → State) (journal_of : ℕ → List RawEntry) (list : List (List RawEntry)) (jobs : List Job) (receipts : List Receipt) (merge : List RawEntry)
-    → ((n : ℕ) → n < shards → LegalOctets n (bases n) (journal_of n) (states n))
-    → ((n : ℕ) → n < shards → (bases n).directory ≡ (bases 0).directory) → ((n : ℕ) → n < shards → (bases n).hlr ≡ (bases 0).hlr)
-    → length list ≡ shards → ((n : ℕ) → n < shards → slice_get list n ≡ Some (journal_of n)) → Reconciles list jobs receipts
+    (bases states : ℕ → State) (journal_of : ℕ → List RawEntry) (list : List (List RawEntry)) (jobs : List Job) (receipts : List Receipt)
+    (merge : List RawEntry)
+    → ((n : ℕ) → n < SHARDS → LegalOctets n (bases n) (journal_of n) (states n))
+    → ((n : ℕ) → n < SHARDS → (bases n).directory ≡ (bases 0).directory) → ((n : ℕ) → n < SHARDS → (bases n).hlr ≡ (bases 0).hlr)
+    → length list ≡ SHARDS → ((n : ℕ) → n < SHARDS → slice_get list n ≡ Some (journal_of n)) → Reconciles list jobs receipts
     → MergesOctets journal_of merge → IsRunOfJobs (union bases) jobs receipts merge (union states)

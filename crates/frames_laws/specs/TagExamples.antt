@@ -3,12 +3,15 @@
 use Rattle.std.specs.Prelude.{◌≡◌, ℕ, List, [], ◌∷◌, true, false, Some, None, replicate}
 use Rattle.x690.specs.Identifier.{identifier}
 use Rattle.x690.specs.Tree.{Tree, Primitive, element}
-use Rattle.machine.specs.Received.{Route, Mistyped, Typed, Number, Other, Abrt}
+use Rattle.machine.specs.Received.{Route, Mistyped, Typed, Number, Other, Abrt, Refuse}
 use Rattle.frames.specs.declared.tags.TheConstants.{INTEGER, OCTET_STRING, NULL, OBJECT_IDENTIFIER, EXTERNAL, ENUMERATED, SEQUENCE, UNIDIRECTIONAL, BEGIN, END, CONTINUE, ABORT, ORIGIN, DESTINATION, ABORT_CAUSE, DIALOGUE_PORTION, COMPONENT_PORTION, SINGLE_ASN1_TYPE, AARQ, AARE, ABRT, VERSION, CONTEXT_NAME, RESULT, RESULT_SOURCE, DIAGNOSTIC_OF_USER, DIAGNOSTIC_OF_PROVIDER, ABORT_SOURCE, USER_INFORMATION, INVOKE, RESULT_LAST, RETURN_ERROR, REJECT, RESULT_NOT_LAST, LINKED_ID, GENERAL_PROBLEM, INVOKE_PROBLEM, RESULT_PROBLEM, ERROR_PROBLEM, UPDATE_MSC_NUMBER, UPDATE_LMSI, INSERT_IMSI, INSERT_MSISDN, SUBSCRIBER_STATUS, TELESERVICE_LIST, CANCEL_ARGUMENT, PURGE_ARGUMENT, PURGE_VLR_NUMBER, PURGE_SGSN_NUMBER, FREEZE_TMSI, ROUTE_MSISDN, SM_RP_PRI, SERVICE_CENTRE, LOCATION_INFO, NETWORK_NODE_NUMBER}
-use Rattle.frames.specs.declared.numbers.TheConstants.{DIALOGUE_AS_ID, VERSION_1, MAX_OCTETS, MAX_LEVELS, MAX_COMPONENTS, MAX_CONTEXT_NAME, UNRECOGNIZED_MESSAGE_TYPE, BADLY_FORMATTED_TRANSACTION_PORTION, INCORRECT_TRANSACTION_PORTION, RESOURCE_LIMITATION, UNRECOGNIZED_COMPONENT, MISTYPED_COMPONENT, ACCEPTED, REJECT_PERMANENT, NO_DIAGNOSTIC, CONTEXT_NAME_NOT_SUPPORTED, UPDATE_LOCATION, CANCEL_LOCATION, INSERT_SUBSCRIBER_DATA, SEND_ROUTING_INFO_FOR_SM, PURGE_MS, ROAMING_NOT_ALLOWED, PLMN_ROAMING_NOT_ALLOWED, SERVICE_GRANTED, UPDATE_PROCEDURE, SUBSCRIPTION_WITHDRAW}
+use Rattle.machine.specs.declared.numbers.TheConstants.{MAX_COMPONENTS, MAX_CONTEXT_NAME, RESOURCE_LIMITATION, UPDATE_LOCATION, SEND_ROUTING_INFO_FOR_SM, PURGE_MS, ROAMING_NOT_ALLOWED}
+use Rattle.x690.specs.declared.limits.TheConstants.{MAX_OCTETS, MAX_LEVELS}
+use Rattle.frames.specs.declared.numbers.TheConstants.{DIALOGUE_AS_ID, VERSION_1, UNRECOGNIZED_MESSAGE_TYPE, BADLY_FORMATTED_TRANSACTION_PORTION, INCORRECT_TRANSACTION_PORTION, UNRECOGNIZED_COMPONENT, MISTYPED_COMPONENT, ACCEPTED, REJECT_PERMANENT, NO_DIAGNOSTIC, CONTEXT_NAME_NOT_SUPPORTED, CANCEL_LOCATION, INSERT_SUBSCRIBER_DATA, PLMN_ROAMING_NOT_ALLOWED, SERVICE_GRANTED, UPDATE_PROCEDURE, SUBSCRIPTION_WITHDRAW}
 use Rattle.frames.specs.Components.{code_of}
 use Rattle.frames.specs.Dialogues.{is_version, context_of, dialogue_of}
 use Rattle.frames.specs.Arguments.{parameter_of}
+use Rattle.frames.specs.Verdicts.{verdict_of}
 use Rattle.frames.specs.SentTrees.{abrt_tree}
 use Rattle.frames_laws.specs.Written.{hex, digits}
 
@@ -135,3 +138,4 @@ pub record ElementsRead : Type 0 where
   pub priority : parameter_of (Number 45) (route_with (hex "FF")) ≡ Typed (Route (digits "12"))
   pub long_priority : parameter_of (Number 45) (route_with (hex "FF 00")) ≡ Mistyped
   pub no_priority : parameter_of (Number 45) (route_with []) ≡ Mistyped
+  pub no_destination : verdict_of (element CONTINUE (Primitive ORIGIN (hex "00 00 00 07") ∷ [])) ≡ Refuse (hex "00 00 00 07") 2

@@ -4,7 +4,7 @@
 pub mod examples;
 pub mod journals;
 
-ghost use Rattle.frames_laws.specs.Laws.{MessagesAreRead, DialoguesAreRead, ComponentsAreRead, ParametersAreRead, ComponentsAreHeard, TreesAreJudged, OneMessage, OneVerdict, VerdictsAreWithinBounds, SentComponentsHaveForms, SentPortionsHaveForms, SentIsMeant, SentIsOctets, SentIsSane, SentIsShallow, SentIsShort, OctetsTell, SentIsRead, NumbersAgree};
+ghost use Rattle.frames_laws.specs.Laws.{MessagesAreRead, DialoguesAreRead, ComponentsAreRead, ParametersAreRead, ComponentsAreHeard, TreesAreJudged, OneMessage, OneVerdict, VerdictsAreWithinBounds, SentComponentsHaveForms, SentPortionsHaveForms, SentIsMeant, SentIsOctets, SentIsSane, SentIsShallow, SentIsShort, OctetsTell, SentIsRead};
 
 /// With its portions unread, a tree is read as a message exactly if it has the message's form, and otherwise as what the
 /// first point that applies says (Q.773).
@@ -95,9 +95,4 @@ pub fn octets_tell()
 /// What is sent within the limits is read as what is meant.
 pub fn sent_is_read()
     ensures { SentIsRead }
-{}
-
-/// The numbers of frames are those of the machine.
-pub fn numbers_agree()
-    ensures { NumbersAgree }
 {}

@@ -4,7 +4,7 @@ use Rattle.std.specs.Prelude.{◌≡◌, ◌≢◌, ℕ, ℤ, ◌<◌, ◌≤◌
 use Rattle.std.specs.Int.{w8}
 use Rattle.octets.specs.Octets.{IsOctet, AreOctets, HasIdLength}
 use Rattle.machine.specs.Keys.{Every}
-use Rattle.machine.specs.Numbers.{update_location, purge_ms, send_routing_info_for_sm, shards, most_attempts, codes_in_insert, latest_clock}
+use Rattle.machine.specs.declared.numbers.TheConstants.{UPDATE_LOCATION, PURGE_MS, SEND_ROUTING_INFO_FOR_SM, SHARDS, MAX_ATTEMPTS, MAX_COMPONENTS, MAX_CONTEXT_NAME, MAX_CODES_IN_INSERT, MAX_CLOCK}
 use Rattle.machine.specs.Received.{Register, Argument, BadValue, Update, Purge, Route, Parameter, Typed, Code, Number, Component, Invoke, ResultLast, ResultNotLast, ReturnError, Bad, Message, Begin, Continue, Verdict, Discard, Refuse, Read}
 use Rattle.machine.specs.Sent.{Context, Rejection, SentComponent, Insert, Cancel, UpdateResult, PurgeResult, RouteResult, SentError, Why, NoCause, Cause, Refusing, SentMessage, SentBegin, SentContinue, SentEnd, SentAbort, Out}
 use Rattle.machine.specs.Events.{Change, Codes, Withdraw, Event, Frame, Clock, Expire, Operator}
@@ -35,7 +35,7 @@ IsInvokeId id = FitsSigned w8 id
 
 -- the name of an application context: at most 32 octets
 abbrev pub IsName : List ℕ → Type 0
-IsName name = AreOctets name × (length name ≤ 32)
+IsName name = AreOctets name × (length name ≤ MAX_CONTEXT_NAME)
 
 -- no number occurs twice
 abbrev pub AreDistinct : List ℕ → Type 0
@@ -66,7 +66,7 @@ pub record RecordInBounds (s : Subscriber) : Type 0 where
 -- An update is Active from its beginning.
 abbrev pub KindInBounds : Kind → Transaction → Type 0
 KindInBounds (Updates register invoke) t = IsRegister register × IsInvokeId invoke × IsTrue (is_some t.remote)
-KindInBounds (Cancels vlr attempt cause) t = AreDigits vlr × (0 < attempt) × (attempt ≤ most_attempts)
+KindInBounds (Cancels vlr attempt cause) t = AreDigits vlr × (0 < attempt) × (attempt ≤ MAX_ATTEMPTS)
 KindInBounds Data t = Unit {0}
 
 -- an open dialogue's digits and ids
@@ -81,17 +81,17 @@ pub record DialogueInBounds (d : Dialogue) : Type 0 where
 pub record StateInBounds (S : State) : Type 0 where
   pub records : (x : List ℕ) (s : Subscriber) → S.records x ≡ Some s → AreDigits x × RecordInBounds s
   pub dialogues : (i : List ℕ) (d : Dialogue) → S.dialogues i ≡ Some d → IsTransactionId i × DialogueInBounds d
-  pub clocks : (n : ℕ) → S.clocks n ≤ latest_clock
-  pub no_more : (n : ℕ) → shards ≤ n → S.clocks n ≡ 0
+  pub clocks : (n : ℕ) → S.clocks n ≤ MAX_CLOCK
+  pub no_more : (n : ℕ) → SHARDS ≤ n → S.clocks n ≡ 0
   pub hlr : AreDigits S.hlr
 
 -- events
 
 -- The argument is one of the Invoke's operation.
 abbrev pub IsOfOperation : Code → Argument → Type 0
-IsOfOperation (Number operation) (Update imsi register) = operation ≡ update_location
-IsOfOperation (Number operation) (Purge imsi vlr) = operation ≡ purge_ms
-IsOfOperation (Number operation) (Route msisdn) = operation ≡ send_routing_info_for_sm
+IsOfOperation (Number operation) (Update imsi register) = operation ≡ UPDATE_LOCATION
+IsOfOperation (Number operation) (Purge imsi vlr) = operation ≡ PURGE_MS
+IsOfOperation (Number operation) (Route msisdn) = operation ≡ SEND_ROUTING_INFO_FOR_SM
 IsOfOperation (Number operation) BadValue = Unit {0}
 IsOfOperation _ argument = ⊥
 
@@ -118,7 +118,7 @@ ComponentInBounds _ = Unit {0}
 
 -- at most sixteen components
 abbrev pub ComponentsInBounds : List Component → Type 0
-ComponentsInBounds components = Every ComponentInBounds components × (length components ≤ 16)
+ComponentsInBounds components = Every ComponentInBounds components × (length components ≤ MAX_COMPONENTS)
 
 -- a received message; nothing more is read of one that closes a dialogue
 abbrev pub MessageInBounds : Message → Type 0
@@ -141,8 +141,8 @@ ChangeInBounds Withdraw = Unit {0}
 -- an event
 abbrev pub EventInBounds : Event → Type 0
 EventInBounds (Frame from verdict) = AreDigits from × VerdictInBounds verdict
-EventInBounds (Clock shard now) = shard < shards
-EventInBounds (Expire shard) = shard < shards
+EventInBounds (Clock shard now) = shard < SHARDS
+EventInBounds (Expire shard) = shard < SHARDS
 EventInBounds (Operator imsi change) = ChangeInBounds change
 
 -- answers
@@ -150,7 +150,7 @@ EventInBounds (Operator imsi change) = ChangeInBounds change
 -- what a component that is sent has
 abbrev pub SentComponentInBounds : SentComponent → Type 0
 SentComponentInBounds (Insert id imsi msisdn codes) =
-    IsInvokeId id × IfThere AreDigits imsi × IfThere AreDigits msisdn × AreOctets codes × (length codes ≤ codes_in_insert)
+    IsInvokeId id × IfThere AreDigits imsi × IfThere AreDigits msisdn × AreOctets codes × (length codes ≤ MAX_CODES_IN_INSERT)
 SentComponentInBounds (Cancel id imsi cause) = IsInvokeId id × AreDigits imsi
 SentComponentInBounds (UpdateResult id hlr) = IsInvokeId id × AreDigits hlr
 SentComponentInBounds (PurgeResult id freeze) = IsInvokeId id
@@ -168,7 +168,7 @@ RejectInBounds r = IfThere IsInvokeId r.id × IsOctet r.problem
 
 -- at most sixteen Rejects
 abbrev pub RejectsInBounds : List Rejection → Type 0
-RejectsInBounds rejects = Every RejectInBounds rejects × (length rejects ≤ 16)
+RejectsInBounds rejects = Every RejectInBounds rejects × (length rejects ≤ MAX_COMPONENTS)
 
 -- the cause of an Abort, or the name that it refuses
 abbrev pub WhyInBounds : Why → Type 0

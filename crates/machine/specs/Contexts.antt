@@ -1,33 +1,33 @@
--- The names of MAP's application contexts (TS 29.002, MAP-ApplicationContexts): the octets 04 00 00 01 00, which are the
--- OBJECT IDENTIFIER 0.4.0.0.1.0 (X.690, 8.19), one octet for the context and one for its version, here 3.
+-- The names of MAP's application contexts (TS 29.002, MAP-ApplicationContexts): the octets that all begin with, one octet for the
+-- context and one for its version, here 3.
 use Rattle.std.specs.Prelude.{ℕ, List, [], ◌∷◌, ◌++◌, Bool, cond, ◌&&◌, ◌==◌, length, take, Option, Some, None, is_some, find}
 use Rattle.machine.specs.Keys.{same}
-use Rattle.machine.specs.Numbers.{update_location, send_routing_info_for_sm, purge_ms}
+use Rattle.machine.specs.declared.numbers.TheConstants.{UPDATE_LOCATION, SEND_ROUTING_INFO_FOR_SM, PURGE_MS, MAP_AC, NETWORK_LOC_UP, LOCATION_CANCELLATION, SUBSCRIBER_DATA_MNGT, SHORT_MSG_GATEWAY, MS_PURGING, VERSION_3}
 use Rattle.machine.specs.Sent.{Context, NetworkLocUp, LocationCancellation, SubscriberDataMngt, ShortMsgGateway, MsPurging}
 
 -- a context's own octet
 abbrev pub octet_of : Context → ℕ
-octet_of NetworkLocUp = 0x01
-octet_of LocationCancellation = 0x02
-octet_of SubscriberDataMngt = 0x10
-octet_of ShortMsgGateway = 0x14
-octet_of MsPurging = 0x1B
+octet_of NetworkLocUp = NETWORK_LOC_UP
+octet_of LocationCancellation = LOCATION_CANCELLATION
+octet_of SubscriberDataMngt = SUBSCRIBER_DATA_MNGT
+octet_of ShortMsgGateway = SHORT_MSG_GATEWAY
+octet_of MsPurging = MS_PURGING
 
 -- the name without its version
 abbrev pub family : Context → List ℕ
-family context = 4 ∷ 0 ∷ 0 ∷ 1 ∷ 0 ∷ octet_of context ∷ []
+family context = MAP_AC ++ octet_of context ∷ []
 
 -- the name of version 3
 abbrev pub name_of : Context → List ℕ
-name_of context = family context ++ 3 ∷ []
+name_of context = family context ++ VERSION_3 ∷ []
 
 -- The operation that a peer may invoke in a context. If there is none, a peer may not begin in the context.
 abbrev pub operation_of : Context → Option ℕ
-operation_of NetworkLocUp = Some update_location
+operation_of NetworkLocUp = Some UPDATE_LOCATION
 operation_of LocationCancellation = None
 operation_of SubscriberDataMngt = None
-operation_of ShortMsgGateway = Some send_routing_info_for_sm
-operation_of MsPurging = Some purge_ms
+operation_of ShortMsgGateway = Some SEND_ROUTING_INFO_FOR_SM
+operation_of MsPurging = Some PURGE_MS
 
 -- What a name stands for: a context, another version of one in which a peer may begin, or neither.
 pub data Named : Type 0 where

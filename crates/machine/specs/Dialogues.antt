@@ -1,12 +1,12 @@
 -- A received Continue, End or Abort of an open dialogue (TS 29.002; TS 23.012, Location updating).
 use Rattle.std.specs.Prelude.{ℕ, ℤ, List, [], ◌∷◌, ◌++◌, false, cond, Option, Some, None}
 use Rattle.machine.specs.Keys.{same}
-use Rattle.machine.specs.Numbers.{update_location, system_failure}
+use Rattle.machine.specs.declared.numbers.TheConstants.{UPDATE_LOCATION, SYSTEM_FAILURE}
 use Rattle.machine.specs.Received.{Register, Component}
 use Rattle.machine.specs.Sent.{UpdateProcedure, Rejection, UpdateResult, SentError, Out}
 use Rattle.machine.specs.State.{Subscriber, Invocation, Kind, Updates, Cancels, Data, Dialogue, Local}
 use Rattle.machine.specs.Effect.{Offer, Effect, effect, Conclusion, HasFailed, HasSucceeded, GoesOn}
-use Rattle.machine.specs.Outcome.{Outcome, cancel, cancel_begin, ended, continued, is_marked, unmarked}
+use Rattle.machine.specs.Outcome.{Outcome, cancel, cancel_begin, end_in_dialogue, continue_in_dialogue, is_marked, unmarked}
 
 -- the dialogue ends, and of the record only the mark changes
 abbrev pub ends : Local → List ℕ → List Out → Outcome
@@ -15,7 +15,7 @@ ends here id sent = record { after = unmarked id here.record_of; stays = None; o
 -- An update that fails, or is not the current one, ends with systemFailure, and the register stays.
 abbrev pub update_fails : Local → List ℕ → Dialogue → (invoke : ℤ) → List Rejection → Outcome
 update_fails here id dialogue invoke rejects =
-    ends here id (ended dialogue.transaction dialogue.transaction.remote rejects (SentError invoke system_failure ∷ []))
+    ends here id (end_in_dialogue dialogue.transaction dialogue.transaction.remote rejects (SentError invoke SYSTEM_FAILURE ∷ []))
 
 -- The current update completes: its register serves from now on. An old register with other digits, purged or not, is sent
 -- a cancel (TS 23.012, Location cancellation); its Begin follows the End (profile).
@@ -42,7 +42,7 @@ update_completes here id dialogue register invoke rejects new None = update_fail
 update_completes here id dialogue register invoke rejects new (Some subscriber) =
     cond (is_marked subscriber.current id)
     (update_done here register subscriber
-    (ended dialogue.transaction dialogue.transaction.remote rejects (UpdateResult invoke here.hlr ∷ [])) new subscriber.register)
+    (end_in_dialogue dialogue.transaction dialogue.transaction.remote rejects (UpdateResult invoke here.hlr ∷ [])) new subscriber.register)
     (update_fails here id dialogue invoke rejects)
 
 -- the dialogue goes on with these invocations
@@ -51,7 +51,7 @@ goes_on here id dialogue rejects invocations = record {
   after = here.record_of;
   stays = Some (record dialogue { invocations = invocations });
   opens = None;
-  sent = continued id dialogue.transaction dialogue.transaction.remote rejects;
+  sent = continue_in_dialogue id dialogue.transaction dialogue.transaction.remote rejects;
 }
 
 -- an update, by the state of its inserts
@@ -71,7 +71,7 @@ other_continues here id dialogue effect _ = record {
   after = here.record_of;
   stays = None;
   opens = None;
-  sent = ended dialogue.transaction dialogue.transaction.remote effect.rejects [];
+  sent = end_in_dialogue dialogue.transaction dialogue.transaction.remote effect.rejects [];
 }
 
 -- a dialogue, by its kind
@@ -86,7 +86,7 @@ continues_as here id dialogue Data effect new = other_continues here id dialogue
 -- invoke nothing.
 abbrev pub offer_to : Kind → Offer
 offer_to (Updates register invoke) =
-    record { open_id = Some invoke; operation = Some update_location; may_start = false; typed = false }
+    record { open_id = Some invoke; operation = Some UPDATE_LOCATION; may_start = false; typed = false }
 offer_to (Cancels vlr attempt cause) = record { open_id = None; operation = None; may_start = false; typed = false }
 offer_to Data = record { open_id = None; operation = None; may_start = false; typed = false }
 

@@ -3,7 +3,7 @@
 use Rattle.std.specs.Prelude.{ℕ, ℤ, ◌<ℤ◌, ◌+◌, List, [], ◌∷◌, ◌++◌, Bool, true, false, cond, not, ◌&&◌, ◌||◌, ◌==◌, Option, Some, None, is_some}
 use Rattle.std.specs.Ordering.{int_eq}
 use Rattle.machine.specs.Keys.{Every}
-use Rattle.machine.specs.Numbers.{duplicate_invoke_id, unrecognized_operation, mistyped_parameter, resource_limitation, unrecognized_linked_id, linked_response_unexpected, unrecognized_invoke_id, reject_timer}
+use Rattle.machine.specs.declared.numbers.TheConstants.{DUPLICATE_INVOKE_ID, UNRECOGNIZED_OPERATION, MISTYPED_PARAMETER, INVOKE_RESOURCE_LIMITATION, UNRECOGNIZED_LINKED_ID, LINKED_RESPONSE_UNEXPECTED, UNRECOGNIZED_INVOKE_ID, REJECT_TIMER}
 use Rattle.machine.specs.Received.{Code, Number, Side, General, OfInvoke, OfResult, OfError, ComponentOf, Invoke, ResultLast, ResultNotLast, ReturnError, Reject, Bad, Ignored}
 use Rattle.machine.specs.Sent.{Rejection}
 use Rattle.machine.specs.State.{WaitForReject, Invocation, is_sent, any_sent}
@@ -58,16 +58,16 @@ is_operation _ _ = false
 -- starts it.
 abbrev pub problem_of_start : Offer → (is_first : Bool) → Option ℕ
 problem_of_start offer is_first =
-    cond (is_first && offer.may_start) (cond offer.typed None (Some mistyped_parameter)) (Some resource_limitation)
+    cond (is_first && offer.may_start) (cond offer.typed None (Some MISTYPED_PARAMETER)) (Some INVOKE_RESOURCE_LIMITATION)
 
 -- The invoke problem of an Invoke (Q.773), by the checks in their order (profile): whether its id is the one that the peer
 -- waits for; if it is linked, whether to an invocation in Operation Sent; its operation; its place; its parameter.
 abbrev pub problem_of : Offer → (is_open : Bool) → (linked : Option Bool) → Code → (is_first : Bool) → Option ℕ
-problem_of offer true linked operation is_first = Some duplicate_invoke_id
-problem_of offer false (Some true) operation is_first = Some linked_response_unexpected
-problem_of offer false (Some false) operation is_first = Some unrecognized_linked_id
+problem_of offer true linked operation is_first = Some DUPLICATE_INVOKE_ID
+problem_of offer false (Some true) operation is_first = Some LINKED_RESPONSE_UNEXPECTED
+problem_of offer false (Some false) operation is_first = Some UNRECOGNIZED_LINKED_ID
 problem_of offer false None operation is_first =
-    cond (is_operation offer.operation operation) (problem_of_start offer is_first) (Some unrecognized_operation)
+    cond (is_operation offer.operation operation) (problem_of_start offer is_first) (Some UNRECOGNIZED_OPERATION)
 
 -- whether the linked id is in Operation Sent at this place
 abbrev pub linked_to : {P : Type 0} → List Invocation → (earlier : List (ComponentOf P)) → Option ℤ → Option Bool
@@ -106,7 +106,7 @@ reject_invoke id (Some problem) = rejection (Some id) OfInvoke problem ∷ []
 -- a result or an error that answers no open invocation is rejected
 abbrev pub reject_answer : ℤ → Side → (is_open : Bool) → List Rejection
 reject_answer id side true = []
-reject_answer id side false = rejection (Some id) side unrecognized_invoke_id ∷ []
+reject_answer id side false = rejection (Some id) side UNRECOGNIZED_INVOKE_ID ∷ []
 
 -- The Reject, if any, of a component that follows these. A Reject is never answered.
 abbrev pub reject_of : {P : Type 0} → Offer → List Invocation → (earlier : List (ComponentOf P)) → ComponentOf P
@@ -131,7 +131,7 @@ rejects_after offer vs earlier (c ∷ cs) =
 abbrev pub concluded_by : {P : Type 0} → ℕ → Invocation → Option (ComponentOf P) → List Invocation
 concluded_by now v None = v ∷ []
 concluded_by now v (Some (Reject id side problem)) = []
-concluded_by now v (Some c) = record { id = v.id; was = WaitForReject; deadline = now + reject_timer } ∷ []
+concluded_by now v (Some c) = record { id = v.id; was = WaitForReject; deadline = now + REJECT_TIMER } ∷ []
 
 -- an invocation after the components: one in Wait for Reject stays as it is
 abbrev pub concluded : {P : Type 0} → ℕ → List (ComponentOf P) → Invocation → List Invocation

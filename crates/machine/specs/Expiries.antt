@@ -2,11 +2,11 @@
 use Rattle.std.specs.Prelude.{ℕ, ℤ, ◌+◌, List, [], ◌∷◌, ◌++◌, Bool, false, cond, not, ◌&&◌, ◌||◌, nat_lt, Option, Some, None}
 use Rattle.std.specs.Ordering.{int_eq}
 use Rattle.machine.specs.Keys.{same}
-use Rattle.machine.specs.Numbers.{most_attempts}
+use Rattle.machine.specs.declared.numbers.TheConstants.{MAX_ATTEMPTS}
 use Rattle.machine.specs.Received.{Register}
 use Rattle.machine.specs.Sent.{CancellationType}
 use Rattle.machine.specs.State.{Subscriber, Was, OperationSent, WaitForReject, Invocation, Kind, Updates, Cancels, Data, Dialogue, Local}
-use Rattle.machine.specs.Outcome.{Outcome, cancel, cancel_begin, ended}
+use Rattle.machine.specs.Outcome.{Outcome, cancel, cancel_begin, end_in_dialogue}
 use Rattle.machine.specs.Dialogues.{update_fails}
 
 -- without the invocation of this id
@@ -41,7 +41,7 @@ is_wanted here vlr (Some subscriber) =
 
 -- whether a cancel is sent again (profile)
 abbrev pub is_repeated : Local → (vlr : List ℕ) → (attempt : ℕ) → Bool
-is_repeated here vlr attempt = nat_lt attempt most_attempts && not (is_wanted here vlr here.record_of)
+is_repeated here vlr attempt = nat_lt attempt MAX_ATTEMPTS && not (is_wanted here vlr here.record_of)
 
 -- A cancel that is not answered ends, with an End if it is Active. It is sent again to the same digits as the next attempt,
 -- unless it was the last one or the register there is wanted.
@@ -52,7 +52,7 @@ cancel_expires here dialogue vlr attempt cause new = record {
   stays = None;
   opens = cond (is_repeated here vlr attempt) (Some (cancel here vlr (attempt + 1) cause)) None;
   sent =
-      ended dialogue.transaction dialogue.transaction.remote [] []
+      end_in_dialogue dialogue.transaction dialogue.transaction.remote [] []
       ++ cond (is_repeated here vlr attempt) (cancel_begin here vlr cause new) [];
 }
 
@@ -64,7 +64,7 @@ sent_expires here id dialogue Data new = record {
   after = here.record_of;
   stays = None;
   opens = None;
-  sent = ended dialogue.transaction dialogue.transaction.remote [] [];
+  sent = end_in_dialogue dialogue.transaction dialogue.transaction.remote [] [];
 }
 
 -- An expiry in Wait for Reject: the invocation is forgotten.

@@ -1,6 +1,6 @@
 -- The table of one own invocation (Q.774, invocation state machine for operations of class 1 of Q.771); `None` is Idle.
 use Rattle.std.specs.Prelude.{ℕ, ◌+◌, Bool, true, false, cond, Option, Some, None}
-use Rattle.machine.specs.Numbers.{invocation_timer, reject_timer}
+use Rattle.machine.specs.declared.numbers.TheConstants.{INVOCATION_TIMER, REJECT_TIMER}
 use Rattle.machine.specs.Received.{Side, General, OfInvoke, OfResult, OfError}
 use Rattle.machine.specs.State.{Was, OperationSent, WaitForReject}
 
@@ -28,11 +28,11 @@ Standing = Option (Was × ℕ)
 
 -- in Operation Sent from now on
 abbrev pub sent_at : ℕ → Standing
-sent_at now = Some (OperationSent, now + invocation_timer)
+sent_at now = Some (OperationSent, now + INVOCATION_TIMER)
 
 -- in Wait for Reject from now on
 abbrev pub waiting_at : ℕ → Standing
-waiting_at now = Some (WaitForReject, now + reject_timer)
+waiting_at now = Some (WaitForReject, now + REJECT_TIMER)
 
 -- whether a Reject with a problem of this kind rejects the Invoke: a general problem or an invoke problem
 abbrev pub ends_it : Side → Bool

@@ -1,7 +1,7 @@
 -- One subscriber's own entries, and the state with this subscriber alone.
 use Rattle.std.specs.Prelude.{◌≡◌, ℕ, List, [], ◌∷◌, filter, Bool, true, false, cond, ◌&&◌, ◌==◌, Option, Some, None}
 use Rattle.machine.specs.Keys.{same, Every}
-use Rattle.machine.specs.Numbers.{no_resources}
+use Rattle.machine.specs.declared.numbers.TheConstants.{RESOURCE_LIMITATION}
 use Rattle.machine.specs.Received.{Register, Update, Component, Begin, Read}
 use Rattle.machine.specs.Sent.{Cause, SentMessage, SentAbort, Out}
 use Rattle.machine.specs.Events.{Event, Frame, Clock}
@@ -43,7 +43,7 @@ own S x = record {
 -- An update that a full shard turned away is recognized by its answer: only then does an entry with a subject send an Abort
 -- with the cause resourceLimitation.
 abbrev pub is_limit : SentMessage → Bool
-is_limit (SentAbort destination (Cause cause)) = cause == no_resources
+is_limit (SentAbort destination (Cause cause)) = cause == RESOURCE_LIMITATION
 is_limit _ = false
 
 -- whether the answer begins with such an Abort

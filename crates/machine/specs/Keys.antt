@@ -1,6 +1,7 @@
 -- Digits, octet strings and ids as lists of numbers, and maps from them. A map is a function from a key to its value, or to
 -- `None`. Two maps are equal if they agree on every key.
 use Rattle.std.specs.Prelude.{ℕ, List, [], ◌∷◌, Bool, true, false, cond, ◌&&◌, bytes_eq, ◌+◌, ◌-◌, ◌*◌, ◌%◌, ◌==◌, length, slice_index, ◌≡◌, ◌≢◌, ◌⊎◌}
+pub use Rattle.std.specs.List.{AllByRecursion as Every}
 
 -- whether two lists are the same
 abbrev pub same : List ℕ → List ℕ → Bool
@@ -27,11 +28,6 @@ shard_of imsi = (10 * slice_index imsi (length imsi - 2) + slice_index imsi (len
 -- The shard of a local id: its first octet (profile).
 unfoldable pub shard_of_id : List ℕ → ℕ
 shard_of_id id = slice_index id 0
-
--- P holds of each element
-abbrev pub Every : {X : Type 0} → (X → Type 0) → List X → Type 0
-Every P [] = Unit {0}
-Every P (x ∷ xs) = P x × Every P xs
 
 -- the key is in the list
 abbrev pub IsIn : List ℕ → List (List ℕ) → Type 0

@@ -1,7 +1,7 @@
 -- The journal of a shard.
 use Rattle.std.specs.Prelude.{◌≡◌, ℕ, ◌<◌, List, map}
 use Rattle.machine.specs.Keys.{Every}
-use Rattle.machine.specs.Numbers.{shards}
+use Rattle.machine.specs.declared.numbers.TheConstants.{SHARDS}
 use Rattle.machine.specs.Events.{Event}
 use Rattle.machine.specs.State.{State}
 use Rattle.machine.specs.Routing.{route}
@@ -26,7 +26,7 @@ answers_of entries = map (λ entry. entry.answer) entries
 -- A legal journal of shard n: its events are for this shard and lead from one sound state of it to another, with the
 -- journal's answers.
 pub record Legal (n : ℕ) (base : State) (journal : List Entry) (after : State) : Type 0 where
-  pub is_shard : n < shards
+  pub is_shard : n < SHARDS
   pub run : Run base (events_of journal) after (answers_of journal)
   pub routed : Every (λ entry. route base.directory entry.event ≡ n) journal
   pub base_sound : Sound base

@@ -1,5 +1,4 @@
 pub mod Keys
-pub mod Numbers
 pub mod Received
 pub mod Sent
 pub mod Events
@@ -29,3 +28,4 @@ pub mod Holders
 pub mod Isolation
 pub mod Merges
 pub mod Chains
+pub use Rattle.octets.specs.Octets

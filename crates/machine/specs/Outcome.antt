@@ -1,7 +1,7 @@
 -- The outcome of a procedure on one subscriber, and what the procedures have in common.
 use Rattle.std.specs.Prelude.{ℕ, zero, suc, ℤ, pos, ◌+◌, ◌-◌, ◌*◌, ◌/◌, List, [], ◌∷◌, ◌++◌, map, take, drop, length, Bool, false, cond, Option, Some, None}
 use Rattle.machine.specs.Keys.{same}
-use Rattle.machine.specs.Numbers.{invocation_timer, codes_in_insert}
+use Rattle.machine.specs.declared.numbers.TheConstants.{INVOCATION_TIMER, MAX_CODES_IN_INSERT}
 use Rattle.machine.specs.Sent.{CancellationType, LocationCancellation, Rejection, SentComponent, Insert, Cancel, SentMessage, SentBegin, SentContinue, SentEnd, Out}
 use Rattle.machine.specs.State.{Subscriber, Transaction, OperationSent, Invocation, Cancels, Dialogue, Local}
 
@@ -25,7 +25,7 @@ unchanged here sent = record { after = here.record_of; stays = None; opens = Non
 
 -- an invocation in Operation Sent, invoked now
 abbrev pub invoked : ℕ → ℤ → Invocation
-invoked now id = record { id = id; was = OperationSent; deadline = now + invocation_timer }
+invoked now id = record { id = id; was = OperationSent; deadline = now + INVOCATION_TIMER }
 
 -- 0 up to n - 1
 abbrev pub below : ℕ → List ℕ
@@ -34,7 +34,7 @@ below (suc k) = below k ++ k ∷ []
 
 -- the number of inserts after the first, which is always sent
 abbrev pub further : List ℕ → ℕ
-further codes = (length codes - 1) / codes_in_insert
+further codes = (length codes - 1) / MAX_CODES_IN_INSERT
 
 -- the invocations of the inserts
 abbrev pub inserts_invoked : ℕ → List ℕ → List Invocation
@@ -44,8 +44,8 @@ inserts_invoked now codes = invoked now (pos 1) ∷ map (λ k. invoked now (pos 
 -- in the first. The IMSI is included if no update names the subscriber.
 abbrev pub inserts : (imsi : Option (List ℕ)) → (msisdn codes : List ℕ) → List SentComponent
 inserts imsi msisdn codes =
-    Insert (pos 1) imsi (Some msisdn) (take codes_in_insert codes)
-    ∷ map (λ k. Insert (pos (k + 2)) imsi None (take codes_in_insert (drop (codes_in_insert * (k + 1)) codes))) (below (further codes))
+    Insert (pos 1) imsi (Some msisdn) (take MAX_CODES_IN_INSERT codes)
+    ∷ map (λ k. Insert (pos (k + 2)) imsi None (take MAX_CODES_IN_INSERT (drop (MAX_CODES_IN_INSERT * (k + 1)) codes))) (below (further codes))
 
 -- The dialogue of a cancel to these VLR digits (TS 29.002, 8.1.3, MAP_CANCEL_LOCATION).
 abbrev pub cancel : Local → List ℕ → (attempt : ℕ) → CancellationType → Dialogue
@@ -63,15 +63,15 @@ cancel_begin here vlr cause new = send vlr (SentBegin new LocationCancellation (
 -- what is sent in a dialogue
 
 -- an End, if the dialogue is Active
-abbrev pub ended : Transaction → (remote : Option (List ℕ)) → List Rejection → List SentComponent → List Out
-ended t None rejects components = []
-ended t (Some remote) rejects components = send t.peer (SentEnd remote None rejects components)
+abbrev pub end_in_dialogue : Transaction → (remote : Option (List ℕ)) → List Rejection → List SentComponent → List Out
+end_in_dialogue t None rejects components = []
+end_in_dialogue t (Some remote) rejects components = send t.peer (SentEnd remote None rejects components)
 
 -- a Continue, if there is a Reject to send; the received Continue has made the dialogue Active
-abbrev pub continued : List ℕ → Transaction → (remote : Option (List ℕ)) → List Rejection → List Out
-continued id t remote [] = []
-continued id t None (r ∷ rs) = []
-continued id t (Some remote) (r ∷ rs) = send t.peer (SentContinue id remote None (r ∷ rs) [])
+abbrev pub continue_in_dialogue : List ℕ → Transaction → (remote : Option (List ℕ)) → List Rejection → List Out
+continue_in_dialogue id t remote [] = []
+continue_in_dialogue id t None (r ∷ rs) = []
+continue_in_dialogue id t (Some remote) (r ∷ rs) = send t.peer (SentContinue id remote None (r ∷ rs) [])
 
 -- the mark of the current update
 

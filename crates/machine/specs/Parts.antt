@@ -1,7 +1,7 @@
 -- The whole state, and the part of each shard.
 use Rattle.std.specs.Prelude.{◌≡◌, ℕ, List, cond, ◌==◌, nat_lt, None}
 use Rattle.machine.specs.Keys.{shard_of, shard_of_id}
-use Rattle.machine.specs.Numbers.{shards}
+use Rattle.machine.specs.declared.numbers.TheConstants.{SHARDS}
 use Rattle.machine.specs.State.{State}
 
 -- The part of a shard: its subscribers, its dialogues and its clock.
@@ -18,8 +18,8 @@ part S shard = record {
 unfoldable pub union : (ℕ → State) → State
 union states = record {
   records = λ imsi. (states (shard_of imsi)).records imsi;
-  dialogues = λ id. cond (nat_lt (shard_of_id id) shards) ((states (shard_of_id id)).dialogues id) None;
-  clocks = λ n. cond (nat_lt n shards) ((states n).clocks n) 0;
+  dialogues = λ id. cond (nat_lt (shard_of_id id) SHARDS) ((states (shard_of_id id)).dialogues id) None;
+  clocks = λ n. cond (nat_lt n SHARDS) ((states n).clocks n) 0;
   directory = (states 0).directory;
   hlr = (states 0).hlr;
 }

@@ -1,7 +1,7 @@
 -- The shard that an event is for (profile).
 use Rattle.std.specs.Prelude.{ℕ, List, cond, ◌&&◌, nat_lt, ◌==◌, length, Option, Some, None}
 use Rattle.machine.specs.Keys.{shard_of, shard_of_id}
-use Rattle.machine.specs.Numbers.{shards}
+use Rattle.machine.specs.declared.numbers.TheConstants.{SHARDS}
 use Rattle.machine.specs.Received.{Argument, Update, Purge, Route, Component, Message, Begin, Continue, End, Abort, Verdict, Read}
 use Rattle.machine.specs.Events.{Event, Frame, Clock, Expire, Operator}
 use Rattle.machine.specs.Begins.{first_argument}
@@ -24,7 +24,7 @@ shard_asked (Some imsi) = shard_of imsi
 
 -- the shard of a destination id, which may not have the form of a local id
 abbrev pub shard_named : List ℕ → ℕ
-shard_named id = cond ((length id == 4) && nat_lt (shard_of_id id) shards) (shard_of_id id) 0
+shard_named id = cond ((length id == 4) && nat_lt (shard_of_id id) SHARDS) (shard_of_id id) 0
 
 -- a Begin is routed by the subscriber that it names, later messages by the local id
 abbrev pub route_message : (directory : List ℕ → Option (List ℕ)) → Message → ℕ

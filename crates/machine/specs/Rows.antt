@@ -1,7 +1,7 @@
 -- One component as a row of the table of own invocations (Q.774).
 use Rattle.std.specs.Prelude.{◌≡◌, ℕ, ℤ, List, [], ◌∷◌, Bool, true, false, cond, Option, Some, None}
 use Rattle.std.specs.Ordering.{int_eq}
-use Rattle.machine.specs.Numbers.{unrecognized_invoke_id}
+use Rattle.machine.specs.declared.numbers.TheConstants.{UNRECOGNIZED_INVOKE_ID}
 use Rattle.machine.specs.Received.{ComponentOf, ResultLast, ResultNotLast, ReturnError, Reject}
 use Rattle.machine.specs.Sent.{Rejection}
 use Rattle.machine.specs.State.{Invocation}
@@ -23,7 +23,7 @@ standing_of j (v ∷ vs) = cond (int_eq v.id j) (Some (v.was, v.deadline)) (stan
 
 -- the Reject that a reply requires
 abbrev pub rejected_by : ℤ → Reply → List Rejection
-rejected_by j (Rejected side) = rejection (Some j) side unrecognized_invoke_id ∷ []
+rejected_by j (Rejected side) = rejection (Some j) side UNRECOGNIZED_INVOKE_ID ∷ []
 rejected_by j _ = []
 
 -- whether the reply says that the operation failed

@@ -1,7 +1,7 @@
 -- What every state of the register keeps.
 use Rattle.std.specs.Prelude.{◌≡◌, ℕ, ◌≤◌, List, true, false, length, Option, Some, None, is_some, IsTrue}
 use Rattle.machine.specs.Keys.{shard_of}
-use Rattle.machine.specs.Numbers.{most_dialogues}
+use Rattle.machine.specs.declared.numbers.TheConstants.{MAX_DIALOGUES}
 use Rattle.machine.specs.State.{Subscriber, Kind, Updates, Dialogue, State, any_sent, IsIdOf, AreOpen}
 use Rattle.machine.specs.Effect.{AreRising}
 
@@ -38,4 +38,4 @@ pub record SoundRecord (dialogues : List ℕ → Option Dialogue) (x : List ℕ)
 pub record Sound (S : State) : Type 0 where
   pub dialogues : (i : List ℕ) (d : Dialogue) → S.dialogues i ≡ Some d → SoundDialogue S.records i d
   pub records : (x : List ℕ) (s : Subscriber) → S.records x ≡ Some s → SoundRecord S.dialogues x s
-  pub few : (n : ℕ) (is : List (List ℕ)) → AreOpen S n is → length is ≤ most_dialogues
+  pub few : (n : ℕ) (is : List (List ℕ)) → AreOpen S n is → length is ≤ MAX_DIALOGUES

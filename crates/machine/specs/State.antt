@@ -1,8 +1,9 @@
 -- The whole state of the register: its subscribers (TS 23.012), and its dialogues with their transactions and invocations
 -- (Q.774).
-use Rattle.std.specs.Prelude.{◌≡◌, ◌≢◌, ◌<◌, ℕ, ℤ, List, [], ◌∷◌, Bool, true, false, cond, Option, Some, None, length, slice_index}
+use Rattle.std.specs.Prelude.{◌≡◌, ◌≢◌, ℕ, ℤ, List, [], ◌∷◌, Bool, true, false, cond, Option, Some, None, length, slice_index}
+use Rattle.octets.specs.Octets.{AreOctets}
 use Rattle.machine.specs.Keys.{same, shard_of_id, Every, AreDifferent}
-use Rattle.machine.specs.Numbers.{most_dialogues}
+use Rattle.machine.specs.declared.numbers.TheConstants.{MAX_DIALOGUES}
 use Rattle.machine.specs.Received.{Register}
 use Rattle.machine.specs.Sent.{CancellationType}
 
@@ -103,7 +104,7 @@ local_of_nobody S shard = record {
 -- A local id of a shard: four octets, the shard's number first, then three that are not all zero (profile).
 pub record IsIdOf (n : ℕ) (i : List ℕ) : Type 0 where
   pub four : length i ≡ 4
-  pub octets : Every (λ o. o < 256) i
+  pub octets : AreOctets i
   pub shard : shard_of_id i ≡ n
   pub not_zero : (slice_index i 1 ≡ 0 × slice_index i 2 ≡ 0 × slice_index i 3 ≡ 0) → ⊥
 
@@ -114,4 +115,4 @@ pub record AreOpen (S : State) (n : ℕ) (is : List (List ℕ)) : Type 0 where
 
 -- the shard is full: it has the most open dialogues that it may have
 abbrev pub IsFull : State → ℕ → Type 0
-IsFull S n = (is : List (List ℕ)) × AreOpen S n is × (length is ≡ most_dialogues)
+IsFull S n = (is : List (List ℕ)) × AreOpen S n is × (length is ≡ MAX_DIALOGUES)

@@ -1,7 +1,7 @@
 -- One event of the register.
 use Rattle.std.specs.Prelude.{◌≡◌, ℕ, min, max, List, [], Option, Some, None, is_some, IsTrue}
 use Rattle.machine.specs.Keys.{put, put_at, shard_of}
-use Rattle.machine.specs.Numbers.{no_resources, latest_clock}
+use Rattle.machine.specs.declared.numbers.TheConstants.{RESOURCE_LIMITATION, MAX_CLOCK}
 use Rattle.machine.specs.Received.{Component}
 use Rattle.machine.specs.Sent.{Cause, SentAbort, Out}
 use Rattle.machine.specs.Events.{Event, Operator}
@@ -82,7 +82,7 @@ moved S (Some imsi) id new o = record S {
 
 -- The clock of a shard never goes back.
 abbrev pub ticked : Turn → State → State
-ticked (Ticks shard now) S = record S { clocks = put_at S.clocks shard (max (S.clocks shard) (min now latest_clock)) }
+ticked (Ticks shard now) S = record S { clocks = put_at S.clocks shard (max (S.clocks shard) (min now MAX_CLOCK)) }
 ticked _ S = S
 
 -- A dialogue would open in a full shard, and not in place of a named one.
@@ -116,7 +116,7 @@ pub record TurnedAway (S : State) (n : ℕ) (turn : Turn) (o : Outcome) (after :
   pub state : after ≡ S
   pub id : a.id ≡ None
   pub subject : a.subject ≡ subject_of S turn
-  pub sent : a.sent ≡ send from (SentAbort origin (Cause no_resources))
+  pub sent : a.sent ≡ send from (SentAbort origin (Cause RESOURCE_LIMITATION))
 
 -- One event leads from a state to a state, with an answer.
 pub data Step (S : State) (e : Event) (after : State) (a : Answer) : Type 0 where

@@ -2,12 +2,12 @@
 use Rattle.std.specs.Prelude.{◌≡◌, ℕ, ℤ, List, [], ◌∷◌, ◌++◌, map, false, Option, Some, None}
 use Rattle.std.specs.Ordering.{int_eq}
 use Rattle.machine.specs.Keys.{Every}
-use Rattle.machine.specs.Numbers.{unrecognized_transaction_id}
+use Rattle.machine.specs.declared.numbers.TheConstants.{UNRECOGNIZED_TRANSACTION_ID}
 use Rattle.machine.specs.Received.{Component, Begin, Read}
 use Rattle.machine.specs.Sent.{Context, Rejection, SentComponent, Insert, Cancel, Cause, SentMessage, SentBegin, SentContinue, SentEnd, SentAbort, Out}
 use Rattle.machine.specs.Events.{Event, Frame}
 use Rattle.machine.specs.State.{Transaction, Invocation, Dialogue, State}
-use Rattle.machine.specs.Transactions.{OwnBegin, Answered, ContinueComes, CloseComes, OwnContinue, OwnEnd, OwnClose, Fate, IsSent, ForIt, Unassigned, Nothing, row, transact}
+use Rattle.machine.specs.Transactions.{OwnBegin, Answered, ContinueComes, CloseComes, OwnContinue, OwnEnd, OwnClose, Disposition, IsSent, ForIt, Unassigned, Nothing, row, transact}
 use Rattle.machine.specs.Contexts.{accepted}
 use Rattle.machine.specs.Effect.{effect, invocations_after, rejects_after}
 use Rattle.machine.specs.Begins.{offer_in}
@@ -45,7 +45,8 @@ pub data Does (i : List ℕ) (before : Option Transaction) (rejects : List Rejec
 
 -- A step first sends the frames of the dialogue i that its event is for, with the Rejects of what was received; then those of
 -- a dialogue that opens. `received` is the transaction of i once the frame has been received.
-pub record DoesFirst (i : List ℕ) (received : Option Transaction) (rejects : List Rejection) (sent : List Out) (opened : Option (List ℕ)) (after : Option Dialogue) : Type 0 where
+pub record DoesFirst (i : List ℕ) (received : Option Transaction) (rejects : List Rejection) (sent : List Out) (opened : Option (List ℕ))
+    (after : Option Dialogue) : Type 0 where
   pub first : List Out
   pub second : List Out
   pub both : sent ≡ first ++ second
@@ -101,13 +102,13 @@ pub data ContinueMoves (S : State) (from origin i : List ℕ) (components : List
       → ((f : Dialogue) → T.dialogues i ≡ Some f → f.invocations ≡ invocations_after (S.clocks (shard_named i)) components d.invocations)
       → ContinueMoves S from origin i components T a
   ForNone : transact (transaction_of (S.dialogues i)) (ContinueComes from origin) ≡ row (transaction_of (T.dialogues i)) Unassigned
-      → T ≡ S → a.sent ≡ send from (SentAbort origin (Cause unrecognized_transaction_id))
+      → T ≡ S → a.sent ≡ send from (SentAbort origin (Cause UNRECOGNIZED_TRANSACTION_ID))
       → ContinueMoves S from origin i components T a
 
 -- What becomes of an End or an Abort for the local id i.
 pub record CloseMoves (S : State) (i : List ℕ) (T : State) (a : Answer) : Type 0 where
-  pub fate : Fate
-  pub closed : transact (transaction_of (S.dialogues i)) CloseComes ≡ row (transaction_of (T.dialogues i)) fate
+  pub disposition : Disposition
+  pub closed : transact (transaction_of (S.dialogues i)) CloseComes ≡ row (transaction_of (T.dialogues i)) disposition
   pub silent : a.sent ≡ []
 
 -- What becomes of the dialogue i when the timer of its invocation j expires.

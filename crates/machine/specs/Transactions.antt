@@ -15,20 +15,20 @@ pub data Primitive : Type 0 where
 
 -- What becomes of it: it is sent; it is for the dialogue; it is for none, and answered with an Abort with the cause
 -- unrecognizedTransactionID; nothing.
-pub data Fate : Type 0 where
-  IsSent : Fate
-  ForIt : Fate
-  Unassigned : Fate
-  Nothing : Fate
+pub data Disposition : Type 0 where
+  IsSent : Disposition
+  ForIt : Disposition
+  Unassigned : Disposition
+  Nothing : Disposition
 
 -- the transaction after, and what becomes of the primitive
 pub record Row : Type 0 where
   pub after : Option Transaction
-  pub fate : Fate
+  pub disposition : Disposition
 
 -- a row of the table
-abbrev pub row : Option Transaction → Fate → Option Row
-row after fate = Some (record { after = after; fate = fate })
+abbrev pub row : Option Transaction → Disposition → Option Row
+row after disposition = Some (record { after = after; disposition = disposition })
 
 -- A Continue for an open dialogue. In Initiation Sent it sets the peer's address and id; in Active it must have that id.
 abbrev pub continue_row : Transaction → (remote : Option (List ℕ)) → (from origin : List ℕ) → Option Row

@@ -4,12 +4,12 @@ use Rattle.std.specs.declared.cmp.Ordering.{Ordering}
 use Rattle.std.specs.Ordering.{nat_cmp, int_cmp, int_eq, ordering_then, is_gt}
 use Rattle.std.specs.Cmp.Lexicographic.{slice_cmp}
 use Rattle.machine.specs.Keys.{shard_of_id}
-use Rattle.machine.specs.Numbers.{unrecognized_transaction_id}
+use Rattle.machine.specs.declared.numbers.TheConstants.{UNRECOGNIZED_TRANSACTION_ID}
 use Rattle.machine.specs.Received.{Component, Message, Begin, Continue, End, Abort, Verdict, Discard, Refuse, Read}
 use Rattle.machine.specs.Sent.{Cause, SentAbort, Out}
 use Rattle.machine.specs.Events.{Change, Event, Frame, Clock, Expire, Operator}
 use Rattle.machine.specs.State.{Transaction, Was, Invocation, Dialogue, State}
-use Rattle.machine.specs.Transactions.{transact, ContinueComes, Row, Fate, ForIt}
+use Rattle.machine.specs.Transactions.{transact, ContinueComes, Row, Disposition, ForIt}
 use Rattle.machine.specs.Outcome.{send}
 use Rattle.machine.specs.Routing.{asked}
 
@@ -24,26 +24,26 @@ pub data Turn : Type 0 where
   Changes : (imsi : List ℕ) → Change → Turn
 
 -- The transaction after a Continue, if the transaction table says that the Continue is for the dialogue.
-abbrev pub if_for_it : Fate → Option Transaction → Option Transaction
+abbrev pub if_for_it : Disposition → Option Transaction → Option Transaction
 if_for_it ForIt t = t
 if_for_it _ t = None
 
 -- the same of a row
 abbrev pub for_it : Option Row → Option Transaction
 for_it None = None
-for_it (Some row) = if_for_it row.fate row.after
+for_it (Some row) = if_for_it row.disposition row.after
 
 -- a Continue with the id of an open dialogue
 abbrev pub continue_for : (from origin id : List ℕ) → List Component → Dialogue → Option Transaction → Turn
 continue_for from origin id components dialogue None =
-    Dismissed (send from (SentAbort origin (Cause unrecognized_transaction_id)))
+    Dismissed (send from (SentAbort origin (Cause UNRECOGNIZED_TRANSACTION_ID)))
 continue_for from origin id components dialogue (Some t) =
     Continues id (record dialogue { transaction = t }) components
 
 -- a Continue, whether a dialogue is open under its id or not
 abbrev pub continue_at : (from origin id : List ℕ) → List Component → Option Dialogue → Turn
 continue_at from origin id components None =
-    Dismissed (send from (SentAbort origin (Cause unrecognized_transaction_id)))
+    Dismissed (send from (SentAbort origin (Cause UNRECOGNIZED_TRANSACTION_ID)))
 continue_at from origin id components (Some dialogue) =
     continue_for from origin id components dialogue (for_it (transact (Some dialogue.transaction) (ContinueComes from origin)))
 

@@ -20,10 +20,12 @@ any_map p f h [] = refl
 any_map p f h (k ∷ ks) = rw (h k) (any_map p f h ks)
 
 module _ (L : Local) (D : List ℕ → Option Dialogue) (new : List ℕ) (before : SoundBefore L D) where
-  good_codes : (s : Subscriber) (codes : List ℕ) (g : Option Register) → L.record_of ≡ Some s → s.register ≡ g → s.withdrawn ≡ false → Good L D None None None new (codes_to L s codes new g)
+  good_codes : (s : Subscriber) (codes : List ℕ) (g : Option Register) → L.record_of ≡ Some s → s.register ≡ g → s.withdrawn ≡ false
+      → Good L D None None None new (codes_to L s codes new g)
   good_codes s codes None r g w = record {
     known = sym (ap (λ o. is_some o) r);
-    sound = λ f u e. subst (λ v. SoundRecord D L.imsi v) (some_inj _ _ _ refl e) (record { mark = tt; purged = (before s r).purged; withdrawn = λ h. absurd (both_ways _ w h) });
+    sound = λ f u e. subst (λ v. SoundRecord D L.imsi v) (some_inj _ _ _ refl e)
+        (record { mark = tt; purged = (before s r).purged; withdrawn = λ h. absurd (both_ways _ w h) });
     stays = λ d e. no_opens d _ e;
     opens = λ d e. no_opens d _ e;
     alone = λ d j e. no_opens d _ e;
@@ -57,14 +59,19 @@ module _ (L : Local) (D : List ℕ → Option Dialogue) (new : List ℕ) (before
         known = sym (ap (λ o. is_some o) r);
         sound = λ f u e. subst (λ v. SoundRecord (put D new (Some (data_to L reg codes))) L.imsi v) (some_inj _ _ _ refl e) (sound_changed _);
         stays = λ d e. no_opens d _ e;
-        opens = λ d e. (let P : Dialogue → Type 0 = λ v. Like L.imsi None v in subst P (some_inj _ _ _ refl e) (record { subscriber = refl; has_sent = refl; vlr_is = refl; rising = rising_inserts L.clock codes }), ap (λ o. is_some o) r);
+        opens = λ d e. (
+          let P : Dialogue → Type 0 = λ v. Like L.imsi None v in subst P (some_inj _ _ _ refl e)
+              (record { subscriber = refl; has_sent = refl; vlr_is = refl; rising = rising_inserts L.clock codes }),
+          ap (λ o. is_some o) r,
+        );
         alone = λ d j e i. absurd (none_some j None refl i);
         holds = λ v. no_cancel L.imsi (is_some L.record_of) None (serving L.record_of) v ∙ ap (λ o. serving o v) r;
         others = λ y b h v e. no_cancel y false b h v;
       }
         where
           no_cancel : Quiet (send reg.vlr (SentBegin new SubscriberDataMngt (inserts (Some L.imsi) s.msisdn codes)))
-          no_cancel y is_y b h v = rw (any_map (is_cancel_of y) (λ k. Insert (pos (k + 2)) (Some L.imsi) None (take 8 (drop (8 * (k + 1)) codes))) (λ k. refl) (below (further codes))) refl
+          no_cancel y is_y b h v = rw (any_map (is_cancel_of y) (λ k. Insert (pos (k + 2)) (Some L.imsi) None (take 8 (drop (8 * (k + 1)) codes))) (λ k. refl)
+              (below (further codes))) refl
 
   good_withdraw : (s : Subscriber) (g : Option Register) → L.record_of ≡ Some s → s.register ≡ g → Good L D None None None new (withdraw_from L s new g)
   good_withdraw s None r g = record {
@@ -78,9 +85,14 @@ module _ (L : Local) (D : List ℕ → Option Dialogue) (new : List ℕ) (before
   }
   good_withdraw s (Some reg) r g = record {
     known = sym (ap (λ o. is_some o) r);
-    sound = λ f u e. subst (λ v. SoundRecord (put D new (Some (cancel L reg.vlr 1 SubscriptionWithdraw))) L.imsi v) (some_inj _ _ _ refl e) (record { mark = tt; purged = λ n. refl; withdrawn = λ h. (refl, refl) });
+    sound = λ f u e. subst (λ v. SoundRecord (put D new (Some (cancel L reg.vlr 1 SubscriptionWithdraw))) L.imsi v) (some_inj _ _ _ refl e)
+        (record { mark = tt; purged = λ n. refl; withdrawn = λ h. (refl, refl) });
     stays = λ d e. no_opens d _ e;
-    opens = λ d e. (let P : Dialogue → Type 0 = λ v. Like L.imsi None v in subst P (some_inj _ _ _ refl e) (record { subscriber = refl; has_sent = refl; vlr_is = refl; rising = (tt, tt) }), ap (λ o. is_some o) r);
+    opens = λ d e. (
+      let P : Dialogue → Type 0 = λ v. Like L.imsi None v in subst P (some_inj _ _ _ refl e)
+          (record { subscriber = refl; has_sent = refl; vlr_is = refl; rising = (tt, tt) }),
+      ap (λ o. is_some o) r,
+    );
     alone = λ d j e i. absurd (none_some j None refl i);
     holds = λ v. rw (same_refl L.imsi) (ap (λ o. removed reg.vlr (serving o) v) r ∙ ap (λ o. removed reg.vlr (served_by o) v) g ∙ nobody_left (same reg.vlr v));
     others = λ y b h v o. let e : same L.imsi y ≡ false = other_is L y (ap (λ q. is_some q) r) o in rw e;

@@ -1,5 +1,5 @@
 -- Counting open dialogues: one less and one more.
-use Rattle.std.proofs.Common.{◌≡◌, ◌+◌, ◌≤◌, ◌<◌, ℕ, suc, List, [], ◌∷◌, Bool, true, false, cond, length, refl, sym, ap, ◌∙◌, subst, ◌⊎◌, inl, inr, arith, take, length-take-le, Option, Some, None}
+use Rattle.std.proofs.Common.{◌≡◌, ◌≤◌, ◌<◌, ℕ, suc, List, [], ◌∷◌, Bool, true, false, cond, length, refl, sym, ◌∙◌, subst, inl, inr, arith, take, None}
 use Rattle.machine.specs.Keys.{AreDifferent, Every, IsIn, IsNotIn, same, shard_of_id}
 use Rattle.machine.specs.State.{IsFull, State}
 use Rattle.machine_laws.proofs.Keys.{same_is, same_not}
@@ -107,7 +107,9 @@ no_more (i ∷ is) js d h =
     omega arith
 
 -- a shard whose table has each open id and fewer than 4,096 is not full
-pub not_full : (S : State) (n : ℕ) (table : List (List ℕ)) → ((i : List ℕ) → shard_of_id i ≡ n → (S.dialogues i ≡ None → ⊥) → IsIn i table) → length table < 4096 → IsFull S n → ⊥
+pub not_full : (S : State) (n : ℕ) (table : List (List ℕ)) → ((i : List ℕ) → shard_of_id i ≡ n → (S.dialogues i ≡ None → ⊥) → IsIn i table)
+    → length table < 4096 → IsFull S n → ⊥
 not_full S n table h small (is, o, len) =
-    let most : length is ≤ length table = no_more is table o.different (every_to (λ i. (shard_of_id i ≡ n) × (S.dialogues i ≡ None → ⊥)) (λ i. IsIn i table) (λ i q. h i q.0 q.1) is o.open_ones) in
+    let most : length is ≤ length table = no_more is table o.different
+    (every_to (λ i. (shard_of_id i ≡ n) × (S.dialogues i ≡ None → ⊥)) (λ i. IsIn i table) (λ i q. h i q.0 q.1) is o.open_ones) in
     omega arith

@@ -7,18 +7,18 @@ use Rattle.std.specs.FinMap.{nat_cmp-IsAntisymmetric, int_cmp-IsAntisymmetric, s
 use Rattle.std.proofs.lemmas.Bool.{both_ways}
 use Rattle.machine.specs.Step.{Answer, Full, Moves, Step, Taken, TurnedAway, moved, named_stays, new_opens, outcome, outcome_in, seen, taken, ticked}
 use Rattle.machine.specs.Received.{Argument, BadValue, Component, Purge, Register, Route, Update}
-use Rattle.machine.specs.Begins.{Asker, answered, begins, begins_in, begins_named, begun, is_allowed, procedure, update_begins, update_opened}
+use Rattle.machine.specs.Begins.{Initiator, end_of_begin, begins, begins_in, begins_named, begun, is_allowed, procedure, update_begins, update_opened}
 use Rattle.machine.specs.Turns.{Begins, Changes, Closes, Continues, Dismissed, Expires, Expiry, NoneDue, OneDue, Ticks, Turn, TurnsTo, concern, invocation_of, named, triple_cmp}
 use Rattle.machine.specs.Sent.{CancellationType, Cause, Context, Rejection, SentAbort, SentError, UpdateProcedure, UpdateResult}
 use Rattle.machine.specs.State.{Cancels, Data, Dialogue, Invocation, Kind, Local, OperationSent, State, Subscriber, Updates, WaitForReject, Was}
 use Rattle.machine.specs.Events.{Change, Clock, Codes, Event, Expire, Frame, Operator, Withdraw}
 use Rattle.machine.specs.Effect.{Conclusion, Effect, GoesOn, HasFailed, HasSucceeded, effect}
-use Rattle.machine.specs.Outcome.{Outcome, cancel, ended, is_marked, send, unchanged}
+use Rattle.machine.specs.Outcome.{Outcome, cancel, end_in_dialogue, is_marked, send, unchanged}
 use Rattle.machine.specs.Contexts.{accepted}
 use Rattle.machine.specs.Expiries.{cancel_expires, expires, is_repeated, sent_expires}
 use Rattle.machine.specs.Changes.{change_to, changes, codes_to, data_to, withdraw_from}
 use Rattle.machine.specs.Dialogues.{continues_as, offer_to, update_completes, update_continues, update_done, update_fails}
-use Rattle.machine.specs.Numbers.{no_resources, roaming_not_allowed, unknown_subscriber}
+use Rattle.machine.specs.declared.numbers.TheConstants.{RESOURCE_LIMITATION, ROAMING_NOT_ALLOWED, UNKNOWN_SUBSCRIBER}
 use Rattle.machine.specs.Keys.{put, same}
 use Rattle.machine.specs.Routing.{route}
 use Rattle.machine_laws.proofs.Keys.{none_some, some_inj}
@@ -36,24 +36,26 @@ both_open : (o p : Outcome) (d f : Dialogue) → o.opens ≡ Some d → p.opens 
 both_open o p d f q r = record { opens = ap (λ x. is_some x) q ∙ sym (ap (λ x. is_some x) r); alike = λ n. absurd (none_some d _ n q) }
 
 module _ (L : Local) (new old : List ℕ) where
-  free_update : (a : Asker) (k : ℤ) (reg : Register) (R : Option Subscriber) → Free (update_begins L a k reg R new) (update_begins L a k reg R old)
+  free_update : (a : Initiator) (k : ℤ) (reg : Register) (R : Option Subscriber) → Free (update_begins L a k reg R new) (update_begins L a k reg R old)
   free_update a k reg None = one _ _ refl
   free_update a k reg (Some s) = by s.withdrawn (is_allowed s.roam reg.vlr)
     where
       by : (w t : Bool) → Free
-          (cond w (unchanged L (answered a (SentError k unknown_subscriber ∷ []))) (cond t (update_opened L a k reg s new) (unchanged L (answered a (SentError k roaming_not_allowed ∷ [])))))
-          (cond w (unchanged L (answered a (SentError k unknown_subscriber ∷ []))) (cond t (update_opened L a k reg s old) (unchanged L (answered a (SentError k roaming_not_allowed ∷ [])))))
+          (cond w (unchanged L (end_of_begin a (SentError k UNKNOWN_SUBSCRIBER ∷ [])))
+          (cond t (update_opened L a k reg s new) (unchanged L (end_of_begin a (SentError k ROAMING_NOT_ALLOWED ∷ [])))))
+          (cond w (unchanged L (end_of_begin a (SentError k UNKNOWN_SUBSCRIBER ∷ [])))
+          (cond t (update_opened L a k reg s old) (unchanged L (end_of_begin a (SentError k ROAMING_NOT_ALLOWED ∷ [])))))
       by true t = one _ _ refl
       by false true = both_open _ _ _ _ refl refl
       by false false = one _ _ refl
 
-  free_procedure : (a : Asker) (k : ℤ) (p : Argument) → Free (procedure L a k p new) (procedure L a k p old)
+  free_procedure : (a : Initiator) (k : ℤ) (p : Argument) → Free (procedure L a k p new) (procedure L a k p old)
   free_procedure a k (Update imsi reg) = free_update a k reg L.record_of
   free_procedure a k (Purge imsi vlr) = one _ _ refl
   free_procedure a k (Route msisdn) = one _ _ refl
   free_procedure a k BadValue = one _ _ refl
 
-  free_begun : (a : Asker) (s : Option ℤ) (p : Option Argument) → Free (begun L a s p new) (begun L a s p old)
+  free_begun : (a : Initiator) (s : Option ℤ) (p : Option Argument) → Free (begun L a s p new) (begun L a s p old)
   free_begun a None p = one _ _ refl
   free_begun a (Some k) None = one _ _ refl
   free_begun a (Some k) (Some p) = free_procedure a k p
@@ -62,7 +64,8 @@ module _ (L : Local) (new old : List ℕ) where
   free_begins_in from r c [] = one _ _ refl
   free_begins_in from r c (k ∷ ks) = free_begun _ _ _
 
-  free_named : (from r name : List ℕ) (c : Option Context) (cs : List Component) → Free (begins_named L from r name c cs new) (begins_named L from r name c cs old)
+  free_named : (from r name : List ℕ) (c : Option Context) (cs : List Component)
+      → Free (begins_named L from r name c cs new) (begins_named L from r name c cs old)
   free_named from r name None cs = one _ _ refl
   free_named from r name (Some c) cs = free_begins_in from r c cs
 
@@ -70,21 +73,28 @@ module _ (L : Local) (new old : List ℕ) where
   free_begins from r None cs = one _ _ refl
   free_begins from r (Some name) cs = free_named from r name (accepted name) cs
 
-  free_completes : (i : List ℕ) (d : Dialogue) (reg : Register) (k : ℤ) (rejects : List Rejection) (R : Option Subscriber) → Free (update_completes L i d reg k rejects new R) (update_completes L i d reg k rejects old R)
+  free_completes : (i : List ℕ) (d : Dialogue) (reg : Register) (k : ℤ) (rejects : List Rejection) (R : Option Subscriber)
+      → Free (update_completes L i d reg k rejects new R) (update_completes L i d reg k rejects old R)
   free_completes i d reg k rejects None = one _ _ refl
   free_completes i d reg k rejects (Some s) = by (is_marked s.current i)
     where
-      done : (g : Option Register) → Free (update_done L reg s (ended d.transaction d.transaction.remote rejects (UpdateResult k L.hlr ∷ [])) new g) (update_done L reg s (ended d.transaction d.transaction.remote rejects (UpdateResult k L.hlr ∷ [])) old g)
+      done : (g : Option Register) → Free (update_done L reg s (end_in_dialogue d.transaction d.transaction.remote rejects (UpdateResult k L.hlr ∷ [])) new g)
+          (update_done L reg s (end_in_dialogue d.transaction d.transaction.remote rejects (UpdateResult k L.hlr ∷ [])) old g)
       done None = one _ _ refl
       done (Some g) = same_digits (same g.vlr reg.vlr) refl
         where
-          same_digits : (t : Bool) → same g.vlr reg.vlr ≡ t → Free (update_done L reg s (ended d.transaction d.transaction.remote rejects (UpdateResult k L.hlr ∷ [])) new (Some g)) (update_done L reg s (ended d.transaction d.transaction.remote rejects (UpdateResult k L.hlr ∷ [])) old (Some g))
+          same_digits : (t : Bool) → same g.vlr reg.vlr ≡ t → Free
+              (update_done L reg s (end_in_dialogue d.transaction d.transaction.remote rejects (UpdateResult k L.hlr ∷ [])) new (Some g))
+              (update_done L reg s (end_in_dialogue d.transaction d.transaction.remote rejects (UpdateResult k L.hlr ∷ [])) old (Some g))
           same_digits true q = one _ _ (rw q refl)
-          same_digits false q = both_open _ _ _ _ (ap (λ b. cond b None (Some (cancel L g.vlr 1 UpdateProcedure))) q) (ap (λ b. cond b None (Some (cancel L g.vlr 1 UpdateProcedure))) q)
+          same_digits false q = both_open _ _ _ _ (ap (λ b. cond b None (Some (cancel L g.vlr 1 UpdateProcedure))) q)
+              (ap (λ b. cond b None (Some (cancel L g.vlr 1 UpdateProcedure))) q)
 
       by : (t : Bool) → Free
-          (cond t (update_done L reg s (ended d.transaction d.transaction.remote rejects (UpdateResult k L.hlr ∷ [])) new s.register) (update_fails L i d k rejects))
-          (cond t (update_done L reg s (ended d.transaction d.transaction.remote rejects (UpdateResult k L.hlr ∷ [])) old s.register) (update_fails L i d k rejects))
+          (cond t (update_done L reg s (end_in_dialogue d.transaction d.transaction.remote rejects (UpdateResult k L.hlr ∷ [])) new s.register)
+          (update_fails L i d k rejects))
+          (cond t (update_done L reg s (end_in_dialogue d.transaction d.transaction.remote rejects (UpdateResult k L.hlr ∷ [])) old s.register)
+          (update_fails L i d k rejects))
       by true = done s.register
       by false = one _ _ refl
 
@@ -102,8 +112,10 @@ module _ (L : Local) (new old : List ℕ) where
   free_expires i d j WaitForReject = one _ _ refl
   free_expires i d j OperationSent = by d.kind
     where
-      again : (vlr : List ℕ) (attempt : ℕ) (cancellation : CancellationType) (t : Bool) → (is_repeated L vlr attempt) ≡ t → Free (cancel_expires L d vlr attempt cancellation new) (cancel_expires L d vlr attempt cancellation old)
-      again vlr attempt cancellation true q = both_open _ _ _ _ (ap (λ b. cond b (Some (cancel L vlr (attempt + 1) cancellation)) None) q) (ap (λ b. cond b (Some (cancel L vlr (attempt + 1) cancellation)) None) q)
+      again : (vlr : List ℕ) (attempt : ℕ) (cancellation : CancellationType) (t : Bool) → (is_repeated L vlr attempt) ≡ t
+          → Free (cancel_expires L d vlr attempt cancellation new) (cancel_expires L d vlr attempt cancellation old)
+      again vlr attempt cancellation true q = both_open _ _ _ _ (ap (λ b. cond b (Some (cancel L vlr (attempt + 1) cancellation)) None) q)
+          (ap (λ b. cond b (Some (cancel L vlr (attempt + 1) cancellation)) None) q)
       again vlr attempt cancellation false q = one _ _ (rw q refl)
 
       by : (kind : Kind) → Free (sent_expires L i d kind new) (sent_expires L i d kind old)
@@ -166,9 +178,11 @@ pub record SameTriple (t : ℕ) (i : List ℕ) (j : ℤ) (t' : ℕ) (i' : List �
   pub id : i ≡ i'
   pub invoke : j ≡ j'
 
-pub same_triple : (t : ℕ) (i : List ℕ) (j : ℤ) (t' : ℕ) (i' : List ℕ) (j' : ℤ) → is_gt (triple_cmp t i j t' i' j') ≡ false → is_gt (triple_cmp t' i' j' t i j) ≡ false → SameTriple t i j t' i' j'
+pub same_triple : (t : ℕ) (i : List ℕ) (j : ℤ) (t' : ℕ) (i' : List ℕ) (j' : ℤ) → is_gt (triple_cmp t i j t' i' j') ≡ false
+    → is_gt (triple_cmp t' i' j' t i j) ≡ false → SameTriple t i j t' i' j'
 same_triple t i j t' i' j' h g =
-    let a : Level (nat_cmp t t') (ordering_then (slice_cmp nat_cmp i i') (int_cmp j j')) (ordering_then (slice_cmp nat_cmp i' i) (int_cmp j' j)) = level _ _ _ _ (nat_cmp_total.antisymm t t') h g in
+    let a : Level (nat_cmp t t') (ordering_then (slice_cmp nat_cmp i i') (int_cmp j j')) (ordering_then (slice_cmp nat_cmp i' i) (int_cmp j' j)) = level _ _ _ _
+    (nat_cmp_total.antisymm t t') h g in
     let b : Level (slice_cmp nat_cmp i i') (int_cmp j j') (int_cmp j' j) = level _ _ _ _ (nat_list_cmp_total.antisymm i i') a.first a.second in
     record {
       deadline = nat_cmp-IsAntisymmetric t t' a.equal;
@@ -180,7 +194,8 @@ pub expiry_one : (S : State) (n : ℕ) (turn come : Turn) → Expiry S n turn �
 expiry_one S n turn come (OneDue i d j v due least is) (OneDue i' d' j' v' due' least' is') =
     let t : SameTriple v.deadline i j v'.deadline i' j' = same_triple v.deadline i j v'.deadline i' j' (least i' d' j' v' due') (least' i d j v due) in
     let same_dialogue : d ≡ d' = some_inj d d' _ due.is_open (ap S.dialogues t.id ∙ due'.is_open) in
-    let same_invocation : v ≡ v' = some_inj v v' _ due.stands (ap (λ k. invocation_of k d.invocations) t.invoke ∙ ap (λ (f : Dialogue). invocation_of j' f.invocations) same_dialogue ∙ due'.stands) in
+    let same_invocation : v ≡ v' = some_inj v v' _ due.stands (ap (λ k. invocation_of k d.invocations) t.invoke
+    ∙ ap (λ (f : Dialogue). invocation_of j' f.invocations) same_dialogue ∙ due'.stands) in
     is ∙ ap (λ k. Expires k d j v.was) t.id ∙ ap (λ f. Expires i' f j v.was) same_dialogue ∙ ap (λ k. Expires i' d' k v.was) t.invoke ∙ ap (λ (w : Invocation). Expires i' d' j' w.was) same_invocation ∙ sym is'
 expiry_one S n turn come (OneDue i d j v due least is) (NoneDue none is') = absurd (none i d j v due)
 expiry_one S n turn come (NoneDue none is) (OneDue i' d' j' v' due' least' is') = absurd (none i' d' j' v' due')
@@ -204,7 +219,8 @@ module _ (S : State) (e : Event) (turn : Turn) (new old : List ℕ) where
   moved_alike : (o : Outcome) → o.opens ≡ None → moved S (concern S.directory turn) (named turn) new o ≡ moved S (concern S.directory turn) (named turn) old o
   moved_alike o n = by (concern S.directory turn)
     where
-      opens_alike : (opens : Option Dialogue) → opens ≡ None → new_opens new opens (named_stays (named turn) o.stays S.dialogues) ≡ new_opens old opens (named_stays (named turn) o.stays S.dialogues)
+      opens_alike : (opens : Option Dialogue) → opens ≡ None → new_opens new opens (named_stays (named turn) o.stays S.dialogues)
+          ≡ new_opens old opens (named_stays (named turn) o.stays S.dialogues)
       opens_alike None q = refl
       opens_alike (Some d) q = absurd (none_some d _ q refl)
 
@@ -212,19 +228,23 @@ module _ (S : State) (e : Event) (turn : Turn) (new old : List ℕ) where
       by None = refl
       by (Some x) = λ k. record { records = put S.records x o.after; dialogues = opens_alike o.opens n k; clocks = S.clocks; directory = S.directory; hlr = S.hlr }
 
-  moves_one : (T U : State) (a b : Answer) → Moves S (route S.directory e) turn new (outcome_in S (route S.directory e) turn new) T a → Moves S (route S.directory e) turn old (outcome_in S (route S.directory e) turn old) U b → a.id ≡ b.id → (T ≡ U) × (a ≡ b)
+  moves_one : (T U : State) (a b : Answer) → Moves S (route S.directory e) turn new (outcome_in S (route S.directory e) turn new) T a
+      → Moves S (route S.directory e) turn old (outcome_in S (route S.directory e) turn old) U b → a.id ≡ b.id → (T ≡ U) × (a ≡ b)
   moves_one T U a b m w i = by (outcome_in S (route S.directory e) turn new).opens refl
     where
       o : Outcome
       o = outcome_in S (route S.directory e) turn new
 
-      together : (outcome_in S (route S.directory e) turn new ≡ outcome_in S (route S.directory e) turn old) → (moved S (concern S.directory turn) (named turn) new (outcome_in S (route S.directory e) turn new) ≡ moved S (concern S.directory turn) (named turn) old (outcome_in S (route S.directory e) turn new)) → (T ≡ U) × (a ≡ b)
+      together : (outcome_in S (route S.directory e) turn new ≡ outcome_in S (route S.directory e) turn old)
+          → (moved S (concern S.directory turn) (named turn) new (outcome_in S (route S.directory e) turn new)
+          ≡ moved S (concern S.directory turn) (named turn) old (outcome_in S (route S.directory e) turn new)) → (T ≡ U) × (a ≡ b)
       together same_o same_moved = (
         m.state ∙ ap (λ V. ticked turn V) same_moved ∙ ap (λ p. ticked turn (moved S (concern S.directory turn) (named turn) old p)) same_o ∙ sym w.state,
         answer_is a b i (m.subject ∙ sym w.subject) (m.sent ∙ ap (λ (p : Outcome). p.sent) same_o ∙ sym w.sent),
       )
 
-      some_both : (d : Dialogue) → (outcome_in S (route S.directory e) turn new).opens ≡ Some d → (q : Option Dialogue) → (outcome_in S (route S.directory e) turn old).opens ≡ q → new ≡ old
+      some_both : (d : Dialogue) → (outcome_in S (route S.directory e) turn new).opens ≡ Some d → (q : Option Dialogue)
+          → (outcome_in S (route S.directory e) turn old).opens ≡ q → new ≡ old
       some_both d q None r = absurd (both_ways _ (ap (λ x. is_some x) r) (sym free_here.opens ∙ ap (λ x. is_some x) q))
       some_both d q (Some f) r = some_inj new old _ (ap (λ p. taken new p) q) (sym (sym i ∙ m.id) ∙ w.id ∙ ap (λ p. taken old p) r)
 
@@ -232,31 +252,42 @@ module _ (S : State) (e : Event) (turn : Turn) (new old : List ℕ) where
       by None q = together (free_here.alike q) (moved_alike _ q)
       by (Some d) q =
           let same_id : new ≡ old = some_both d q (outcome_in S (route S.directory e) turn old).opens refl in
-          together (ap (λ k. outcome_in S (route S.directory e) turn k) same_id) (ap (λ k. moved S (concern S.directory turn) (named turn) k (outcome_in S (route S.directory e) turn new)) same_id)
+          together (ap (λ k. outcome_in S (route S.directory e) turn k) same_id)
+          (ap (λ k. moved S (concern S.directory turn) (named turn) k (outcome_in S (route S.directory e) turn new)) same_id)
 
   -- what is turned away does not move
-  not_both : (T U : State) (a b : Answer) → Moves S (route S.directory e) turn new (outcome_in S (route S.directory e) turn new) T a → TurnedAway S (route S.directory e) turn (outcome_in S (route S.directory e) turn old) U b → ⊥
+  not_both : (T U : State) (a b : Answer) → Moves S (route S.directory e) turn new (outcome_in S (route S.directory e) turn new) T a
+      → TurnedAway S (route S.directory e) turn (outcome_in S (route S.directory e) turn old) U b → ⊥
   not_both T U a b m t = m.room (record { opens = free_here.opens ∙ t.overflows.opens; beside = t.overflows.beside; full = t.overflows.full })
 
-  away_one : (T U : State) (a b : Answer) → TurnedAway S (route S.directory e) turn (outcome_in S (route S.directory e) turn new) T a → TurnedAway S (route S.directory e) turn (outcome_in S (route S.directory e) turn old) U b → (T ≡ U) × (a ≡ b)
+  away_one : (T U : State) (a b : Answer) → TurnedAway S (route S.directory e) turn (outcome_in S (route S.directory e) turn new) T a
+      → TurnedAway S (route S.directory e) turn (outcome_in S (route S.directory e) turn old) U b → (T ≡ U) × (a ≡ b)
   away_one T U a b t u =
       let same_begin : Begins t.from t.origin t.name t.components ≡ Begins u.from u.origin u.name u.components = sym t.begins ∙ u.begins in
       let same_from : t.from ≡ u.from = cc in
-      let same_origin : t.origin ≡ u.origin = cc in
-      (t.state ∙ sym u.state, answer_is a b (t.id ∙ sym u.id) (t.subject ∙ sym u.subject) (t.sent ∙ ap (λ (f : List ℕ). send f (SentAbort t.origin (Cause no_resources))) same_from ∙ ap (λ (r : List ℕ). send u.from (SentAbort r (Cause no_resources))) same_origin ∙ sym u.sent))
+      let same_origin : t.origin ≡ u.origin = cc in (
+        t.state ∙ sym u.state,
+        answer_is a b (t.id ∙ sym u.id) (t.subject ∙ sym u.subject) (t.sent ∙ ap (λ (f : List ℕ). send f
+            (SentAbort t.origin (Cause RESOURCE_LIMITATION))) same_from
+            ∙ ap (λ (r : List ℕ). send u.from (SentAbort r (Cause RESOURCE_LIMITATION))) same_origin ∙ sym u.sent),
+      )
 
 -- with one id, a step has one state and one answer
 pub determined : (S : State) (e : Event) (T U : State) (a b : Answer) → Step S e T a → Step S e U b → a.id ≡ b.id → (T ≡ U) × (a ≡ b)
 determined S e T U a b (Taken turn new c m) (Taken come old d w) i =
     let same_came : come ≡ turn = comes_one S e come turn d c in
-    let w' : Moves S (route S.directory e) turn old (outcome_in S (route S.directory e) turn old) U b = (let P : Turn → Type 0 = λ k. Moves S (route S.directory e) k old (outcome_in S (route S.directory e) k old) U b in subst P same_came w) in
+    let w' : Moves S (route S.directory e) turn old (outcome_in S (route S.directory e) turn old) U b =
+    (let P : Turn → Type 0 = λ k. Moves S (route S.directory e) k old (outcome_in S (route S.directory e) k old) U b in subst P same_came w) in
     moves_one S e turn new old T U a b m w' i
 determined S e T U a b (Taken turn new c m) (Full come old d t) i =
     let same_came : come ≡ turn = comes_one S e come turn d c in
-    absurd (not_both S e turn new old T U a b m (let P : Turn → Type 0 = λ k. TurnedAway S (route S.directory e) k (outcome_in S (route S.directory e) k old) U b in subst P same_came t))
+    absurd (not_both S e turn new old T U a b m (let P : Turn → Type 0 = λ k. TurnedAway S (route S.directory e) k
+    (outcome_in S (route S.directory e) k old) U b in subst P same_came t))
 determined S e T U a b (Full turn new c t) (Taken come old d w) i =
     let same_came : turn ≡ come = comes_one S e turn come c d in
-    absurd (not_both S e come old new U T b a w (let P : Turn → Type 0 = λ k. TurnedAway S (route S.directory e) k (outcome_in S (route S.directory e) k new) T a in subst P same_came t))
+    absurd (not_both S e come old new U T b a w (let P : Turn → Type 0 = λ k. TurnedAway S (route S.directory e) k
+    (outcome_in S (route S.directory e) k new) T a in subst P same_came t))
 determined S e T U a b (Full turn new c t) (Full come old d u) i =
     let same_came : come ≡ turn = comes_one S e come turn d c in
-    away_one S e turn new old T U a b t (let P : Turn → Type 0 = λ k. TurnedAway S (route S.directory e) k (outcome_in S (route S.directory e) k old) U b in subst P same_came u)
+    away_one S e turn new old T U a b t (let P : Turn → Type 0 = λ k. TurnedAway S (route S.directory e) k
+    (outcome_in S (route S.directory e) k old) U b in subst P same_came u)

@@ -22,12 +22,19 @@ the_update : Message
 the_update = begin_in NetworkLocUp (update_of first_imsi at_b ∷ [])
 
 -- it would open a dialogue
-update_opens : (S : State) (new : List ℕ) → S.records first_imsi ≡ Some first_record → IsTrue (is_some (outcome_in S 1 (turn_of_message S.dialogues vlr_b (begin_in NetworkLocUp (update_of first_imsi at_b ∷ []))) new).opens)
+update_opens : (S : State) (new : List ℕ) → S.records first_imsi ≡ Some first_record
+    → IsTrue (is_some (outcome_in S 1 (turn_of_message S.dialogues vlr_b (begin_in NetworkLocUp (update_of first_imsi at_b ∷ []))) new).opens)
 unfolding local_of effect accepted context_of
-update_opens S new r = ap (λ R. is_some (update_begins (local_of S 1 first_imsi) (record { from = vlr_b; origin = theirs; context = NetworkLocUp; rejects = [] }) (pos 1) at_b R new).opens) r
+update_opens S new r = ap (λ R. is_some (update_begins (local_of S 1 first_imsi)
+    (record { from = vlr_b; origin = theirs; context = NetworkLocUp; rejects = [] }) (pos 1) at_b R new).opens) r
 
 pub update_away : (S : State) → IsFull S 1 → S.records first_imsi ≡ Some first_record
-    → Step S (Frame vlr_b (Read (begin_in NetworkLocUp (update_of first_imsi at_b ∷ [])))) S (record { id = None; subject = Some first_imsi; sent = one vlr_b (SentAbort theirs (Cause 4)) })
+    → Step S (Frame vlr_b (Read (begin_in NetworkLocUp (update_of first_imsi at_b ∷ [])))) S (record {
+      id = None;
+      subject = Some first_imsi;
+      sent = one vlr_b
+          (SentAbort theirs (Cause 4));
+    })
 unfolding shard_of
 update_away S full r = Full (turn_of_message S.dialogues vlr_b (begin_in NetworkLocUp (update_of first_imsi at_b ∷ []))) [] refl (record {
   from = vlr_b;
@@ -44,14 +51,25 @@ update_away S full r = Full (turn_of_message S.dialogues vlr_b (begin_in Network
 
 pub withdrawal_without_room : (S : State) → IsFull S 1 → S.records first_imsi ≡ Some first_record → HasNoRoom S (Operator first_imsi Withdraw)
 unfolding shard_of local_of
-withdrawal_without_room S full r = ([], record { opens = ap (λ R. is_some (changes (local_of S 1 first_imsi) Withdraw R []).opens) r; beside = refl; full = full })
+withdrawal_without_room S full r = (
+  [],
+  record {
+    opens = ap (λ R. is_some
+        (changes (local_of S 1 first_imsi) Withdraw R []).opens) r;
+    beside = refl;
+    full = full;
+  },
+)
 
 pub route_answered : (S : State) → IsFull S 1 → S.records first_imsi ≡ Some first_record → S.directory first_msisdn ≡ Some first_imsi
-    → (T : State) × (a : Answer) × Step S (Frame gateway (Read (begin_in ShortMsgGateway (route_of first_msisdn ∷ [])))) T a × (a.sent ≡ one gateway (SentEnd theirs (Some ShortMsgGateway) [] (RouteResult (pos 1) first_imsi at_a.msc None ∷ [])))
+    → (T : State) × (a : Answer) × Step S (Frame gateway (Read (begin_in ShortMsgGateway (route_of first_msisdn ∷ [])))) T a
+    × (a.sent ≡ one gateway (SentEnd theirs (Some ShortMsgGateway) [] (RouteResult (pos 1) first_imsi at_a.msc None ∷ [])))
 unfolding local_of effect accepted context_of
 route_answered S full r d = (
-  (play S (route S.directory (Frame gateway (Read (begin_in ShortMsgGateway (route_of first_msisdn ∷ []))))) (Begins gateway theirs (Some (name_of ShortMsgGateway)) (route_of first_msisdn ∷ [])) []).state,
-  (play S (route S.directory (Frame gateway (Read (begin_in ShortMsgGateway (route_of first_msisdn ∷ []))))) (Begins gateway theirs (Some (name_of ShortMsgGateway)) (route_of first_msisdn ∷ [])) []).answer,
+  (play S (route S.directory (Frame gateway (Read (begin_in ShortMsgGateway (route_of first_msisdn ∷ [])))))
+      (Begins gateway theirs (Some (name_of ShortMsgGateway)) (route_of first_msisdn ∷ [])) []).state,
+  (play S (route S.directory (Frame gateway (Read (begin_in ShortMsgGateway (route_of first_msisdn ∷ [])))))
+      (Begins gateway theirs (Some (name_of ShortMsgGateway)) (route_of first_msisdn ∷ [])) []).answer,
   Taken (Begins gateway theirs (Some (name_of ShortMsgGateway)) (route_of first_msisdn ∷ [])) [] refl (record {
     opens = λ t. absurd (both_ways false refl t);
     room = λ w. both_ways false refl w.opens;
@@ -60,6 +78,7 @@ route_answered S full r d = (
     subject = refl;
     sent = refl;
   }),
-  ap (λ o. (outcome (seen S (shard_asked (S.directory first_msisdn)) o) (Begins gateway theirs (Some (name_of ShortMsgGateway)) (route_of first_msisdn ∷ [])) []).sent) d
+  ap (λ o. (outcome (seen S (shard_asked (S.directory first_msisdn)) o)
+      (Begins gateway theirs (Some (name_of ShortMsgGateway)) (route_of first_msisdn ∷ [])) []).sent) d
       ∙ ap (λ R. send gateway (SentEnd theirs (Some ShortMsgGateway) [] (route_component (pos 1) (sm_route first_imsi R) ∷ []))) r,
 )

@@ -20,10 +20,16 @@ no_mark x D (Some j) e = absurd (none_some j _ e refl)
 
 -- no dialogue, no mark, and nothing else amiss in a record
 pub begins_sound : (S : State) → ((i : List ℕ) → S.dialogues i ≡ None)
-    → ((x : List ℕ) (s : Subscriber) → S.records x ≡ Some s → (s.current ≡ None) × (s.register ≡ None → s.purged ≡ false) × (s.withdrawn ≡ true → s.register ≡ None)) → Sound S
+    → ((x : List ℕ) (s : Subscriber) → S.records x ≡ Some s → (s.current ≡ None) × (s.register ≡ None → s.purged ≡ false)
+    × (s.withdrawn ≡ true → s.register ≡ None)) → Sound S
 begins_sound S none records = record {
   dialogues = λ i d e. absurd (none_some d _ (none i) e);
-  records = λ x s e. record { mark = no_mark x S.dialogues s.current (records x s e).0; purged = (records x s e).1; withdrawn = λ w. ((records x s e).2 w, (records x s e).0) };
+  records = λ x s e. record {
+    mark = no_mark x S.dialogues s.current (records x s e).0;
+    purged = (records x s e).1;
+    withdrawn = λ w.
+        ((records x s e).2 w, (records x s e).0);
+  };
   few = λ n is h. few_at n is h.open_ones;
 }
   where
@@ -32,7 +38,8 @@ begins_sound S none records = record {
     few_at n (i ∷ is) h = absurd (h.0.1 (none i))
 
 -- a step appends its entry
-pub legal_push : (n : ℕ) (base S T : State) (js : List Entry) (e : Event) (a : Answer) → Legal n base js S → route S.directory e ≡ n → Step S e T a → Legal n base (js ++ record { event = e; answer = a } ∷ []) T
+pub legal_push : (n : ℕ) (base S T : State) (js : List Entry) (e : Event) (a : Answer) → Legal n base js S → route S.directory e ≡ n → Step S e T a
+    → Legal n base (js ++ record { event = e; answer = a } ∷ []) T
 legal_push n base S T js e a legal r step =
     let leaves : Leaves S T n = subst (λ m. Leaves S T m) r (step_leaves S e T a legal.after_sound step) in
     legal_append n base S T js (record { event = e; answer = a } ∷ []) legal (record {

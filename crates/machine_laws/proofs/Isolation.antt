@@ -68,8 +68,10 @@ unfolding local_of
 is_record S n x = refl
 
 -- of the dialogues after, those of x are those before, if y is another
-outside_dialogues : (S : State) (n : ℕ) (x y : List ℕ) (i : Option (List ℕ)) (new : List ℕ) (o : Outcome) (began vlr : Option (List ℕ)) → Good (local_of S n y) S.dialogues i began vlr new o
-    → ((j : List ℕ) → i ≡ Some j → (d : Dialogue) × (S.dialogues j ≡ Some d) × (d.subscriber ≡ y)) → (IsTrue (is_some o.opens) → S.dialogues new ≡ None) → (y ≡ x → ⊥)
+outside_dialogues : (S : State) (n : ℕ) (x y : List ℕ) (i : Option (List ℕ)) (new : List ℕ) (o : Outcome) (began vlr : Option (List ℕ))
+    → Good (local_of S n y) S.dialogues i began vlr new o
+    → ((j : List ℕ) → i ≡ Some j → (d : Dialogue) × (S.dialogues j ≡ Some d) × (d.subscriber ≡ y)) → (IsTrue (is_some o.opens) → S.dialogues new ≡ None)
+    → (y ≡ x → ⊥)
     → (j : List ℕ) → if_of x (new_opens new o.opens (named_stays i o.stays S.dialogues) j) ≡ if_of x (S.dialogues j)
 outside_dialogues S n x y i new o began vlr good names is_new ne j = by (new_opens new o.opens (named_stays i o.stays S.dialogues) j) refl
   where
@@ -92,20 +94,26 @@ outside_dialogues S n x y i new o began vlr good names is_new ne j = by (new_ope
             named_one (Some k) ik = at_key (cases_same k j)
               where
                 at_key : (k ≡ j) ⊎ (k ≡ j → ⊥) → y ≡ x
-                at_key (inl kj) = let was : (f : Dialogue) × (S.dialogues j ≡ Some f) × (f.subscriber ≡ y) = names j (ik ∙ ap (λ (q : List ℕ). Some q) kj) in sym was.2 ∙ ap (λ (f : Dialogue). f.subscriber) (some_inj was.0 d _ was.1 e) ∙ s
+                at_key (inl kj) = let was : (f : Dialogue) × (S.dialogues j ≡ Some f)
+                    × (f.subscriber ≡ y) = names j (ik ∙ ap (λ (q : List ℕ). Some q) kj) in sym was.2
+                    ∙ ap (λ (f : Dialogue). f.subscriber) (some_inj was.0 d _ was.1 e) ∙ s
                 at_key (inr kj) = absurd (stays_there (λ h. kj (some_inj k j _ ik h)))
 
     from_some : (d : Dialogue) → From S i new o j d → if_of x (Some d) ≡ if_of x (S.dialogues j)
-    from_some d (Opened nj q) = if_of_not x (Some d) d refl (λ s. ne (sym ((good.opens d q).0.subscriber ∙ is_imsi S n y) ∙ s)) ∙ sym (ap (λ r. if_of x r) (ap S.dialogues (sym nj) ∙ is_new (ap (λ r. is_some r) q)))
+    from_some d (Opened nj q) = if_of_not x (Some d) d refl (λ s. ne (sym ((good.opens d q).0.subscriber ∙ is_imsi S n y) ∙ s))
+        ∙ sym (ap (λ r. if_of x r) (ap S.dialogues (sym nj) ∙ is_new (ap (λ r. is_some r) q)))
     from_some d (Stayed ij q) = let was : (f : Dialogue) × (S.dialogues j ≡ Some f) × (f.subscriber ≡ y) = names j ij in
-        if_of_not x (Some d) d refl (λ s. ne (sym ((good.stays d q).subscriber ∙ is_imsi S n y) ∙ s)) ∙ sym (if_of_not x (S.dialogues j) was.0 was.1 (λ s. ne (sym was.2 ∙ s)))
+        if_of_not x (Some d) d refl (λ s. ne (sym ((good.stays d q).subscriber ∙ is_imsi S n y) ∙ s))
+        ∙ sym (if_of_not x (S.dialogues j) was.0 was.1 (λ s. ne (sym was.2 ∙ s)))
     from_some d (Was_there e h) = ap (λ q. if_of x q) (sym e)
 
-    by : (q : Option Dialogue) → new_opens new o.opens (named_stays i o.stays S.dialogues) j ≡ q → if_of x (new_opens new o.opens (named_stays i o.stays S.dialogues) j) ≡ if_of x (S.dialogues j)
+    by : (q : Option Dialogue) → new_opens new o.opens (named_stays i o.stays S.dialogues) j ≡ q
+        → if_of x (new_opens new o.opens (named_stays i o.stays S.dialogues) j) ≡ if_of x (S.dialogues j)
     by None q = ap (λ r. if_of x r) q ∙ was_none (S.dialogues j) refl q
     by (Some d) q = ap (λ r. if_of x r) q ∙ from_some d (from S i new o j d q)
 
-outside_moved : (S : State) (e : Event) (turn : Turn) (new x y : List ℕ) (T : State) (a : Answer) → Sound S → View S e turn → concern S.directory turn ≡ Some y → Moves S (route S.directory e) turn new (outcome_in S (route S.directory e) turn new) T a → is_subject x a.subject ≡ false → SameAfter x S T
+outside_moved : (S : State) (e : Event) (turn : Turn) (new x y : List ℕ) (T : State) (a : Answer) → Sound S → View S e turn → concern S.directory turn ≡ Some y
+    → Moves S (route S.directory e) turn new (outcome_in S (route S.directory e) turn new) T a → is_subject x a.subject ≡ false → SameAfter x S T
 outside_moved S e turn new x y T a sound v c m sub =
     let n : ℕ = route S.directory e in
     let o : Outcome = outcome (local_of S n y) turn new in
@@ -133,23 +141,29 @@ outside_moved S e turn new x y T a sound v c m sub =
       where
         by : (r : Option Subscriber) → S.records y ≡ r → S.records y ≡ None
         by None q = q
-        by (Some s) q = absurd (both_ways _ (sym (ap (λ p. is_subject x p) (m.subject ∙ subject_known S e turn sound v ∙ ap (λ p. known_in S p) c ∙ ap (λ p. if_known y p) q)) ∙ sub) (is_same y x yx))
+        by (Some s) q = absurd (both_ways _ (sym (ap (λ p. is_subject x p)
+            (m.subject ∙ subject_known S e turn sound v ∙ ap (λ p. known_in S p) c ∙ ap (λ p. if_known y p) q)) ∙ sub) (is_same y x yx))
 
     none_of : (o : Option Subscriber) → is_some o ≡ false → o ≡ None
     none_of None h = refl
     none_of (Some s) h = absurd (both_ways true h refl)
 
     record_at : (y ≡ x) ⊎ (y ≡ x → ⊥) → put S.records y (outcome (local_of S (route S.directory e) y) turn new).after x ≡ S.records x
-    record_at (inl yx) = put-at S.records y _ x yx ∙ none_of _ (f.good.known ∙ ap (λ r. is_some r) (is_record S (route S.directory e) y ∙ no_record yx)) ∙ sym (sym (ap S.records yx) ∙ no_record yx)
+    record_at (inl yx) = put-at S.records y _ x yx ∙ none_of _ (f.good.known ∙ ap (λ r. is_some r) (is_record S (route S.directory e) y ∙ no_record yx))
+        ∙ sym (sym (ap S.records yx) ∙ no_record yx)
     record_at (inr ne) = put-other S.records y _ x ne
 
     is_new : IsTrue (is_some (outcome (local_of S (route S.directory e) y) turn new).opens) → S.dialogues new ≡ None
     is_new t = (m.opens (ap (λ (q : Outcome). is_some q.opens) (outcome_of S (route S.directory e) turn y new c) ∙ t)).is_new
 
-    dialogue_at : (j : List ℕ) → (y ≡ x) ⊎ (y ≡ x → ⊥) → if_of x (new_opens new (outcome (local_of S (route S.directory e) y) turn new).opens (named_stays (named turn) (outcome (local_of S (route S.directory e) y) turn new).stays S.dialogues) j) ≡ if_of x (S.dialogues j)
+    dialogue_at : (j : List ℕ) → (y ≡ x) ⊎ (y ≡ x → ⊥) → if_of x
+        (new_opens new (outcome (local_of S (route S.directory e) y) turn new).opens
+        (named_stays (named turn) (outcome (local_of S (route S.directory e) y) turn new).stays S.dialogues) j) ≡ if_of x (S.dialogues j)
     dialogue_at j (inr ne) = outside_dialogues S (route S.directory e) x y (named turn) new _ _ _ f.good f.names is_new ne j
     dialogue_at j (inl yx) = ap (λ q. if_of x q) (others_stay S (named turn) new (outcome (local_of S (route S.directory e) y) turn new) j
-        (λ ij. let was : (d : Dialogue) × (S.dialogues j ≡ Some d) × (d.subscriber ≡ y) = f.names j ij in both_ways _ (ap (λ r. is_some r) (ap S.records was.2 ∙ no_record yx)) (sound.dialogues j was.0 was.1).has_record)
+        (λ ij. let was : (d : Dialogue) × (S.dialogues j ≡ Some d)
+        × (d.subscriber ≡ y) = f.names j ij in both_ways _ (ap (λ r. is_some r) (ap S.records was.2 ∙ no_record yx))
+        (sound.dialogues j was.0 was.1).has_record)
         (λ t nj. opens_none t))
       where
         opens_none : IsTrue (is_some (outcome (local_of S (route S.directory e) y) turn new).opens) → ⊥
@@ -160,7 +174,8 @@ outside_moved S e turn new x y T a sound v c m sub =
             by (Some d) r u = both_ways _ (ap (λ z. is_some z) (is_record S (route S.directory e) y ∙ no_record yx)) (f.good.opens d r).1
 
 -- an entry that is not x's leaves the record of x, the dialogues of x and the clocks
-pub step_outside : (x : List ℕ) (S : State) (e : Event) (T : State) (a : Answer) → Sound S → Step S e T a → is_of x (record { event = e; answer = a }) ≡ false → SameAfter x S T
+pub step_outside : (x : List ℕ) (S : State) (e : Event) (T : State) (a : Answer) → Sound S → Step S e T a → is_of x (record { event = e; answer = a }) ≡ false
+    → SameAfter x S T
 step_outside x S e T a sound step h = go (is_clock e) refl h step
   where
     go : (b : Bool) → is_clock e ≡ b → cond b true (is_subject x a.subject) ≡ false → Step S e T a → SameAfter x S T
@@ -190,10 +205,17 @@ none_too x S T i h e = go (T.dialogues i) refl
     go (Some d) q = absurd (none_some d _ e (there_before x S T i d h q))
 
 due_before : (x : List ℕ) (S T : State) (n : ℕ) (i : List ℕ) (d : Dialogue) (j : ℤ) (v : Invocation) → AgreeOf x S T → IsDue T n i d j v → IsDue S n i d j v
-due_before x S T n i d j v h due = record { of_shard = due.of_shard; is_open = there_before x S T i d h due.is_open; stands = due.stands; due = subst (λ c. v.deadline ≤ c) (h.clocks n) due.due }
+due_before x S T n i d j v h due = record {
+  of_shard = due.of_shard;
+  is_open = there_before x S T i d h due.is_open;
+  stands = due.stands;
+  due = subst
+      (λ c. v.deadline ≤ c) (h.clocks n) due.due;
+}
 
 -- a Continue for a dialogue of x
-continue_too : (x : List ℕ) (S T : State) (from r i : List ℕ) (cs : List Component) (turn : Turn) → AgreeOf x S T → turn ≡ continue_at from r i cs (S.dialogues i) → concern S.directory turn ≡ Some x → T.dialogues i ≡ S.dialogues i
+continue_too : (x : List ℕ) (S T : State) (from r i : List ℕ) (cs : List Component) (turn : Turn) → AgreeOf x S T
+    → turn ≡ continue_at from r i cs (S.dialogues i) → concern S.directory turn ≡ Some x → T.dialogues i ≡ S.dialogues i
 continue_too x S T from r i cs turn h is c = go (S.dialogues i) refl (sym (ap (λ k. concern S.directory k) is) ∙ c)
   where
     for_one : (d : Dialogue) (t : Option Transaction) → concern S.directory (continue_for from r i cs d t) ≡ Some x → d.subscriber ≡ x
@@ -204,20 +226,23 @@ continue_too x S T from r i cs turn h is c = go (S.dialogues i) refl (sym (ap (�
     go None e q = absurd (none_some x None refl q)
     go (Some d) e q = there_too x S T i d h e (for_one d (for_it (transact (Some d.transaction) (ContinueComes from r))) q) ∙ sym e
 
-close_too : (x : List ℕ) (S T : State) (i : List ℕ) (turn : Turn) → AgreeOf x S T → turn ≡ close_at i (S.dialogues i) → concern S.directory turn ≡ Some x → T.dialogues i ≡ S.dialogues i
+close_too : (x : List ℕ) (S T : State) (i : List ℕ) (turn : Turn) → AgreeOf x S T → turn ≡ close_at i (S.dialogues i) → concern S.directory turn ≡ Some x
+    → T.dialogues i ≡ S.dialogues i
 close_too x S T i turn h is c = go (S.dialogues i) refl (sym (ap (λ k. concern S.directory k) is) ∙ c)
   where
     go : (o : Option Dialogue) → S.dialogues i ≡ o → concern S.directory (close_at i o) ≡ Some x → T.dialogues i ≡ S.dialogues i
     go None e q = absurd (none_some x None refl q)
     go (Some d) e q = there_too x S T i d h e (some_inj d.subscriber x _ refl q) ∙ sym e
 
-message_too : (x : List ℕ) (S T : State) (from : List ℕ) (m : Message) (turn : Turn) → AgreeOf x S T → turn ≡ turn_of_message S.dialogues from m → concern S.directory turn ≡ Some x → turn ≡ turn_of_message T.dialogues from m
+message_too : (x : List ℕ) (S T : State) (from : List ℕ) (m : Message) (turn : Turn) → AgreeOf x S T → turn ≡ turn_of_message S.dialogues from m
+    → concern S.directory turn ≡ Some x → turn ≡ turn_of_message T.dialogues from m
 message_too x S T from (Begin r p cs) turn h is c = is
 message_too x S T from (Continue r i p cs) turn h is c = is ∙ ap (λ o. continue_at from r i cs o) (sym (continue_too x S T from r i cs turn h is c))
 message_too x S T from (End i p cs) turn h is c = is ∙ ap (λ o. close_at i o) (sym (close_too x S T i turn h is c))
 message_too x S T from (Abort i) turn h is c = is ∙ ap (λ o. close_at i o) (sym (close_too x S T i turn h is c))
 
-verdict_too : (x : List ℕ) (S T : State) (from : List ℕ) (v : Verdict) (turn : Turn) → AgreeOf x S T → turn ≡ turn_of_verdict S.dialogues from v → concern S.directory turn ≡ Some x → turn ≡ turn_of_verdict T.dialogues from v
+verdict_too : (x : List ℕ) (S T : State) (from : List ℕ) (v : Verdict) (turn : Turn) → AgreeOf x S T → turn ≡ turn_of_verdict S.dialogues from v
+    → concern S.directory turn ≡ Some x → turn ≡ turn_of_verdict T.dialogues from v
 verdict_too x S T from Discard turn h is c = is
 verdict_too x S T from (Refuse r k) turn h is c = is
 verdict_too x S T from (Read m) turn h is c = message_too x S T from m turn h is c
@@ -227,7 +252,13 @@ expiry_too : (x : List ℕ) (S T : State) (n : ℕ) (turn : Turn) → AgreeOf x 
 expiry_too x S T n turn h (OneDue i d j v due least is) c =
     let s : d.subscriber ≡ x = some_inj d.subscriber x _ refl (sym (ap (λ k. concern S.directory k) is) ∙ c) in
     OneDue i d j v
-    (record { of_shard = due.of_shard; is_open = there_too x S T i d h due.is_open s; stands = due.stands; due = subst (λ t. v.deadline ≤ t) (sym (h.clocks n)) due.due })
+    (record {
+      of_shard = due.of_shard;
+      is_open = there_too x S T i d h due.is_open s;
+      stands = due.stands;
+      due = subst (λ t. v.deadline ≤ t)
+          (sym (h.clocks n)) due.due;
+    })
     (λ i' d' j' v' q. least i' d' j' v' (due_before x S T n i' d' j' v' h q)) is
 expiry_too x S T n turn h (NoneDue none is) c = absurd (none_some x _ (sym c ∙ ap (λ k. concern S.directory k) is) refl)
 
@@ -238,10 +269,19 @@ comes_too x S T (Expire m) turn h k c = expiry_too x S T m turn h k c
 comes_too x S T (Operator y u) turn h k c = k
 
 full_before : (x : List ℕ) (S T : State) (n : ℕ) → AgreeOf x S T → IsFull T n → IsFull S n
-full_before x S T n h (is, o, len) = (is, record { different = o.different; open_ones = every_to (λ i. (shard_of_id i ≡ n) × (T.dialogues i ≡ None → ⊥)) (λ i. (shard_of_id i ≡ n) × (S.dialogues i ≡ None → ⊥)) (λ i q. (q.0, λ z. q.1 (none_too x S T i h z))) is o.open_ones }, len)
+full_before x S T n h (is, o, len) = (
+  is,
+  record {
+    different = o.different;
+    open_ones = every_to (λ i. (shard_of_id i ≡ n) × (T.dialogues i ≡ None → ⊥))
+        (λ i. (shard_of_id i ≡ n) × (S.dialogues i ≡ None → ⊥)) (λ i q. (q.0, λ z. q.1 (none_too x S T i h z))) is o.open_ones;
+  },
+  len,
+)
 
 -- what the step reads, if its subscriber is x or if the clock moves
-alike_with : (x : List ℕ) (S T : State) (e : Event) (turn : Turn) → AgreeOf x S T → TurnsTo T e turn → (c : Option (List ℕ)) → concern S.directory turn ≡ c → (c ≡ None) ⊎ (c ≡ Some x) → Alike S T e turn
+alike_with : (x : List ℕ) (S T : State) (e : Event) (turn : Turn) → AgreeOf x S T → TurnsTo T e turn → (c : Option (List ℕ)) → concern S.directory turn ≡ c
+    → (c ≡ None) ⊎ (c ≡ Some x) → Alike S T e turn
 alike_with x S T e turn h comes c q either = record {
   comes = comes;
   same_route = routes;
@@ -262,22 +302,27 @@ alike_with x S T e turn h comes c q either = record {
     clocks_same = ap T.clocks routes ∙ h.clocks (route S.directory e)
 
     seen_same : (c ≡ None) ⊎ (c ≡ Some x) → seen T (route T.directory e) c ≡ seen S (route S.directory e) c
-    seen_same (inl n) = ap (λ o. seen T (route T.directory e) o) n ∙ nobody_is S T (route T.directory e) (route S.directory e) clocks_same h.hlr ∙ ap (λ o. seen S (route S.directory e) o) (sym n)
-    seen_same (inr s) = ap (λ o. seen T (route T.directory e) o) s ∙ local_is S T (route T.directory e) (route S.directory e) x routes h.record_of h.dialogues clocks_same h.hlr ∙ ap (λ o. seen S (route S.directory e) o) (sym s)
+    seen_same (inl n) = ap (λ o. seen T (route T.directory e) o) n ∙ nobody_is S T (route T.directory e) (route S.directory e) clocks_same h.hlr
+        ∙ ap (λ o. seen S (route S.directory e) o) (sym n)
+    seen_same (inr s) = ap (λ o. seen T (route T.directory e) o) s
+        ∙ local_is S T (route T.directory e) (route S.directory e) x routes h.record_of h.dialogues clocks_same h.hlr
+        ∙ ap (λ o. seen S (route S.directory e) o) (sym s)
 
     subject_same : (c ≡ None) ⊎ (c ≡ Some x) → known_in T c ≡ known_in S c
     subject_same (inl n) = ap (λ o. known_in T o) n ∙ ap (λ o. known_in S o) (sym n)
     subject_same (inr s) = ap (λ o. known_in T o) s ∙ ap (λ o. if_known x o) h.record_of ∙ ap (λ o. known_in S o) (sym s)
 
 -- the dialogues of x afterwards
-of_put : (x : List ℕ) (D E : List ℕ → Option Dialogue) (k : List ℕ) (v : Option Dialogue) (j : List ℕ) → if_of x (D j) ≡ if_of x (E j) → if_of x (put D k v j) ≡ if_of x (put E k v j)
+of_put : (x : List ℕ) (D E : List ℕ → Option Dialogue) (k : List ℕ) (v : Option Dialogue) (j : List ℕ) → if_of x (D j) ≡ if_of x (E j)
+    → if_of x (put D k v j) ≡ if_of x (put E k v j)
 of_put x D E k v j h = go (cases_same k j)
   where
     go : (k ≡ j) ⊎ (k ≡ j → ⊥) → if_of x (put D k v j) ≡ if_of x (put E k v j)
     go (inl e) = ap (λ o. if_of x o) (put-at D k v j e ∙ sym (put-at E k v j e))
     go (inr ne) = ap (λ o. if_of x o) (put-other D k v j ne) ∙ h ∙ ap (λ o. if_of x o) (sym (put-other E k v j ne))
 
-of_dialogues : (x : List ℕ) (D E : List ℕ → Option Dialogue) (i : Option (List ℕ)) (new : List ℕ) (stays opens : Option Dialogue) (j : List ℕ) → if_of x (D j) ≡ if_of x (E j) → if_of x (new_opens new opens (named_stays i stays D) j) ≡ if_of x (new_opens new opens (named_stays i stays E) j)
+of_dialogues : (x : List ℕ) (D E : List ℕ → Option Dialogue) (i : Option (List ℕ)) (new : List ℕ) (stays opens : Option Dialogue) (j : List ℕ)
+    → if_of x (D j) ≡ if_of x (E j) → if_of x (new_opens new opens (named_stays i stays D) j) ≡ if_of x (new_opens new opens (named_stays i stays E) j)
 of_dialogues x D E i new stays opens j e = by_opens opens
   where
     by_named : (k : Option (List ℕ)) → if_of x (named_stays k stays D j) ≡ if_of x (named_stays k stays E j)
@@ -289,7 +334,8 @@ of_dialogues x D E i new stays opens j e = by_opens opens
     by_opens (Some d) = of_put x _ _ new (Some d) j (by_named i)
 
 -- after the same moves of x
-after_moved : (x : List ℕ) (S T : State) (n : ℕ) (i : Option (List ℕ)) (new : List ℕ) (o : Outcome) (began vlr : Option (List ℕ)) → AgreeOf x S T → Good (local_of S n x) S.dialogues i began vlr new o → AgreeOf x (moved S (Some x) i new o) (moved T (Some x) i new o)
+after_moved : (x : List ℕ) (S T : State) (n : ℕ) (i : Option (List ℕ)) (new : List ℕ) (o : Outcome) (began vlr : Option (List ℕ)) → AgreeOf x S T
+    → Good (local_of S n x) S.dialogues i began vlr new o → AgreeOf x (moved S (Some x) i new o) (moved T (Some x) i new o)
 after_moved x S T n i new o began vlr h good = record {
   record_of = put_alike T.records S.records x o.after x h.record_of;
   dialogues = λ j. of_dialogues x T.dialogues S.dialogues i new o.stays o.opens j (h.dialogues j);
@@ -325,26 +371,37 @@ pub record OwnStep (x : List ℕ) (T S' : State) (e : Event) (a : Answer) : Type
   pub step : Step T e state a
   pub agree : AgreeOf x S' state
 
-own_moved : (x : List ℕ) (S T : State) (e : Event) (turn : Turn) (new : List ℕ) (S' : State) (a : Answer) → Sound S → AgreeOf x S T → TurnsTo S e turn → TurnsTo T e turn → (c : Option (List ℕ)) → concern S.directory turn ≡ c → (c ≡ None) ⊎ (c ≡ Some x) → Moves S (route S.directory e) turn new (outcome_in S (route S.directory e) turn new) S' a → OwnStep x T S' e a
+own_moved : (x : List ℕ) (S T : State) (e : Event) (turn : Turn) (new : List ℕ) (S' : State) (a : Answer) → Sound S → AgreeOf x S T → TurnsTo S e turn
+    → TurnsTo T e turn → (c : Option (List ℕ)) → concern S.directory turn ≡ c → (c ≡ None) ⊎ (c ≡ Some x)
+    → Moves S (route S.directory e) turn new (outcome_in S (route S.directory e) turn new) S' a → OwnStep x T S' e a
 unfolding step_after
 own_moved x S T e turn new S' a sound h comes_s comes_t c q either m =
     let alike : Alike S T e turn = alike_with x S T e turn h comes_t c q either in
     record {
       state = step_after T e turn new;
       step = transfer S T e turn new S' a alike m;
-      agree = subst (λ U. AgreeOf x U (step_after T e turn new)) (sym m.state) (subst (λ U. AgreeOf x (ticked turn (moved S (concern S.directory turn) (named turn) new (outcome_in S (route S.directory e) turn new))) U) (second alike) (after_ticked x _ _ turn (both either)));
+      agree = subst (λ U. AgreeOf x U (step_after T e turn new)) (sym m.state)
+          (subst (λ U. AgreeOf x (ticked turn (moved S (concern S.directory turn) (named turn) new (outcome_in S (route S.directory e) turn new))) U)
+          (second alike) (after_ticked x _ _ turn (both either)));
     }
   where
-    second : Alike S T e turn → ticked turn (moved T (concern S.directory turn) (named turn) new (outcome_in S (route S.directory e) turn new)) ≡ ticked turn (moved T (concern T.directory turn) (named turn) new (outcome_in T (route T.directory e) turn new))
-    second alike = ap (λ k. ticked turn (moved T k (named turn) new (outcome_in S (route S.directory e) turn new))) (sym alike.same_concern) ∙ ap (λ o. ticked turn (moved T (concern T.directory turn) (named turn) new o)) (sym (same_out S T e turn new alike))
+    second : Alike S T e turn → ticked turn (moved T (concern S.directory turn) (named turn) new (outcome_in S (route S.directory e) turn new))
+        ≡ ticked turn (moved T (concern T.directory turn) (named turn) new (outcome_in T (route T.directory e) turn new))
+    second alike = ap (λ k. ticked turn (moved T k (named turn) new (outcome_in S (route S.directory e) turn new))) (sym alike.same_concern)
+        ∙ ap (λ o. ticked turn (moved T (concern T.directory turn) (named turn) new o)) (sym (same_out S T e turn new alike))
 
-    both : (c ≡ None) ⊎ (c ≡ Some x) → AgreeOf x (moved S (concern S.directory turn) (named turn) new (outcome_in S (route S.directory e) turn new)) (moved T (concern S.directory turn) (named turn) new (outcome_in S (route S.directory e) turn new))
-    both (inl n) = subst (λ k. AgreeOf x (moved S k (named turn) new (outcome_in S (route S.directory e) turn new)) (moved T k (named turn) new (outcome_in S (route S.directory e) turn new))) (sym (q ∙ n)) h
+    both : (c ≡ None) ⊎ (c ≡ Some x) → AgreeOf x (moved S (concern S.directory turn) (named turn) new (outcome_in S (route S.directory e) turn new))
+        (moved T (concern S.directory turn) (named turn) new (outcome_in S (route S.directory e) turn new))
+    both (inl n) = subst (λ k. AgreeOf x (moved S k (named turn) new (outcome_in S (route S.directory e) turn new))
+        (moved T k (named turn) new (outcome_in S (route S.directory e) turn new))) (sym (q ∙ n)) h
     both (inr s) =
         let k_is : concern S.directory turn ≡ Some x = q ∙ s in
-        let good : Good (local_of S (route S.directory e) x) S.dialogues (named turn) _ _ new (outcome (local_of S (route S.directory e) x) turn new) = (facts S e turn x new (route S.directory e) sound (view S e turn comes_s) k_is).good in
-        subst (λ k. AgreeOf x (moved S k (named turn) new (outcome_in S (route S.directory e) turn new)) (moved T k (named turn) new (outcome_in S (route S.directory e) turn new))) (sym k_is)
-        (subst (λ o. AgreeOf x (moved S (Some x) (named turn) new o) (moved T (Some x) (named turn) new o)) (sym (outcome_of S (route S.directory e) turn x new k_is))
+        let good : Good (local_of S (route S.directory e) x) S.dialogues (named turn) _ _ new (outcome (local_of S (route S.directory e) x) turn new) =
+        (facts S e turn x new (route S.directory e) sound (view S e turn comes_s) k_is).good in
+        subst (λ k. AgreeOf x (moved S k (named turn) new (outcome_in S (route S.directory e) turn new))
+        (moved T k (named turn) new (outcome_in S (route S.directory e) turn new))) (sym k_is)
+        (subst (λ o. AgreeOf x (moved S (Some x) (named turn) new o) (moved T (Some x) (named turn) new o))
+        (sym (outcome_of S (route S.directory e) turn x new k_is))
         (after_moved x S T (route S.directory e) (named turn) new _ _ _ h good))
 
 -- a clock event has no subscriber, and is the same in both
@@ -354,14 +411,17 @@ clock_comes S T (Clock m now) turn q k = (k, ap (λ o. concern S.directory o) k)
 clock_comes S T (Expire m) turn q k = absurd (both_ways false refl q)
 clock_comes S T (Operator y u) turn q k = absurd (both_ways false refl q)
 
-pub step_inside : (x : List ℕ) (S T : State) (e : Event) (S' : State) (a : Answer) → Sound S → AgreeOf x S T → Step S e S' a → is_of x (record { event = e; answer = a }) ≡ true → is_subject x a.subject && is_turned_away a.sent ≡ false → OwnStep x T S' e a
+pub step_inside : (x : List ℕ) (S T : State) (e : Event) (S' : State) (a : Answer) → Sound S → AgreeOf x S T → Step S e S' a
+    → is_of x (record { event = e; answer = a }) ≡ true → is_subject x a.subject && is_turned_away a.sent ≡ false → OwnStep x T S' e a
 step_inside x S T e S' a sound h step own_one not_away = go (is_clock e) refl own_one step
   where
     go : (b : Bool) → is_clock e ≡ b → cond b true (is_subject x a.subject) ≡ true → Step S e S' a → OwnStep x T S' e a
-    go true q f (Taken turn new comes m) = let k : (TurnsTo T e turn) × (concern S.directory turn ≡ None) = clock_comes S T e turn q comes in own_moved x S T e turn new S' a sound h comes k.0 None k.1 (inl refl) m
+    go true q f (Taken turn new comes m) = let k : (TurnsTo T e turn)
+        × (concern S.directory turn ≡ None) = clock_comes S T e turn q comes in own_moved x S T e turn new S' a sound h comes k.0 None k.1 (inl refl) m
     go true q f (Full turn new comes t) = absurd (none_clock e turn q comes t.from t.origin t.name t.components t.begins)
       where
-        none_clock : (e : Event) (turn : Turn) → is_clock e ≡ true → TurnsTo S e turn → (fr r : List ℕ) (p : Option (List ℕ)) (cs : List Component) → turn ≡ Begins fr r p cs → ⊥
+        none_clock : (e : Event) (turn : Turn) → is_clock e ≡ true → TurnsTo S e turn → (fr r : List ℕ) (p : Option (List ℕ)) (cs : List Component)
+            → turn ≡ Begins fr r p cs → ⊥
         none_clock (Frame from v) turn q k fr r p cs b = both_ways false refl q
         none_clock (Clock m now) turn q k fr r p cs b = cc
         none_clock (Expire m) turn q k fr r p cs b = both_ways false refl q

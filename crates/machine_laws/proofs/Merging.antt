@@ -90,18 +90,30 @@ unfolding part
 part_sound n S sound = record {
   dialogues = λ i d e. dialogue_at i d (cases_eq (shard_of_id i) n) e;
   records = λ x s e. record_at x s (cases_eq (shard_of x) n) e;
-  few = λ m is h. sound.few m is (record { different = h.different; open_ones = every_to (λ i. (shard_of_id i ≡ m) × (cond (shard_of_id i == n) (S.dialogues i) None ≡ None → ⊥)) (λ i. (shard_of_id i ≡ m) × (S.dialogues i ≡ None → ⊥)) (λ i q. (q.0, λ z. q.1 (none_either (shard_of_id i == n) (S.dialogues i) z))) is h.open_ones });
+  few = λ m is h. sound.few m is (record {
+    different = h.different;
+    open_ones = every_to
+        (λ i. (shard_of_id i ≡ m) × (cond (shard_of_id i == n) (S.dialogues i) None ≡ None → ⊥)) (λ i. (shard_of_id i ≡ m) × (S.dialogues i ≡ None → ⊥))
+        (λ i q. (q.0, λ z. q.1 (none_either (shard_of_id i == n) (S.dialogues i) z))) is h.open_ones;
+  });
 }
   where
     none_either : (b : Bool) (o : Option Dialogue) → o ≡ None → cond b o None ≡ None
     none_either true o e = e
     none_either false o e = refl
 
-    dialogue_at : (i : List ℕ) (d : Dialogue) → (shard_of_id i ≡ n) ⊎ (shard_of_id i ≡ n → ⊥) → cond (shard_of_id i == n) (S.dialogues i) None ≡ Some d → SoundDialogue (λ x. cond (shard_of x == n) (S.records x) None) i d
+    dialogue_at : (i : List ℕ) (d : Dialogue) → (shard_of_id i ≡ n) ⊎ (shard_of_id i ≡ n → ⊥) → cond (shard_of_id i == n) (S.dialogues i) None ≡ Some d
+        → SoundDialogue (λ x. cond (shard_of x == n) (S.records x) None) i d
     dialogue_at i d (inl q) e =
         let there : S.dialogues i ≡ Some d = sym (cond_at _ _ _ (eq-eqb _ _ q)) ∙ e in
         let was : SoundDialogue S.records i d = sound.dialogues i d there in
-        record { id = was.id; has_record = ap (λ (o : Option Subscriber). is_some o) (cond_at _ _ _ (eq-eqb _ _ (sym was.id.shard ∙ q))) ∙ was.has_record; has_sent = was.has_sent; rising = was.rising }
+        record {
+          id = was.id;
+          has_record = ap (λ (o : Option Subscriber). is_some o) (cond_at _ _ _ (eq-eqb _ _ (sym was.id.shard ∙ q)))
+              ∙ was.has_record;
+          has_sent = was.has_sent;
+          rising = was.rising;
+        }
     dialogue_at i d (inr ne) e = absurd (none_some d _ (cond_off _ _ _ (ne_eqb _ _ ne)) e)
 
     marked : (x j : List ℕ) → shard_of x ≡ n → IsUpdateOf x (S.dialogues j) → IsUpdateOf x (cond (shard_of_id j == n) (S.dialogues j) None)
@@ -114,7 +126,8 @@ part_sound n S sound = record {
             let P : Option Dialogue → Type 0 = λ v. IsUpdateOf x v in
             subst P (sym (cond_at (shard_of_id j == n) (Some d) None (eq-eqb _ _ there))) w
 
-    record_at : (x : List ℕ) (s : Subscriber) → (shard_of x ≡ n) ⊎ (shard_of x ≡ n → ⊥) → cond (shard_of x == n) (S.records x) None ≡ Some s → SoundRecord (λ i. cond (shard_of_id i == n) (S.dialogues i) None) x s
+    record_at : (x : List ℕ) (s : Subscriber) → (shard_of x ≡ n) ⊎ (shard_of x ≡ n → ⊥) → cond (shard_of x == n) (S.records x) None ≡ Some s
+        → SoundRecord (λ i. cond (shard_of_id i == n) (S.dialogues i) None) x s
     record_at x s (inl q) e = record_keeps x S.dialogues _ s (sound.records x s (sym (cond_at _ _ _ (eq-eqb _ _ q)) ∙ e)) (λ j c u. marked x j q u)
     record_at x s (inr ne) e = absurd (none_some s _ (cond_off _ _ _ (ne_eqb _ _ ne)) e)
 
@@ -131,7 +144,8 @@ pub step_of_part : (S T : State) (e : Event) (a : Answer) → Sound S → Step S
 step_of_part S T e a sound step =
     let n : ℕ = route S.directory e in
     let again : Again n (part S n) T e a = step_again n S (part S n) T e a sound (part_sound n S sound) (part_agrees n S) refl step in
-    let leaves : Leaves (part S n) again.state n = subst (λ m. Leaves (part S n) again.state m) (route_part n S e) (step_leaves (part S n) e again.state a (part_sound n S sound) again.step) in
+    let leaves : Leaves (part S n) again.state n = subst (λ m. Leaves (part S n) again.state m) (route_part n S e)
+    (step_leaves (part S n) e again.state a (part_sound n S sound) again.step) in
     let part_part : part S n ≡ part (part S n) n = sym (part_alike n S (part S n) (part_agrees n S)) in
     let is_part : again.state ≡ part T n = part_leaves n (part S n) again.state part_part leaves ∙ part_alike n T again.state again.agree in
     record { inside = subst (λ U. Step (part S n) e U a) is_part again.step; outside = step_leaves S e T a sound step }
@@ -144,7 +158,8 @@ pub record InWhole (S : State) (e : Event) (a : Answer) (n : ℕ) (P : State) : 
 
 pub step_in_whole : (S P : State) (e : Event) (a : Answer) (n : ℕ) → Sound S → route S.directory e ≡ n → Step (part S n) e P a → InWhole S e a n P
 step_in_whole S P e a n sound r step =
-    let again : Again n S P e a = step_again n (part S n) S P e a (part_sound n S sound) sound (agree_sym n S (part S n) (part_agrees n S)) (route_part n S e ∙ r) step in
+    let again : Again n S P e a = step_again n (part S n) S P e a (part_sound n S sound) sound (agree_sym n S (part S n) (part_agrees n S))
+    (route_part n S e ∙ r) step in
     let leaves : Leaves (part S n) P n = subst (λ m. Leaves (part S n) P m) (route_part n S e ∙ r) (step_leaves (part S n) e P a (part_sound n S sound) step) in
     let part_part : part S n ≡ part (part S n) n = sym (part_alike n S (part S n) (part_agrees n S)) in
     record {
@@ -182,7 +197,9 @@ goes_union W states g = λ k. record {
       where
         go : (shard_of_id i < 16) ⊎ (16 ≤ shard_of_id i) → W.dialogues i ≡ cond (nat_lt (shard_of_id i) 16) ((states (shard_of_id i)).dialogues i) None
         go (inl h) = (g.agree (shard_of_id i) h).dialogues i refl ∙ sym (cond_at _ _ _ (lt-ltb _ _ h))
-        go (inr h) = none_of (W.dialogues i) (λ d e. let id : IsIdOf (shard_of d.subscriber) i = (g.sound.dialogues i d e).id in let small : shard_of_id i < 16 = subst (λ (m : ℕ). m < 16) (sym id.shard) (shard_small d.subscriber) in absurd (omega arith)) ∙ sym (cond_off _ _ _ (le-ltb _ _ h))
+        go (inr h) = none_of (W.dialogues i) (λ d e. let id : IsIdOf (shard_of d.subscriber) i =
+            (g.sound.dialogues i d e).id in let small : shard_of_id i < 16 = subst (λ (m : ℕ). m < 16) (sym id.shard) (shard_small d.subscriber) in absurd
+            (omega arith)) ∙ sym (cond_off _ _ _ (le-ltb _ _ h))
 
     clocks_at : (n : ℕ) → W.clocks n ≡ cond (nat_lt n 16) ((states n).clocks n) 0
     clocks_at n = go (cases_lt n 16)
@@ -192,7 +209,8 @@ goes_union W states g = λ k. record {
         go (inr h) = g.clocks n h ∙ sym (cond_off _ _ _ (le-ltb _ _ h))
 
 -- the union of sound states under one directory and HLR number agrees with them
-pub union_goes : (states : ℕ → State) → ((n : ℕ) → n < 16 → Sound (states n)) → ((n : ℕ) → n < 16 → (states n).directory ≡ (states 0).directory) → ((n : ℕ) → n < 16 → (states n).hlr ≡ (states 0).hlr) → Goes (union states) states
+pub union_goes : (states : ℕ → State) → ((n : ℕ) → n < 16 → Sound (states n)) → ((n : ℕ) → n < 16 → (states n).directory ≡ (states 0).directory)
+    → ((n : ℕ) → n < 16 → (states n).hlr ≡ (states 0).hlr) → Goes (union states) states
 unfolding union
 union_goes states sounds directories hlrs = record {
   agree = λ n h. record {
@@ -211,45 +229,64 @@ union_goes states sounds directories hlrs = record {
   clocks = λ n h. cond_off _ _ _ (le-ltb _ _ h);
 }
   where
-    there_at : (i : List ℕ) (d : Dialogue) → cond (nat_lt (shard_of_id i) 16) ((states (shard_of_id i)).dialogues i) None ≡ Some d → (shard_of_id i < 16) × ((states (shard_of_id i)).dialogues i ≡ Some d)
+    there_at : (i : List ℕ) (d : Dialogue) → cond (nat_lt (shard_of_id i) 16) ((states (shard_of_id i)).dialogues i) None ≡ Some d
+        → (shard_of_id i < 16) × ((states (shard_of_id i)).dialogues i ≡ Some d)
     there_at i d e = go (cases_lt (shard_of_id i) 16)
       where
         go : (shard_of_id i < 16) ⊎ (16 ≤ shard_of_id i) → (shard_of_id i < 16) × ((states (shard_of_id i)).dialogues i ≡ Some d)
         go (inl h) = (h, sym (cond_at _ _ _ (lt-ltb _ _ h)) ∙ e)
         go (inr h) = absurd (none_some d _ (cond_off _ _ _ (le-ltb _ _ h)) e)
 
-    dialogue_at : (i : List ℕ) (d : Dialogue) → cond (nat_lt (shard_of_id i) 16) ((states (shard_of_id i)).dialogues i) None ≡ Some d → SoundDialogue (λ x. (states (shard_of x)).records x) i d
+    dialogue_at : (i : List ℕ) (d : Dialogue) → cond (nat_lt (shard_of_id i) 16) ((states (shard_of_id i)).dialogues i) None ≡ Some d
+        → SoundDialogue (λ x. (states (shard_of x)).records x) i d
     dialogue_at i d e =
         let t : (shard_of_id i < 16) × ((states (shard_of_id i)).dialogues i ≡ Some d) = there_at i d e in
         let was : SoundDialogue (states (shard_of_id i)).records i d = (sounds (shard_of_id i) t.0).dialogues i d t.1 in
-        record { id = was.id; has_record = ap (λ (m : ℕ). is_some ((states m).records d.subscriber)) (sym was.id.shard) ∙ was.has_record; has_sent = was.has_sent; rising = was.rising }
+        record {
+          id = was.id;
+          has_record = ap (λ (m : ℕ). is_some ((states m).records d.subscriber)) (sym was.id.shard)
+              ∙ was.has_record;
+          has_sent = was.has_sent;
+          rising = was.rising;
+        }
 
-    marked : (x j : List ℕ) → IsUpdateOf x ((states (shard_of x)).dialogues j) → IsUpdateOf x (cond (nat_lt (shard_of_id j) 16) ((states (shard_of_id j)).dialogues j) None)
+    marked : (x j : List ℕ) → IsUpdateOf x ((states (shard_of x)).dialogues j)
+        → IsUpdateOf x (cond (nat_lt (shard_of_id j) 16) ((states (shard_of_id j)).dialogues j) None)
     marked x j u = by ((states (shard_of x)).dialogues j) refl u
       where
-        by : (o : Option Dialogue) → (states (shard_of x)).dialogues j ≡ o → IsUpdateOf x o → IsUpdateOf x (cond (nat_lt (shard_of_id j) 16) ((states (shard_of_id j)).dialogues j) None)
+        by : (o : Option Dialogue) → (states (shard_of x)).dialogues j ≡ o → IsUpdateOf x o
+            → IsUpdateOf x (cond (nat_lt (shard_of_id j) 16) ((states (shard_of_id j)).dialogues j) None)
         by None e w = absurd w
         by (Some d) e w =
             let same_shard : shard_of_id j ≡ shard_of x = ((sounds (shard_of x) (shard_small x)).dialogues j d e).id.shard ∙ ap shard_of w.0 in
             let small : shard_of_id j < 16 = subst (λ (m : ℕ). m < 16) (sym same_shard) (shard_small x) in
             let P : Option Dialogue → Type 0 = λ v. IsUpdateOf x v in
-            subst P (sym (cond_at (nat_lt (shard_of_id j) 16) ((states (shard_of_id j)).dialogues j) None (lt-ltb _ _ small) ∙ ap (λ (m : ℕ). (states m).dialogues j) same_shard ∙ e)) w
+            subst P (sym (cond_at (nat_lt (shard_of_id j) 16) ((states (shard_of_id j)).dialogues j) None (lt-ltb _ _ small) ∙ ap (λ (m : ℕ).
+            (states m).dialogues j) same_shard ∙ e)) w
 
-    record_at : (x : List ℕ) (s : Subscriber) → (states (shard_of x)).records x ≡ Some s → SoundRecord (λ i. cond (nat_lt (shard_of_id i) 16) ((states (shard_of_id i)).dialogues i) None) x s
+    record_at : (x : List ℕ) (s : Subscriber) → (states (shard_of x)).records x ≡ Some s
+        → SoundRecord (λ i. cond (nat_lt (shard_of_id i) 16) ((states (shard_of_id i)).dialogues i) None) x s
     record_at x s e = record_keeps x (states (shard_of x)).dialogues _ s ((sounds (shard_of x) (shard_small x)).records x s e) (λ j c u. marked x j u)
 
     few_at : (n : ℕ) (is : List (List ℕ)) → AreOpen (union states) n is → length is ≤ 4096
     few_at n is h = go (cases_lt n 16)
       where
-        open_one : n < 16 → (i : List ℕ) → (shard_of_id i ≡ n) × (cond (nat_lt (shard_of_id i) 16) ((states (shard_of_id i)).dialogues i) None ≡ None → ⊥) → (shard_of_id i ≡ n) × ((states n).dialogues i ≡ None → ⊥)
+        open_one : n < 16 → (i : List ℕ) → (shard_of_id i ≡ n) × (cond (nat_lt (shard_of_id i) 16) ((states (shard_of_id i)).dialogues i) None ≡ None → ⊥)
+            → (shard_of_id i ≡ n) × ((states n).dialogues i ≡ None → ⊥)
         open_one s i q = (q.0, λ z. q.1 (ap (λ m. cond (nat_lt m 16) ((states m).dialogues i) None) q.0 ∙ cond_at _ _ _ (lt-ltb _ _ s) ∙ z))
 
-        no_one : 16 ≤ n → (js : List (List ℕ)) → Every (λ i. (shard_of_id i ≡ n) × (cond (nat_lt (shard_of_id i) 16) ((states (shard_of_id i)).dialogues i) None ≡ None → ⊥)) js → length js ≤ 4096
+        no_one : 16 ≤ n → (js : List (List ℕ)) → Every (λ i. (shard_of_id i ≡ n)
+            × (cond (nat_lt (shard_of_id i) 16) ((states (shard_of_id i)).dialogues i) None ≡ None → ⊥)) js → length js ≤ 4096
         no_one s [] q = omega arith
         no_one s (j ∷ js) q = absurd (q.0.1 (cond_off _ _ _ (le-ltb _ _ (subst (λ (m : ℕ). 16 ≤ m) (sym q.0.0) s))))
 
         go : (n < 16) ⊎ (16 ≤ n) → length is ≤ 4096
-        go (inl s) = (sounds n s).few n is (record { different = h.different; open_ones = every_to (λ i. (shard_of_id i ≡ n) × (cond (nat_lt (shard_of_id i) 16) ((states (shard_of_id i)).dialogues i) None ≡ None → ⊥)) (λ i. (shard_of_id i ≡ n) × ((states n).dialogues i ≡ None → ⊥)) (open_one s) is h.open_ones })
+        go (inl s) = (sounds n s).few n is (record {
+          different = h.different;
+          open_ones = every_to
+              (λ i. (shard_of_id i ≡ n) × (cond (nat_lt (shard_of_id i) 16) ((states (shard_of_id i)).dialogues i) None ≡ None → ⊥))
+              (λ i. (shard_of_id i ≡ n) × ((states n).dialogues i ≡ None → ⊥)) (open_one s) is h.open_ones;
+        })
         go (inr s) = no_one s is h.open_ones
 
 -- each shard's own run, from its state to its end
@@ -261,7 +298,8 @@ every_entry : (P Q : Entry → Type 0) → ((j : Entry) → P j → Q j) → (js
 every_entry P Q f [] h = tt
 every_entry P Q f (j ∷ js) h = (f j h.0, every_entry P Q f js h.1)
 
-module _ (n : ℕ) (journals : ℕ → List Entry) (states finals : ℕ → State) (W M : State) (small : n < 16) (g : Goes W states) (a : Ahead states finals journals) where
+module _ (n : ℕ) (journals : ℕ → List Entry) (states finals : ℕ → State) (W M : State) (small : n < 16) (g : Goes W states)
+    (a : Ahead states finals journals) where
   merged_goes : (e : Event) (w : Answer) → Step (states n) e M w → (again : Again n W M e w) → Leaves W again.state n → Goes again.state (put_at states n M)
   merged_goes e w step again leaves = record {
     agree = λ m h. agree_at m h (cases_eq n m);
@@ -284,26 +322,35 @@ module _ (n : ℕ) (journals : ℕ → List Entry) (states finals : ℕ → Stat
       sound_at m h (inl q) = subst (λ U. Sound U) (sym (put_at_same states n M m q)) (step_sound (states n) e M w (g.sounds n small) step)
       sound_at m h (inr ne) = subst (λ U. Sound U) (sym (put_at_other states n M m ne)) (g.sounds m h)
 
-  merged_ahead : (rest : List Entry) → Run M (events_of rest) (finals n) (answers_of rest) → Every (λ k. route (states n).directory k.event ≡ n) rest → Leaves (states n) M n → Ahead (put_at states n M) finals (put_at journals n rest)
+  merged_ahead : (rest : List Entry) → Run M (events_of rest) (finals n) (answers_of rest) → Every (λ k. route (states n).directory k.event ≡ n) rest
+      → Leaves (states n) M n → Ahead (put_at states n M) finals (put_at journals n rest)
   merged_ahead rest run routed inner = record {
     runs = λ m h. run_at m h (cases_eq n m);
     routed = λ m h. routed_at m h (cases_eq n m);
   }
     where
-      run_at : (m : ℕ) → m < 16 → (n ≡ m) ⊎ (n ≡ m → ⊥) → Run (put_at states n M m) (events_of (put_at journals n rest m)) (finals m) (answers_of (put_at journals n rest m))
-      run_at m h (inl q) = subst (λ U. Run U (events_of (put_at journals n rest m)) (finals m) (answers_of (put_at journals n rest m))) (sym (put_at_same states n M m q))
-          (let P : List Entry → Type 0 = λ js. Run M (events_of js) (finals m) (answers_of js) in subst P (sym (put_at_same journals n rest m q)) (subst (λ (k : ℕ). Run M (events_of rest) (finals k) (answers_of rest)) q run))
-      run_at m h (inr ne) = subst (λ U. Run U (events_of (put_at journals n rest m)) (finals m) (answers_of (put_at journals n rest m))) (sym (put_at_other states n M m ne))
-          (let P : List Entry → Type 0 = λ js. Run (states m) (events_of js) (finals m) (answers_of js) in subst P (sym (put_at_other journals n rest m ne)) (a.runs m h))
+      run_at : (m : ℕ) → m < 16 → (n ≡ m) ⊎ (n ≡ m → ⊥) → Run (put_at states n M m) (events_of (put_at journals n rest m)) (finals m)
+          (answers_of (put_at journals n rest m))
+      run_at m h (inl q) = subst (λ U. Run U (events_of (put_at journals n rest m)) (finals m) (answers_of (put_at journals n rest m)))
+          (sym (put_at_same states n M m q))
+          (let P : List Entry → Type 0 = λ js. Run M (events_of js) (finals m) (answers_of js) in subst P (sym (put_at_same journals n rest m q))
+          (subst (λ (k : ℕ). Run M (events_of rest) (finals k) (answers_of rest)) q run))
+      run_at m h (inr ne) = subst (λ U. Run U (events_of (put_at journals n rest m)) (finals m) (answers_of (put_at journals n rest m)))
+          (sym (put_at_other states n M m ne))
+          (let P : List Entry → Type 0 = λ js. Run (states m) (events_of js) (finals m) (answers_of js) in subst P (sym (put_at_other journals n rest m ne))
+          (a.runs m h))
 
       routed_at : (m : ℕ) → m < 16 → (n ≡ m) ⊎ (n ≡ m → ⊥) → Every (λ k. route (put_at states n M m).directory k.event ≡ m) (put_at journals n rest m)
       routed_at m h (inl q) = subst (λ (U : State). Every (λ k. route U.directory k.event ≡ m) (put_at journals n rest m)) (sym (put_at_same states n M m q))
           (let P : List Entry → Type 0 = λ js. Every (λ k. route M.directory k.event ≡ m) js in subst P (sym (put_at_same journals n rest m q))
-          (every_entry (λ k. route (states n).directory k.event ≡ n) (λ k. route M.directory k.event ≡ m) (λ k r. ap (λ d. route d k.event) inner.directory ∙ r ∙ q) rest routed))
+          (every_entry (λ k. route (states n).directory k.event ≡ n) (λ k. route M.directory k.event ≡ m)
+          (λ k r. ap (λ d. route d k.event) inner.directory ∙ r ∙ q) rest routed))
       routed_at m h (inr ne) = subst (λ (U : State). Every (λ k. route U.directory k.event ≡ m) (put_at journals n rest m)) (sym (put_at_other states n M m ne))
-          (let P : List Entry → Type 0 = λ js. Every (λ k. route (states m).directory k.event ≡ m) js in subst P (sym (put_at_other journals n rest m ne)) (a.routed m h))
+          (let P : List Entry → Type 0 = λ js. Every (λ k. route (states m).directory k.event ≡ m) js in subst P (sym (put_at_other journals n rest m ne))
+          (a.routed m h))
 
-pub merge_runs : (js : List Entry) (journals : ℕ → List Entry) (states finals : ℕ → State) (W : State) → Goes W states → Ahead states finals journals → Merges journals js → (V : State) × Run W (events_of js) V (answers_of js) × Goes V finals
+pub merge_runs : (js : List Entry) (journals : ℕ → List Entry) (states finals : ℕ → State) (W : State) → Goes W states → Ahead states finals journals
+    → Merges journals js → (V : State) × Run W (events_of js) V (answers_of js) × Goes V finals
 merge_runs [] journals states finals W g a done = (
   W,
   refl,
@@ -317,16 +364,23 @@ merge_runs [] journals states finals W g a done = (
   where
     ended : (n : ℕ) → n < 16 → states n ≡ finals n
     ended n h = sym (let P : List Entry → Type 0 = λ js. Run (states n) (events_of js) (finals n) (answers_of js) in subst P (done n h) (a.runs n h))
-merge_runs (j ∷ js) journals states finals W g a (n, rest, small, is, more) = go (let P : List Entry → Type 0 = λ ks. Run (states n) (events_of ks) (finals n) (answers_of ks) in subst P is (a.runs n small)) (let P : List Entry → Type 0 = λ ks. Every (λ k. route (states n).directory k.event ≡ n) ks in subst P is (a.routed n small)) (λ states' U h ahead. merge_runs js (put_at journals n rest) states' finals U h ahead more)
+merge_runs (j ∷ js) journals states finals W g a (n, rest, small, is, more) = go
+    (let P : List Entry → Type 0 = λ ks. Run (states n) (events_of ks) (finals n) (answers_of ks) in subst P is (a.runs n small))
+    (let P : List Entry → Type 0 = λ ks. Every (λ k. route (states n).directory k.event ≡ n) ks in subst P is (a.routed n small))
+    (λ states' U h ahead. merge_runs js (put_at journals n rest) states' finals U h ahead more)
   where
     go : Run (states n) (events_of (j ∷ rest)) (finals n) (answers_of (j ∷ rest)) → Every (λ k. route (states n).directory k.event ≡ n) (j ∷ rest)
-        → ((states' : ℕ → State) (U : State) → Goes U states' → Ahead states' finals (put_at journals n rest) → (V : State) × Run U (events_of js) V (answers_of js) × Goes V finals)
+        → ((states' : ℕ → State) (U : State) → Goes U states' → Ahead states' finals (put_at journals n rest)
+        → (V : State) × Run U (events_of js) V (answers_of js) × Goes V finals)
         → (V : State) × Run W (events_of (j ∷ js)) V (answers_of (j ∷ js)) × Goes V finals
     go (M, step, run) (r, routed) next =
         let again : Again n W M j.event j.answer = step_again n (states n) W M j.event j.answer (g.sounds n small) g.sound (g.agree n small) r step in
-        let leaves : Leaves W again.state n = subst (λ m. Leaves W again.state m) (ap (λ d. route d j.event) (g.agree n small).directory ∙ r) (step_leaves W j.event again.state j.answer g.sound again.step) in
+        let leaves : Leaves W again.state n = subst (λ m. Leaves W again.state m) (ap (λ d. route d j.event) (g.agree n small).directory ∙ r)
+        (step_leaves W j.event again.state j.answer g.sound again.step) in
         let inner : Leaves (states n) M n = subst (λ m. Leaves (states n) M m) r (step_leaves (states n) j.event M j.answer (g.sounds n small) step) in
-        let result : (V : State) × Run again.state (events_of js) V (answers_of js) × Goes V finals = next (put_at states n M) again.state (merged_goes n journals states finals W M small g a j.event j.answer step again leaves) (merged_ahead n journals states finals W M small g a rest run routed inner) in
+        let result : (V : State) × Run again.state (events_of js) V (answers_of js)
+        × Goes V finals = next (put_at states n M) again.state (merged_goes n journals states finals W M small g a j.event j.answer step again leaves)
+        (merged_ahead n journals states finals W M small g a rest run routed inner) in
         (result.0, (again.state, again.step, result.1), result.2)
 
 -- every merge of sixteen legal journals is a run from the union of the bases to the union of the states
@@ -337,16 +391,23 @@ pub merge_law : (bases finals : ℕ → State) (journals : ℕ → List Entry) (
     → Merges journals js → Run (union bases) (events_of js) (union finals) (answers_of js)
 merge_law bases finals journals js legal directories hlrs merges =
     let result : (V : State) × Run (union bases) (events_of js) V (answers_of js) × Goes V finals =
-    merge_runs js journals bases finals (union bases) (union_goes bases (λ n h. (legal n h).base_sound) directories hlrs) (record { runs = λ n h. (legal n h).run; routed = λ n h. (legal n h).routed }) merges in
+    merge_runs js journals bases finals (union bases) (union_goes bases (λ n h. (legal n h).base_sound) directories hlrs) (record {
+      runs = λ n h.
+          (legal n h).run;
+      routed = λ n h. (legal n h).routed;
+    }) merges in
     subst (λ U. Run (union bases) (events_of js) U (answers_of js)) (goes_union result.0 finals result.2) result.1
 
 -- a step of one shard is a step of the union
 pub union_step : (states : ℕ → State) (n : ℕ) (M : State) (e : Event) (a : Answer)
-    → ((m : ℕ) → m < 16 → Sound (states m)) → ((m : ℕ) → m < 16 → (states m).directory ≡ (states 0).directory) → ((m : ℕ) → m < 16 → (states m).hlr ≡ (states 0).hlr)
+    → ((m : ℕ) → m < 16 → Sound (states m)) → ((m : ℕ) → m < 16 → (states m).directory ≡ (states 0).directory)
+    → ((m : ℕ) → m < 16 → (states m).hlr ≡ (states 0).hlr)
     → n < 16 → route (states n).directory e ≡ n → Step (states n) e M a → Step (union states) e (union (put_at states n M)) a
 union_step states n M e a sounds directories hlrs small r step =
     let g : Goes (union states) states = union_goes states sounds directories hlrs in
     let again : Again n (union states) M e a = step_again n (states n) (union states) M e a (sounds n small) g.sound (g.agree n small) r step in
-    let leaves : Leaves (union states) again.state n = subst (λ m. Leaves (union states) again.state m) (ap (λ d. route d e) (g.agree n small).directory ∙ r) (step_leaves (union states) e again.state a g.sound again.step) in
-    let ends : Goes again.state (put_at states n M) = merged_goes n (λ m. []) states states (union states) M small g (record { runs = λ m h. refl; routed = λ m h. tt }) e a step again leaves in
+    let leaves : Leaves (union states) again.state n = subst (λ m. Leaves (union states) again.state m) (ap (λ d. route d e) (g.agree n small).directory ∙ r)
+    (step_leaves (union states) e again.state a g.sound again.step) in
+    let ends : Goes again.state (put_at states n M) = merged_goes n (λ m. []) states states (union states) M small g
+    (record { runs = λ m h. refl; routed = λ m h. tt }) e a step again leaves in
     subst (λ U. Step (union states) e U a) (goes_union again.state (put_at states n M) ends) again.step

@@ -24,7 +24,8 @@ names_it S e _ j (Ticking m now q) n = absurd (none_some j None refl n)
 names_it S e _ j (Beginning from r p cs q) n = absurd (none_some j None refl n)
 names_it S e _ j (Continuing i d t cs there active v nm r) n = named_frame S e j (nm ∙ n)
 names_it S e _ j (Closing i d there v nm r) n = named_frame S e j (nm ∙ n)
-names_it S e _ j (Expiring m i d k v q due least) n = let P : Event → Type 0 = λ f. IsNamed S f j in subst P (sym q) (let Q : List ℕ → Type 0 = λ h. IsNamed S (Expire m) h in subst Q (some_inj i j _ refl n) (d, k, v, due, least))
+names_it S e _ j (Expiring m i d k v q due least) n = let P : Event → Type 0 = λ f. IsNamed S f j in subst P (sym q)
+    (let Q : List ℕ → Type 0 = λ h. IsNamed S (Expire m) h in subst Q (some_inj i j _ refl n) (d, k, v, due, least))
 names_it S e _ j (Changing y k q) n = absurd (none_some j None refl n)
 
 pub ticked_there : (U : State) (turn : Turn) → (ticked turn U).dialogues ≡ U.dialogues
@@ -36,7 +37,8 @@ ticked_there U (Closes i d) = refl
 ticked_there U (Expires i d j was) = refl
 ticked_there U (Changes y k) = refl
 
-pub unnamed_stays : (S : State) (e : Event) (T : State) (a : Answer) (j : List ℕ) (d : Dialogue) → Step S e T a → S.dialogues j ≡ Some d → (IsNamed S e j → ⊥) → T.dialogues j ≡ Some d
+pub unnamed_stays : (S : State) (e : Event) (T : State) (a : Answer) (j : List ℕ) (d : Dialogue) → Step S e T a → S.dialogues j ≡ Some d → (IsNamed S e j → ⊥)
+    → T.dialogues j ≡ Some d
 unnamed_stays S e T a j d (Full turn new comes t) there h = ap (λ (U : State). U.dialogues j) t.state ∙ there
 unnamed_stays S e T a j d (Taken turn new comes m) there h =
     ap (λ (U : State). U.dialogues j) m.state ∙ ap (λ (f : List ℕ → Option Dialogue). f j) (ticked_there _ turn) ∙ stays (concern S.directory turn) ∙ there

@@ -55,7 +55,8 @@ module _ {P : Type 0} (now : ℕ) (c : ComponentOf P) (j : ℤ) where
 
       by : (b : Bool) → int_eq v.id j ≡ b → standing_of j (invocations_after now (c ∷ []) vs) ≡ standing_of j vs
           → standing_of j (concluded now (c ∷ []) v ++ invocations_after now (c ∷ []) vs) ≡ cond b (Some (v.was, v.deadline)) (standing_of j vs)
-      by true q ih = ap (λ us. standing_of j (us ++ invocations_after now (c ∷ []) vs)) (here q) ∙ ap (λ b. cond b (Some (v.was, v.deadline)) (standing_of j (invocations_after now (c ∷ []) vs))) q
+      by true q ih = ap (λ us. standing_of j (us ++ invocations_after now (c ∷ []) vs)) (here q)
+          ∙ ap (λ b. cond b (Some (v.was, v.deadline)) (standing_of j (invocations_after now (c ∷ []) vs))) q
       by false q ih = standing_past j (concluded now (c ∷ []) v) _ (every_concluded (λ i. int_eq i j ≡ false) now (c ∷ []) v q) ∙ ih
 
   module _ (hit : Bool) (is_hit : concludes j c ≡ hit) (others : (i : ℤ) → int_eq i j ≡ false → concludes i c ≡ false) where
@@ -71,7 +72,8 @@ module _ {P : Type 0} (now : ℕ) (c : ComponentOf P) (j : ℤ) where
       pub deadline : ℕ
       pub before : standing_of j vs ≡ Some (was, deadline)
       pub sent : in_sent j vs ≡ is_sent was
-      pub after : standing_of j (invocations_after now (c ∷ []) vs) ≡ first_standing (cond (is_sent was) (concluded_by now (one_of j was deadline) (cond hit (Some c) None)) (one_of j was deadline ∷ []))
+      pub after : standing_of j (invocations_after now (c ∷ []) vs)
+          ≡ first_standing (cond (is_sent was) (concluded_by now (one_of j was deadline) (cond hit (Some c) None)) (one_of j was deadline ∷ []))
       pub failed : any_failed (c ∷ []) vs ≡ (is_sent was && is_failure (cond hit (Some c) None))
 
     absent : (vs : List Invocation) → Every (λ (u : Invocation). int_eq u.id j ≡ false) vs → Absent vs
@@ -85,7 +87,8 @@ module _ {P : Type 0} (now : ℕ) (c : ComponentOf P) (j : ℤ) where
           failed = ap (λ b. cond b true (any_failed (c ∷ []) vs)) (fails_not v (others v.id h.0)) ∙ rest.failed;
         }
 
-    present : (v : Invocation) (vs : List Invocation) → v.id ≡ j → Every (λ (u : Invocation). int_eq u.id j ≡ false) vs → int_eq v.id j ≡ true → Present (v ∷ vs)
+    present : (v : Invocation) (vs : List Invocation) → v.id ≡ j → Every (λ (u : Invocation). int_eq u.id j ≡ false) vs → int_eq v.id j ≡ true
+        → Present (v ∷ vs)
     present v vs e h q =
         let rest : Absent vs = absent vs h in
         let v_is : v ≡ one_of j v.was v.deadline = (λ k. record { id = e k; was = v.was; deadline = v.deadline }) in
@@ -95,12 +98,16 @@ module _ {P : Type 0} (now : ℕ) (c : ComponentOf P) (j : ℤ) where
           deadline = v.deadline;
           before = ap (λ b. cond b (Some (v.was, v.deadline)) (standing_of j vs)) q;
           sent = ap (λ b. cond b (is_sent v.was) (in_sent j vs)) q;
-          after = ap (λ us. standing_of j (us ++ invocations_after now (c ∷ []) vs)) (shape v_is concl) ∙ first (is_sent v.was) (cond hit (Some c) None) rest.after;
+          after = ap (λ us. standing_of j (us ++ invocations_after now (c ∷ []) vs)) (shape v_is concl)
+              ∙ first (is_sent v.was) (cond hit (Some c) None) rest.after;
           failed = off (is_sent v.was && is_failure (concluding v.id (c ∷ []))) rest.failed ∙ ap (λ o. is_sent v.was && is_failure o) concl;
         }
       where
-        shape : v ≡ one_of j v.was v.deadline → concluding v.id (c ∷ []) ≡ cond hit (Some c) None → concluded now (c ∷ []) v ≡ cond (is_sent v.was) (concluded_by now (one_of j v.was v.deadline) (cond hit (Some c) None)) (one_of j v.was v.deadline ∷ [])
-        shape v_is concl = ap (λ o. cond (is_sent v.was) (concluded_by now v o) (v ∷ [])) concl ∙ ap (λ u. cond (is_sent v.was) (concluded_by now u (cond hit (Some c) None)) (u ∷ [])) v_is
+        shape : v ≡ one_of j v.was v.deadline → concluding v.id (c ∷ []) ≡ cond hit (Some c) None
+            → concluded now (c ∷ []) v ≡ cond (is_sent v.was) (concluded_by now (one_of j v.was v.deadline) (cond hit (Some c) None))
+            (one_of j v.was v.deadline ∷ [])
+        shape v_is concl = ap (λ o. cond (is_sent v.was) (concluded_by now v o) (v ∷ [])) concl
+            ∙ ap (λ u. cond (is_sent v.was) (concluded_by now u (cond hit (Some c) None)) (u ∷ [])) v_is
 
         off : (b : Bool) → any_failed (c ∷ []) vs ≡ false → cond b true (any_failed (c ∷ []) vs) ≡ b
         off true r = refl
@@ -110,7 +117,8 @@ module _ {P : Type 0} (now : ℕ) (c : ComponentOf P) (j : ℤ) where
         named u r = ap (λ b. cond b (Some (u.was, u.deadline)) (standing_of j (invocations_after now (c ∷ []) vs))) (ap (λ i. int_eq i j) r ∙ int_same j)
 
         first : (b : Bool) (o : Option (ComponentOf P)) → standing_of j (invocations_after now (c ∷ []) vs) ≡ None
-            → standing_of j (cond b (concluded_by now (one_of j v.was v.deadline) o) (one_of j v.was v.deadline ∷ []) ++ invocations_after now (c ∷ []) vs) ≡ first_standing (cond b (concluded_by now (one_of j v.was v.deadline) o) (one_of j v.was v.deadline ∷ []))
+            → standing_of j (cond b (concluded_by now (one_of j v.was v.deadline) o) (one_of j v.was v.deadline ∷ []) ++ invocations_after now (c ∷ []) vs)
+            ≡ first_standing (cond b (concluded_by now (one_of j v.was v.deadline) o) (one_of j v.was v.deadline ∷ []))
         first false o r = named (one_of j v.was v.deadline) refl
         first true None r = named (one_of j v.was v.deadline) refl
         first true (Some (Reject id side problem)) r = r
@@ -128,7 +136,8 @@ module _ {P : Type 0} (now : ℕ) (c : ComponentOf P) (j : ℤ) where
         by : (b : Bool) → int_eq v.id j ≡ b → Absent vs ⊎ Present vs → Absent (v ∷ vs) ⊎ Present (v ∷ vs)
         by true q ih =
             let e : v.id ≡ j = int_is v.id j q in
-            inr (present v vs e (every_one (λ u. int_eq u.id v.id ≡ false) (λ u. int_eq u.id j ≡ false) (λ u r. subst (λ i. int_eq u.id i ≡ false) e r) vs m.0) q)
+            inr (present v vs e (every_one (λ u. int_eq u.id v.id ≡ false) (λ u. int_eq u.id j ≡ false)
+            (λ u r. subst (λ i. int_eq u.id i ≡ false) e r) vs m.0) q)
         by false q (inl rest) = inl (record {
           before = ap (λ b. cond b (Some (v.was, v.deadline)) (standing_of j vs)) q ∙ rest.before;
           sent = ap (λ b. cond b (is_sent v.was) (in_sent j vs)) q ∙ rest.sent;
@@ -146,9 +155,11 @@ module _ {P : Type 0} (now : ℕ) (c : ComponentOf P) (j : ℤ) where
 
     -- the row, whether the invocation is there or not
     row_of : (offer : Offer) (vs : List Invocation) → IsMap vs → (x : Happening) (reply : Was → Reply) (idle : Reply) (rejects : Bool → List Rejection)
-        → ((was : Was) (t : ℕ) → invocation (Some (was, t)) x now ≡ Some (first_standing (cond (is_sent was) (concluded_by now (one_of j was t) (cond hit (Some c) None)) (one_of j was t ∷ [])), reply was))
+        → ((was : Was) (t : ℕ) → invocation (Some (was, t)) x now
+        ≡ Some (first_standing (cond (is_sent was) (concluded_by now (one_of j was t) (cond hit (Some c) None)) (one_of j was t ∷ [])), reply was))
         → invocation None x now ≡ Some (None, idle)
-        → reject_of offer vs [] c ≡ rejects (in_sent j vs) → ((was : Was) → rejects (is_sent was) ≡ rejected_by j (reply was)) → rejects false ≡ rejected_by j idle
+        → reject_of offer vs [] c ≡ rejects (in_sent j vs) → ((was : Was) → rejects (is_sent was) ≡ rejected_by j (reply was))
+        → rejects false ≡ rejected_by j idle
         → ((was : Was) → (is_sent was && is_failure (cond hit (Some c) None)) ≡ is_failed (reply was)) → false ≡ is_failed idle
         → MovesByRow now offer vs c j x
     row_of offer vs m x reply idle rejects moves rests is rejects_there rejects_idle fails fails_idle = go (either vs m)
@@ -191,9 +202,11 @@ none_happens x Q e = absurd (none_some x None refl e)
 
 module _ {P : Type 0} (now : ℕ) (offer : Offer) (vs : List Invocation) (m : IsMap vs) (j : ℤ) where
   row_last : MovesByRow {P = P} now offer vs (ResultLast j) j GetsResultLast
-  row_last = row_of {P = P} now (ResultLast j) j true (int_same j) (other_way j) offer vs m GetsResultLast last_reply (Rejected OfResult) (λ b. reject_answer j OfResult (b && true)) moves refl refl there refl fails refl
+  row_last = row_of {P = P} now (ResultLast j) j true (int_same j) (other_way j) offer vs m GetsResultLast last_reply (Rejected OfResult)
+      (λ b. reject_answer j OfResult (b && true)) moves refl refl there refl fails refl
     where
-      moves : (was : Was) (t : ℕ) → invocation (Some (was, t)) GetsResultLast now ≡ Some (first_standing (cond (is_sent was) (concluded_by {P = P} now (one_of j was t) (Some (ResultLast j))) (one_of j was t ∷ [])), last_reply was)
+      moves : (was : Was) (t : ℕ) → invocation (Some (was, t)) GetsResultLast now
+          ≡ Some (first_standing (cond (is_sent was) (concluded_by {P = P} now (one_of j was t) (Some (ResultLast j))) (one_of j was t ∷ [])), last_reply was)
       moves OperationSent t = refl
       moves WaitForReject t = refl
 
@@ -206,9 +219,15 @@ module _ {P : Type 0} (now : ℕ) (offer : Offer) (vs : List Invocation) (m : Is
       fails WaitForReject = refl
 
   row_error : (error : Code) → MovesByRow {P = P} now offer vs (ReturnError j error) j GetsError
-  row_error error = row_of {P = P} now (ReturnError j error) j true (int_same j) (other_way j) offer vs m GetsError error_reply (Rejected OfError) (λ b. reject_answer j OfError (b && true)) moves refl refl there refl fails refl
+  row_error error = row_of {P = P} now (ReturnError j error) j true (int_same j) (other_way j) offer vs m GetsError error_reply (Rejected OfError)
+      (λ b. reject_answer j OfError (b && true)) moves refl refl there refl fails refl
     where
-      moves : (was : Was) (t : ℕ) → invocation (Some (was, t)) GetsError now ≡ Some (first_standing (cond (is_sent was) (concluded_by {P = P} now (one_of j was t) (Some (ReturnError j error))) (one_of j was t ∷ [])), error_reply was)
+      moves : (was : Was) (t : ℕ) → invocation (Some (was, t)) GetsError now
+          ≡ Some (
+            first_standing (cond (is_sent was) (concluded_by {P = P} now (one_of j was t) (Some (ReturnError j error)))
+                (one_of j was t ∷ [])),
+            error_reply was,
+          )
       moves OperationSent t = refl
       moves WaitForReject t = refl
 
@@ -221,9 +240,11 @@ module _ {P : Type 0} (now : ℕ) (offer : Offer) (vs : List Invocation) (m : Is
       fails WaitForReject = refl
 
   row_not_last : MovesByRow {P = P} now offer vs (ResultNotLast j) j GetsResultNotLast
-  row_not_last = row_of {P = P} now (ResultNotLast j) j false refl (λ i q. refl) offer vs m GetsResultNotLast part_reply (Rejected OfResult) (λ b. reject_answer j OfResult (b && true)) moves refl refl there refl fails refl
+  row_not_last = row_of {P = P} now (ResultNotLast j) j false refl (λ i q. refl) offer vs m GetsResultNotLast part_reply (Rejected OfResult)
+      (λ b. reject_answer j OfResult (b && true)) moves refl refl there refl fails refl
     where
-      moves : (was : Was) (t : ℕ) → invocation (Some (was, t)) GetsResultNotLast now ≡ Some (first_standing (cond (is_sent was) (concluded_by {P = P} now (one_of j was t) None) (one_of j was t ∷ [])), part_reply was)
+      moves : (was : Was) (t : ℕ) → invocation (Some (was, t)) GetsResultNotLast now
+          ≡ Some (first_standing (cond (is_sent was) (concluded_by {P = P} now (one_of j was t) None) (one_of j was t ∷ [])), part_reply was)
       moves OperationSent t = refl
       moves WaitForReject t = refl
 
@@ -236,9 +257,16 @@ module _ {P : Type 0} (now : ℕ) (offer : Offer) (vs : List Invocation) (m : Is
       fails WaitForReject = refl
 
   row_reject : (side : Side) (problem : ℕ) → MovesByRow {P = P} now offer vs (Reject (Some j) side problem) j (GetsReject side)
-  row_reject side problem = row_of {P = P} now (Reject (Some j) side problem) j (ends_it side) (ap (λ b. b && ends_it side) (int_same j)) (λ i q. ap (λ b. b && ends_it side) (other_way j i q)) offer vs m (GetsReject side) (reject_reply side) NoReply (λ b. []) (moves side) refl refl (there side) refl (fails side) refl
+  row_reject side problem = row_of {P = P} now (Reject (Some j) side problem) j (ends_it side) (ap (λ b. b && ends_it side) (int_same j))
+      (λ i q. ap (λ b. b && ends_it side) (other_way j i q)) offer vs m (GetsReject side) (reject_reply side) NoReply (λ b. []) (moves side) refl refl
+      (there side) refl (fails side) refl
     where
-      moves : (side : Side) (was : Was) (t : ℕ) → invocation (Some (was, t)) (GetsReject side) now ≡ Some (first_standing (cond (is_sent was) (concluded_by {P = P} now (one_of j was t) (cond (ends_it side) (Some (Reject (Some j) side problem)) None)) (one_of j was t ∷ [])), reject_reply side was)
+      moves : (side : Side) (was : Was) (t : ℕ) → invocation (Some (was, t)) (GetsReject side) now
+          ≡ Some (
+            first_standing (cond (is_sent was) (concluded_by {P = P} now (one_of j was t)
+                (cond (ends_it side) (Some (Reject (Some j) side problem)) None)) (one_of j was t ∷ [])),
+            reject_reply side was,
+          )
       moves General OperationSent t = refl
       moves OfInvoke OperationSent t = refl
       moves OfResult OperationSent t = refl
@@ -258,7 +286,8 @@ module _ {P : Type 0} (now : ℕ) (offer : Offer) (vs : List Invocation) (m : Is
       there OfResult WaitForReject = refl
       there OfError WaitForReject = refl
 
-      fails : (side : Side) (was : Was) → (is_sent was && is_failure {P = P} (cond (ends_it side) (Some (Reject (Some j) side problem)) None)) ≡ is_failed (reject_reply side was)
+      fails : (side : Side) (was : Was) → (is_sent was && is_failure {P = P} (cond (ends_it side) (Some (Reject (Some j) side problem)) None))
+          ≡ is_failed (reject_reply side was)
       fails General OperationSent = refl
       fails OfInvoke OperationSent = refl
       fails OfResult OperationSent = refl
@@ -269,7 +298,8 @@ module _ {P : Type 0} (now : ℕ) (offer : Offer) (vs : List Invocation) (m : Is
       fails OfError WaitForReject = refl
 
   -- the component whose id this is
-  by_id : (id : ℤ) (y x : Happening) (C : ℤ → ComponentOf P) → MovesByRow {P = P} now offer vs (C j) j y → cond (int_eq id j) (Some y) None ≡ Some x → MovesByRow {P = P} now offer vs (C id) j x
+  by_id : (id : ℤ) (y x : Happening) (C : ℤ → ComponentOf P) → MovesByRow {P = P} now offer vs (C j) j y → cond (int_eq id j) (Some y) None ≡ Some x
+      → MovesByRow {P = P} now offer vs (C id) j x
   by_id id y x C row h = go (int_eq id j) refl h
     where
       go : (b : Bool) → int_eq id j ≡ b → cond b (Some y) None ≡ Some x → MovesByRow {P = P} now offer vs (C id) j x
@@ -311,5 +341,6 @@ not_concluded j (Invoke id linked operation p) h = refl
 not_concluded j (Bad id problem) h = refl
 not_concluded j Ignored h = refl
 
-pub other_standing : {P : Type 0} (now : ℕ) (vs : List Invocation) (c : ComponentOf P) (j : ℤ) → happening j c ≡ None → standing_of j (invocations_after now (c ∷ []) vs) ≡ standing_of j vs
+pub other_standing : {P : Type 0} (now : ℕ) (vs : List Invocation) (c : ComponentOf P) (j : ℤ) → happening j c ≡ None
+    → standing_of j (invocations_after now (c ∷ []) vs) ≡ standing_of j vs
 other_standing now vs c j h = standing_stays now c j (not_concluded j c h) vs

@@ -21,9 +21,11 @@ named_open S e _ j (Expiring m i d k v q due least) n z = none_some d _ (ap S.di
 named_open S e _ j (Changing y k q) n z = none_some j None refl n
 
 -- a dialogue that is open after, and was not, has the id that was taken
-pub opened_taken : (S : State) (e : Event) (T : State) (a : Answer) (i : List ℕ) (d : Dialogue) → Step S e T a → S.dialogues i ≡ None → T.dialogues i ≡ Some d → a.id ≡ Some i
+pub opened_taken : (S : State) (e : Event) (T : State) (a : Answer) (i : List ℕ) (d : Dialogue) → Step S e T a → S.dialogues i ≡ None → T.dialogues i ≡ Some d
+    → a.id ≡ Some i
 opened_taken S e T a i d (Full turn new comes t) z h = absurd (none_some d _ (ap (λ (U : State). U.dialogues i) t.state ∙ z) h)
-opened_taken S e T a i d (Taken turn new comes m) z h = by (concern S.directory turn) (ap (λ (U : State). U.dialogues i) m.state ∙ ap (λ (f : List ℕ → Option Dialogue). f i) (ticked_there _ turn))
+opened_taken S e T a i d (Taken turn new comes m) z h = by (concern S.directory turn)
+    (ap (λ (U : State). U.dialogues i) m.state ∙ ap (λ (f : List ℕ → Option Dialogue). f i) (ticked_there _ turn))
   where
     of : From S (named turn) new (outcome_in S (route S.directory e) turn new) i d → a.id ≡ Some i
     of (Opened ni q) = m.id ∙ ap (λ o. taken new o) q ∙ ap (λ (k : List ℕ). Some k) ni

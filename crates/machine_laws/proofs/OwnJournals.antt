@@ -37,12 +37,15 @@ pub record OwnRun (x : List ℕ) (T S' : State) (js : List Entry) : Type 0 where
 own_more : (x : List ℕ) (S' T M : State) (j : Entry) (js : List Entry) → Step T j.event M j.answer → OwnRun x M S' js → OwnRun x T S' (j ∷ js)
 own_more x S' T M j js step r = record { state = r.state; run = (M, step, r.run); agree = r.agree }
 
-pub own_run : (x : List ℕ) (js : List Entry) (S T S' : State) → Sound S → AgreeOf x S T → Run S (events_of js) S' (answers_of js) → NoneTurnedAway js x → OwnRun x T S' (only_of js x)
+pub own_run : (x : List ℕ) (js : List Entry) (S T S' : State) → Sound S → AgreeOf x S T → Run S (events_of js) S' (answers_of js) → NoneTurnedAway js x
+    → OwnRun x T S' (only_of js x)
 own_run x [] S T S' sound h run none = record { state = T; run = refl; agree = subst (λ U. AgreeOf x U T) (sym run) h }
-own_run x (j ∷ js) S T S' sound h (M, step, run) none = go (is_of x j) refl (λ T' agree. own_run x js M T' S' (step_sound S j.event M j.answer sound step) agree run none.1)
+own_run x (j ∷ js) S T S' sound h (M, step, run) none = go (is_of x j) refl
+    (λ T' agree. own_run x js M T' S' (step_sound S j.event M j.answer sound step) agree run none.1)
   where
     go : (b : Bool) → is_of x j ≡ b → ((T' : State) → AgreeOf x M T' → OwnRun x T' S' (only_of js x)) → OwnRun x T S' (cond b (j ∷ only_of js x) (only_of js x))
-    go true q next = let inside : OwnStep x T M j.event j.answer = step_inside x S T j.event M j.answer sound h step q none.0 in own_more x S' T inside.state j (only_of js x) inside.step (next inside.state inside.agree)
+    go true q next = let inside : OwnStep x T M j.event j.answer = step_inside x S T j.event M j.answer sound h step q none.0 in own_more x S' T inside.state j
+        (only_of js x) inside.step (next inside.state inside.agree)
     go false q next = next T (agree_outside x S T M h (step_outside x S j.event M j.answer sound step q))
 
 -- a subscriber's own part
@@ -78,7 +81,11 @@ own_sound x S sound = record {
       let was : SoundDialogue S.records i d = sound.dialogues i d there in
       record { id = was.id; has_record = known (same d.subscriber x) (S.records d.subscriber) ∙ was.has_record; has_sent = was.has_sent; rising = was.rising };
   records = λ y s e. record_at y s (same y x) refl e;
-  few = λ n is h. sound.few n is (record { different = h.different; open_ones = every_to (λ i. (shard_of_id i ≡ n) × (if_of x (S.dialogues i) ≡ None → ⊥)) (λ i. (shard_of_id i ≡ n) × (S.dialogues i ≡ None → ⊥)) (λ i q. (q.0, λ z. q.1 (ap (λ o. if_of x o) z))) is h.open_ones });
+  few = λ n is h. sound.few n is (record {
+    different = h.different;
+    open_ones = every_to (λ i. (shard_of_id i ≡ n) × (if_of x (S.dialogues i) ≡ None → ⊥))
+        (λ i. (shard_of_id i ≡ n) × (S.dialogues i ≡ None → ⊥)) (λ i q. (q.0, λ z. q.1 (ap (λ o. if_of x o) z))) is h.open_ones;
+  });
 }
   where
     known : (b : Bool) (r : Option Subscriber) → is_some (cond b r (without_mark r)) ≡ is_some r
@@ -94,10 +101,14 @@ own_sound x S sound = record {
 
     other : (y : List ℕ) (r : Option Subscriber) → S.records y ≡ r → (s : Subscriber) → without_mark r ≡ Some s → SoundRecord (λ i. if_of x (S.dialogues i)) y s
     other y None q s e = absurd (none_some s None refl e)
-    other y (Some t) q s e = subst (λ u. SoundRecord (λ i. if_of x (S.dialogues i)) y u) (some_inj _ s _ refl e) (record { mark = tt; purged = (sound.records y t q).purged; withdrawn = λ w. (((sound.records y t q).withdrawn w).0, refl) })
+    other y (Some t) q s e = subst (λ u. SoundRecord (λ i. if_of x (S.dialogues i)) y u) (some_inj _ s _ refl e)
+        (record { mark = tt; purged = (sound.records y t q).purged; withdrawn = λ w. (((sound.records y t q).withdrawn w).0, refl) })
 
-    record_at : (y : List ℕ) (s : Subscriber) (b : Bool) → same y x ≡ b → cond b (S.records y) (without_mark (S.records y)) ≡ Some s → SoundRecord (λ i. if_of x (S.dialogues i)) y s
-    record_at y s true q e = record_keeps y S.dialogues _ s (sound.records y s e) (λ j c u. subst (λ (z : List ℕ). IsUpdateOf z (if_of x (S.dialogues j))) (sym (same_is y x q)) (marked j (let P : List ℕ → Type 0 = λ z. IsUpdateOf z (S.dialogues j) in subst P (same_is y x q) u)))
+    record_at : (y : List ℕ) (s : Subscriber) (b : Bool) → same y x ≡ b → cond b (S.records y) (without_mark (S.records y)) ≡ Some s
+        → SoundRecord (λ i. if_of x (S.dialogues i)) y s
+    record_at y s true q e = record_keeps y S.dialogues _ s (sound.records y s e)
+        (λ j c u. subst (λ (z : List ℕ). IsUpdateOf z (if_of x (S.dialogues j))) (sym (same_is y x q))
+        (marked j (let P : List ℕ → Type 0 = λ z. IsUpdateOf z (S.dialogues j) in subst P (same_is y x q) u)))
     record_at y s false q e = other y (S.records y) refl s e
 
 -- parts along a run
@@ -109,7 +120,8 @@ cond_none false o f e n = ap f e ∙ n
 pub own_part : (n : ℕ) (x : List ℕ) (S : State) → S ≡ part S n → own S x ≡ part (own S x) n
 unfolding own part
 own_part n x S p = λ k. record {
-  records = λ y. cond_none (shard_of y == n) (S.records y) (λ o. cond (same y x) o (without_mark o)) (ap (λ (U : State). U.records y) p) (none_both (same y x)) k;
+  records = λ y. cond_none (shard_of y == n) (S.records y) (λ o. cond (same y x) o (without_mark o)) (ap (λ (U : State). U.records y) p)
+      (none_both (same y x)) k;
   dialogues = λ i. cond_none (shard_of_id i == n) (S.dialogues i) (λ o. if_of x o) (ap (λ (U : State). U.dialogues i) p) refl k;
   clocks = λ m. ap (λ (U : State). U.clocks m) p k;
   directory = S.directory;
@@ -120,7 +132,8 @@ own_part n x S p = λ k. record {
     none_both true = refl
     none_both false = refl
 
-pub run_part : (n : ℕ) (js : List Entry) (S T : State) → Sound S → S ≡ part S n → Every (λ j. route S.directory j.event ≡ n) js → Run S (events_of js) T (answers_of js) → (Sound T) × (T ≡ part T n)
+pub run_part : (n : ℕ) (js : List Entry) (S T : State) → Sound S → S ≡ part S n → Every (λ j. route S.directory j.event ≡ n) js
+    → Run S (events_of js) T (answers_of js) → (Sound T) × (T ≡ part T n)
 run_part n [] S T sound p routed run = (subst (λ U. Sound U) (sym run) sound, subst (λ U. U ≡ part U n) (sym run) p)
 run_part n (j ∷ js) S T sound p routed (M, step, run) =
     let leaves : Leaves S M n = subst (λ m. Leaves S M m) routed.0 (step_leaves S j.event M j.answer sound step) in
@@ -139,12 +152,15 @@ every_only P x (j ∷ js) h = go (is_of x j) (every_only P x js h.1)
     go false r = r
 
 -- isolation: the own entries of x are a legal journal from the own part of x, to a state with the same record and dialogues of x
-pub isolation : (n : ℕ) (base S : State) (journal : List Entry) (x : List ℕ) → Legal n base journal S → NoneTurnedAway journal x → (T : State) × Legal n (own base x) (only_of journal x) T × SameOf x S T
+pub isolation : (n : ℕ) (base S : State) (journal : List Entry) (x : List ℕ) → Legal n base journal S → NoneTurnedAway journal x
+    → (T : State) × Legal n (own base x) (only_of journal x) T × SameOf x S T
 unfolding own
 isolation n base S journal x legal none =
     let r : OwnRun x (own base x) S (only_of journal x) = own_run x journal base (own base x) S legal.base_sound (own_agrees x base) legal.run none in
-    let routed : Every (λ j. route (own base x).directory j.event ≡ n) (only_of journal x) = every_only (λ j. route base.directory j.event ≡ n) x journal legal.routed in
-    let ends : (Sound r.state) × (r.state ≡ part r.state n) = run_part n (only_of journal x) (own base x) r.state (own_sound x base legal.base_sound) (own_part n x base legal.base_part) routed r.run in (
+    let routed : Every (λ j. route (own base x).directory j.event ≡ n) (only_of journal x) = every_only
+    (λ j. route base.directory j.event ≡ n) x journal legal.routed in
+    let ends : (Sound r.state) × (r.state ≡ part r.state n) = run_part n (only_of journal x) (own base x) r.state (own_sound x base legal.base_sound)
+    (own_part n x base legal.base_part) routed r.run in (
       r.state,
       record {
         is_shard = legal.is_shard;

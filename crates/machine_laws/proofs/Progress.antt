@@ -12,7 +12,7 @@ use Rattle.machine.specs.Events.{Change, Clock, Event, Expire, Frame, Operator}
 use Rattle.machine.specs.Received.{Component}
 use Rattle.machine.specs.Keys.{Every, IsIn, IsNotIn, shard_of, shard_of_id}
 use Rattle.machine.specs.Sound.{Sound}
-use Rattle.machine.specs.Numbers.{no_resources}
+use Rattle.machine.specs.declared.numbers.TheConstants.{RESOURCE_LIMITATION}
 use Rattle.machine.specs.Routing.{route}
 use Rattle.machine.specs.Outcome.{send}
 use Rattle.machine_laws.specs.Worked.{one}
@@ -48,7 +48,8 @@ in_with_first zero o i xs h k = absurd (omega arith)
 in_with_first (suc n) o i xs h k = go (cases_eq o n) (λ less. in_with_first n o i xs less k)
   where
     go : (o ≡ n) ⊎ (o ≡ n → ⊥) → (o < n → IsIn (o ∷ i) (with_first n xs)) → IsIn (o ∷ i) (map (λ x. n ∷ x) xs ++ with_first n xs)
-    go (inl e) next = in_append (o ∷ i) (map (λ x. n ∷ x) xs) (with_first n xs) (inl (subst (λ (m : ℕ). IsIn (m ∷ i) (map (λ x. n ∷ x) xs)) (sym e) (in_map n i xs k)))
+    go (inl e) next = in_append (o ∷ i) (map (λ x. n ∷ x) xs) (with_first n xs)
+        (inl (subst (λ (m : ℕ). IsIn (m ∷ i) (map (λ x. n ∷ x) xs)) (sym e) (in_map n i xs k)))
     go (inr ne) next = in_append (o ∷ i) (map (λ x. n ∷ x) xs) (with_first n xs) (inr (next (omega arith)))
 
 octet_lists : ℕ → List (List ℕ)
@@ -158,20 +159,34 @@ candidates_differ n j k e =
 
 candidate_is : (n k : ℕ) → n < 16 → k < 65536 → IsIdOf n (candidate n k)
 unfolding candidate shard_of_id
-candidate_is n k small few = record { four = refl; octets = (omega arith, (lit< tt, (omega arith, (omega arith, tt)))); shard = refl; not_zero = λ (p, q, r). absurd (omega (arith, p)) }
+candidate_is n k small few = record {
+  four = refl;
+  octets = (omega arith, (lit< tt, (omega arith, (omega arith, tt))));
+  shard = refl;
+  not_zero = λ
+      (p, q, r). absurd (omega (arith, p));
+}
 
 -- a free one below m, or m that are open
-search_free : (S : State) (n m : ℕ) → n < 16 → m ≤ 65536 → ((k : ℕ) × (k < 65536) × (S.dialogues (candidate n k) ≡ None)) ⊎ ((is : List (List ℕ)) × AreOpen S n is × (length is ≡ m) × ((k : ℕ) → m ≤ k → IsNotIn (candidate n k) is))
+search_free : (S : State) (n m : ℕ) → n < 16 → m ≤ 65536 → ((k : ℕ) × (k < 65536) × (S.dialogues (candidate n k) ≡ None))
+    ⊎ ((is : List (List ℕ)) × AreOpen S n is × (length is ≡ m) × ((k : ℕ) → m ≤ k → IsNotIn (candidate n k) is))
 search_free S n zero small few = inr ([], record { different = tt; open_ones = tt }, refl, (λ k h. tt))
 search_free S n (suc m) small few = go (search_free S n m small (omega arith)) (S.dialogues (candidate n m)) refl
   where
-    go : ((k : ℕ) × (k < 65536) × (S.dialogues (candidate n k) ≡ None)) ⊎ ((is : List (List ℕ)) × AreOpen S n is × (length is ≡ m) × ((k : ℕ) → m ≤ k → IsNotIn (candidate n k) is)) → (o : Option Dialogue) → S.dialogues (candidate n m) ≡ o
-        → ((k : ℕ) × (k < 65536) × (S.dialogues (candidate n k) ≡ None)) ⊎ ((is : List (List ℕ)) × AreOpen S n is × (length is ≡ suc m) × ((k : ℕ) → suc m ≤ k → IsNotIn (candidate n k) is))
+    go : ((k : ℕ) × (k < 65536) × (S.dialogues (candidate n k) ≡ None))
+        ⊎ ((is : List (List ℕ)) × AreOpen S n is × (length is ≡ m) × ((k : ℕ) → m ≤ k → IsNotIn (candidate n k) is)) → (o : Option Dialogue)
+        → S.dialogues (candidate n m) ≡ o
+        → ((k : ℕ) × (k < 65536) × (S.dialogues (candidate n k) ≡ None))
+        ⊎ ((is : List (List ℕ)) × AreOpen S n is × (length is ≡ suc m) × ((k : ℕ) → suc m ≤ k → IsNotIn (candidate n k) is))
     go (inl found) o e = inl found
     go (inr rest) None e = inl (m, omega arith, e)
     go (inr (is, o, len, apart)) (Some d) e = inr (
       candidate n m ∷ is,
-      record { different = (apart m (omega arith), o.different); open_ones = (((candidate_is n m small (omega arith)).shard, λ z. none_some d _ z e), o.open_ones) },
+      record {
+        different = (apart m (omega arith), o.different);
+        open_ones =
+            (((candidate_is n m small (omega arith)).shard, λ z. none_some d _ z e), o.open_ones);
+      },
       omega arith,
       (λ k h. (λ q. let same_one : k ≡ m = candidates_differ n k m q in absurd (omega arith), apart k (omega arith))),
     )
@@ -179,7 +194,8 @@ search_free S n (suc m) small few = go (search_free S n m small (omega arith)) (
 pub free_id : (S : State) (n : ℕ) → Sound S → n < 16 → (new : List ℕ) × IsNewId S n new
 free_id S n sound small = go (search_free S n 4097 small (omega arith))
   where
-    go : ((k : ℕ) × (k < 65536) × (S.dialogues (candidate n k) ≡ None)) ⊎ ((is : List (List ℕ)) × AreOpen S n is × (length is ≡ 4097) × ((k : ℕ) → 4097 ≤ k → IsNotIn (candidate n k) is)) → (new : List ℕ) × IsNewId S n new
+    go : ((k : ℕ) × (k < 65536) × (S.dialogues (candidate n k) ≡ None))
+        ⊎ ((is : List (List ℕ)) × AreOpen S n is × (length is ≡ 4097) × ((k : ℕ) → 4097 ≤ k → IsNotIn (candidate n k) is)) → (new : List ℕ) × IsNewId S n new
     go (inl (k, few, free)) = (candidate n k, record { of_shard = candidate_is n k small few; is_new = free })
     go (inr (is, o, len, apart)) = let most : length is ≤ 4096 = sound.few n is o in absurd (omega arith)
 
@@ -194,7 +210,8 @@ abbrev order : Triple → Triple → Ordering
 order = then_cmp (on (λ (t : Triple). t.deadline) nat_cmp) (then_cmp (on (λ (t : Triple). t.id) (slice_cmp nat_cmp)) (on (λ (t : Triple). t.invoke) int_cmp))
 
 order_total : IsTotalOrder order
-order_total = then_total (on_total (λ (t : Triple). t.deadline) nat_cmp_total) (then_total (on_total (λ (t : Triple). t.id) nat_list_cmp_total) (on_total (λ (t : Triple). t.invoke) int_cmp_total))
+order_total = then_total (on_total (λ (t : Triple). t.deadline) nat_cmp_total)
+    (then_total (on_total (λ (t : Triple). t.id) nat_list_cmp_total) (on_total (λ (t : Triple). t.invoke) int_cmp_total))
 
 not_greater : (a b : Ordering) → a ≡ ordering_reverse b → is_gt a ≡ true → is_gt b ≡ false
 not_greater a Less e h = refl
@@ -213,7 +230,8 @@ order_chain x y z h g = by (order x y) (order y z) refl refl h g
     by a Greater p q h g = absurd (both_ways true g refl)
     by Equal b p q h g = ap (λ o. is_gt o) (order_total.congr x y z p ∙ q) ∙ g
     by Less Less p q h g = ap (λ o. is_gt o) (order_total.trans x y z p q)
-    by Less Equal p q h g = back (order z x) refl (order_total.congr z y x (order_total.antisymm z y ∙ ap (λ o. ordering_reverse o) q) ∙ order_total.antisymm y x ∙ ap (λ o. ordering_reverse o) p)
+    by Less Equal p q h g = back (order z x) refl (order_total.congr z y x (order_total.antisymm z y ∙ ap (λ o. ordering_reverse o) q)
+        ∙ order_total.antisymm y x ∙ ap (λ o. ordering_reverse o) p)
 
 -- the least that is due among some, or none is
 record LeastOf (S : State) (n : ℕ) (P : List ℕ → ℤ → Type 0) : Type 0 where
@@ -222,7 +240,8 @@ record LeastOf (S : State) (n : ℕ) (P : List ℕ → ℤ → Type 0) : Type 0 
   pub j : ℤ
   pub v : Invocation
   pub due : IsDue S n i d j v
-  pub least : (i' : List ℕ) (d' : Dialogue) (j' : ℤ) (v' : Invocation) → P i' j' → IsDue S n i' d' j' v' → is_gt (triple_cmp v.deadline i j v'.deadline i' j') ≡ false
+  pub least : (i' : List ℕ) (d' : Dialogue) (j' : ℤ) (v' : Invocation) → P i' j' → IsDue S n i' d' j' v'
+      → is_gt (triple_cmp v.deadline i j v'.deadline i' j') ≡ false
 
 abbrev NoneOf : State → ℕ → (List ℕ → ℤ → Type 0) → Type 0
 NoneOf S n P = (i : List ℕ) (d : Dialogue) (j : ℤ) (v : Invocation) → P i j → IsDue S n i d j v → ⊥
@@ -240,14 +259,18 @@ found_both S n P Q (inr none) (inr none') = inr (λ i d j v h due. by i d j v h 
     by : (i : List ℕ) (d : Dialogue) (j : ℤ) (v : Invocation) → P i j ⊎ Q i j → IsDue S n i d j v → ⊥
     by i d j v (inl h) due = none i d j v h due
     by i d j v (inr h) due = none' i d j v h due
-found_both S n P Q (inl one) (inr none) = inl (record { i = one.i; d = one.d; j = one.j; v = one.v; due = one.due; least = λ i' d' j' v' h due. by i' d' j' v' h due })
+found_both S n P Q (inl one) (inr none) = inl
+    (record { i = one.i; d = one.d; j = one.j; v = one.v; due = one.due; least = λ i' d' j' v' h due. by i' d' j' v' h due })
   where
-    by : (i' : List ℕ) (d' : Dialogue) (j' : ℤ) (v' : Invocation) → P i' j' ⊎ Q i' j' → IsDue S n i' d' j' v' → is_gt (triple_cmp one.v.deadline one.i one.j v'.deadline i' j') ≡ false
+    by : (i' : List ℕ) (d' : Dialogue) (j' : ℤ) (v' : Invocation) → P i' j' ⊎ Q i' j' → IsDue S n i' d' j' v'
+        → is_gt (triple_cmp one.v.deadline one.i one.j v'.deadline i' j') ≡ false
     by i' d' j' v' (inl h) due = one.least i' d' j' v' h due
     by i' d' j' v' (inr h) due = absurd (none i' d' j' v' h due)
-found_both S n P Q (inr none) (inl one) = inl (record { i = one.i; d = one.d; j = one.j; v = one.v; due = one.due; least = λ i' d' j' v' h due. by i' d' j' v' h due })
+found_both S n P Q (inr none) (inl one) = inl
+    (record { i = one.i; d = one.d; j = one.j; v = one.v; due = one.due; least = λ i' d' j' v' h due. by i' d' j' v' h due })
   where
-    by : (i' : List ℕ) (d' : Dialogue) (j' : ℤ) (v' : Invocation) → P i' j' ⊎ Q i' j' → IsDue S n i' d' j' v' → is_gt (triple_cmp one.v.deadline one.i one.j v'.deadline i' j') ≡ false
+    by : (i' : List ℕ) (d' : Dialogue) (j' : ℤ) (v' : Invocation) → P i' j' ⊎ Q i' j' → IsDue S n i' d' j' v'
+        → is_gt (triple_cmp one.v.deadline one.i one.j v'.deadline i' j') ≡ false
     by i' d' j' v' (inl h) due = absurd (none i' d' j' v' h due)
     by i' d' j' v' (inr h) due = one.least i' d' j' v' h due
 found_both S n P Q (inl a) (inl b) = by (is_gt (triple_cmp a.v.deadline a.i a.j b.v.deadline b.i b.j)) refl
@@ -258,21 +281,43 @@ found_both S n P Q (inl a) (inl b) = by (is_gt (triple_cmp a.v.deadline a.i a.j 
     tb : Triple
     tb = record { deadline = b.v.deadline; id = b.i; invoke = b.j }
 
-    first : is_gt (triple_cmp a.v.deadline a.i a.j b.v.deadline b.i b.j) ≡ false → (i' : List ℕ) (d' : Dialogue) (j' : ℤ) (v' : Invocation) → P i' j' ⊎ Q i' j' → IsDue S n i' d' j' v' → is_gt (triple_cmp a.v.deadline a.i a.j v'.deadline i' j') ≡ false
+    first : is_gt (triple_cmp a.v.deadline a.i a.j b.v.deadline b.i b.j) ≡ false → (i' : List ℕ) (d' : Dialogue) (j' : ℤ) (v' : Invocation) → P i' j' ⊎ Q i' j'
+        → IsDue S n i' d' j' v' → is_gt (triple_cmp a.v.deadline a.i a.j v'.deadline i' j') ≡ false
     first e i' d' j' v' (inl h) due = a.least i' d' j' v' h due
-    first e i' d' j' v' (inr h) due = order_chain (record { deadline = a.v.deadline; id = a.i; invoke = a.j }) (record { deadline = b.v.deadline; id = b.i; invoke = b.j }) (record { deadline = v'.deadline; id = i'; invoke = j' }) e (b.least i' d' j' v' h due)
+    first e i' d' j' v' (inr h) due = order_chain (record { deadline = a.v.deadline; id = a.i; invoke = a.j })
+        (record { deadline = b.v.deadline; id = b.i; invoke = b.j }) (record { deadline = v'.deadline; id = i'; invoke = j' }) e (b.least i' d' j' v' h due)
 
-    second : is_gt (triple_cmp b.v.deadline b.i b.j a.v.deadline a.i a.j) ≡ false → (i' : List ℕ) (d' : Dialogue) (j' : ℤ) (v' : Invocation) → P i' j' ⊎ Q i' j' → IsDue S n i' d' j' v' → is_gt (triple_cmp b.v.deadline b.i b.j v'.deadline i' j') ≡ false
+    second : is_gt (triple_cmp b.v.deadline b.i b.j a.v.deadline a.i a.j) ≡ false → (i' : List ℕ) (d' : Dialogue) (j' : ℤ) (v' : Invocation) → P i' j' ⊎ Q i' j'
+        → IsDue S n i' d' j' v' → is_gt (triple_cmp b.v.deadline b.i b.j v'.deadline i' j') ≡ false
     second e i' d' j' v' (inr h) due = b.least i' d' j' v' h due
-    second e i' d' j' v' (inl h) due = order_chain (record { deadline = b.v.deadline; id = b.i; invoke = b.j }) (record { deadline = a.v.deadline; id = a.i; invoke = a.j }) (record { deadline = v'.deadline; id = i'; invoke = j' }) e (a.least i' d' j' v' h due)
+    second e i' d' j' v' (inl h) due = order_chain (record { deadline = b.v.deadline; id = b.i; invoke = b.j })
+        (record { deadline = a.v.deadline; id = a.i; invoke = a.j }) (record { deadline = v'.deadline; id = i'; invoke = j' }) e (a.least i' d' j' v' h due)
 
     by : (t : Bool) → is_gt (triple_cmp a.v.deadline a.i a.j b.v.deadline b.i b.j) ≡ t → Found S n (OneOf P Q)
     by false e = inl (record { i = a.i; d = a.d; j = a.j; v = a.v; due = a.due; least = first e })
-    by true e = inl (record { i = b.i; d = b.d; j = b.j; v = b.v; due = b.due; least = second (not_greater _ _ (order_total.antisymm (record { deadline = a.v.deadline; id = a.i; invoke = a.j }) (record { deadline = b.v.deadline; id = b.i; invoke = b.j })) e) })
+    by true e = inl (record {
+      i = b.i;
+      d = b.d;
+      j = b.j;
+      v = b.v;
+      due = b.due;
+      least = second
+          (not_greater _ _ (order_total.antisymm (record { deadline = a.v.deadline; id = a.i; invoke = a.j })
+          (record { deadline = b.v.deadline; id = b.i; invoke = b.j })) e);
+    })
 
 -- the same search
-found_for : (S : State) (n : ℕ) (P Q : List ℕ → ℤ → Type 0) → ((i : List ℕ) (d : Dialogue) (j : ℤ) (v : Invocation) → Q i j → IsDue S n i d j v → P i j) → Found S n P → Found S n Q
-found_for S n P Q f (inl one) = inl (record { i = one.i; d = one.d; j = one.j; v = one.v; due = one.due; least = λ i' d' j' v' h due. one.least i' d' j' v' (f i' d' j' v' h due) due })
+found_for : (S : State) (n : ℕ) (P Q : List ℕ → ℤ → Type 0) → ((i : List ℕ) (d : Dialogue) (j : ℤ) (v : Invocation) → Q i j → IsDue S n i d j v → P i j)
+    → Found S n P → Found S n Q
+found_for S n P Q f (inl one) = inl (record {
+  i = one.i;
+  d = one.d;
+  j = one.j;
+  v = one.v;
+  due = one.due;
+  least = λ i' d' j' v' h due. one.least i' d' j' v'
+      (f i' d' j' v' h due) due;
+})
 found_for S n P Q f (inr none) = inr (λ i d j v h due. none i d j v (f i d j v h due) due)
 
 -- of one id and one invoke id
@@ -297,12 +342,15 @@ one_exactly S n k u d v due = record { i = k; d = d; j = u; v = v; due = due; le
         reflexive : (t : Bool) → is_gt (triple_cmp v.deadline k u v'.deadline k u) ≡ t → v.deadline ≡ v'.deadline → t ≡ false
         reflexive false e q = refl
         reflexive true e q =
-            let back : is_gt (triple_cmp v'.deadline k u v.deadline k u) ≡ false = not_greater _ _ (order_total.antisymm (record { deadline = v.deadline; id = k; invoke = u }) (record { deadline = v'.deadline; id = k; invoke = u })) e in
+            let back : is_gt (triple_cmp v'.deadline k u v.deadline k u)
+            ≡ false = not_greater _ _ (order_total.antisymm (record { deadline = v.deadline; id = k; invoke = u })
+            (record { deadline = v'.deadline; id = k; invoke = u })) e in
             let P : ℕ → Type 0 = λ t. is_gt (triple_cmp v'.deadline k u t k u) ≡ false in
             let R : ℕ → Type 0 = λ t. is_gt (triple_cmp t k u v'.deadline k u) ≡ false in
             absurd (both_ways _ (subst R (sym q) (subst P q back)) e)
 
-    by : (i' : List ℕ) (d' : Dialogue) (j' : ℤ) (v' : Invocation) → Exactly k u i' j' → IsDue S n i' d' j' v' → is_gt (triple_cmp v.deadline k u v'.deadline i' j') ≡ false
+    by : (i' : List ℕ) (d' : Dialogue) (j' : ℤ) (v' : Invocation) → Exactly k u i' j' → IsDue S n i' d' j' v'
+        → is_gt (triple_cmp v.deadline k u v'.deadline i' j') ≡ false
     by i' d' j' v' e other =
         let P : List ℕ → Type 0 = λ x. IsDue S n x d' j' v' in
         let Q : ℤ → Type 0 = λ x. IsDue S n k d' x v' in
@@ -315,7 +363,8 @@ found_exactly : (S : State) (n : ℕ) (k : List ℕ) (d : Dialogue) (u : ℤ) �
 found_exactly S n k d u there shard_is = by (invocation_of u d.invocations) refl
   where
     by : (o : Option Invocation) → invocation_of u d.invocations ≡ o → Found S n (Exactly k u)
-    by None e = inr (none_exactly S n k u (λ d' v' due. none_some v' _ (ap (λ (f : Dialogue). invocation_of u f.invocations) (some_inj d' d _ due.is_open there) ∙ e) due.stands))
+    by None e = inr (none_exactly S n k u (λ d' v' due. none_some v' _
+        (ap (λ (f : Dialogue). invocation_of u f.invocations) (some_inj d' d _ due.is_open there) ∙ e) due.stands))
     by (Some v) e = at (cases_lt (S.clocks n) v.deadline)
       where
         at : (S.clocks n < v.deadline) ⊎ (v.deadline ≤ S.clocks n) → Found S n (Exactly k u)
@@ -334,7 +383,8 @@ abbrev HasId : List Invocation → ℤ → Type 0
 HasId [] j = ⊥
 HasId (v ∷ vs) j = (j ≡ v.id) ⊎ HasId vs j
 
-found_among : (S : State) (n : ℕ) (k : List ℕ) (d : Dialogue) (vs : List Invocation) → S.dialogues k ≡ Some d → shard_of_id k ≡ n → Found S n (λ i j. (i ≡ k) × HasId vs j)
+found_among : (S : State) (n : ℕ) (k : List ℕ) (d : Dialogue) (vs : List Invocation) → S.dialogues k ≡ Some d → shard_of_id k ≡ n
+    → Found S n (λ i j. (i ≡ k) × HasId vs j)
 found_among S n k d [] there shard_is = inr (λ i d' j v h due. h.1)
 found_among S n k d (v ∷ vs) there shard_is =
     found_for S n (OneOf (Exactly k v.id) (λ i j. (i ≡ k) × HasId vs j)) (λ i j. (i ≡ k) × HasId (v ∷ vs) j) (λ i d' j w h due. by i j h.0 h.1)
@@ -360,7 +410,11 @@ found_at S n k = go (cases_eq (shard_of_id k) n) (S.dialogues k) refl
     go (inr ne) o e = inr (λ i d j v h due. ne (ap shard_of_id (sym h) ∙ due.of_shard))
     go (inl q) None e = inr (λ i d j v h due. none_some d _ (ap S.dialogues h ∙ e) due.is_open)
     go (inl q) (Some d) e = found_for S n (λ i j. (i ≡ k) × HasId d.invocations j) (λ i j. i ≡ k)
-        (λ i d' j v h due. (h, let d_is : d' ≡ d = some_inj d' d _ due.is_open (ap S.dialogues h ∙ e) in has_id j d.invocations v (ap (λ (f : Dialogue). invocation_of j f.invocations) (sym d_is) ∙ due.stands)))
+        (λ i d' j v h due. (
+          h,
+          let d_is : d' ≡ d = some_inj d' d _ due.is_open (ap S.dialogues h ∙ e) in has_id j d.invocations v
+              (ap (λ (f : Dialogue). invocation_of j f.invocations) (sym d_is) ∙ due.stands),
+        ))
         (found_among S n k d d.invocations e q)
 
 found_in : (S : State) (n : ℕ) (js : List (List ℕ)) → Found S n (λ i j. IsIn i js)
@@ -372,7 +426,11 @@ expiry_turns : (S : State) (n : ℕ) → Sound S → (turn : Turn) × Expiry S n
 expiry_turns S n sound = go (found_in S n all_ids)
   where
     go : Found S n (λ i j. IsIn i all_ids) → (turn : Turn) × Expiry S n turn
-    go (inl one) = (Expires one.i one.d one.j one.v.was, OneDue one.i one.d one.j one.v one.due (λ i' d' j' v' due. one.least i' d' j' v' (open_in_all S i' sound (λ z. none_some d' _ z due.is_open)) due) refl)
+    go (inl one) = (
+      Expires one.i one.d one.j one.v.was,
+      OneDue one.i one.d one.j one.v one.due
+          (λ i' d' j' v' due. one.least i' d' j' v' (open_in_all S i' sound (λ z. none_some d' _ z due.is_open)) due) refl,
+    )
     go (inr none) = (Dismissed [], NoneDue (λ i d j v due. none i d j v (open_in_all S i sound (λ z. none_some d _ z due.is_open)) due) refl)
 
 event_turns : (S : State) (e : Event) → Sound S → (turn : Turn) × TurnsTo S e turn
@@ -386,10 +444,17 @@ event_turns S (Operator imsi change) sound = (Changes imsi change, refl)
 abbrev Goes : State → Event → Type 0
 Goes S e = ((T : State) × (a : Answer) × Step S e T a) ⊎ HasNoRoom S e
 
-taken_step : (S : State) (e : Event) (turn : Turn) (new : List ℕ) → TurnsTo S e turn → (IsTrue (is_some (outcome_in S (route S.directory e) turn new).opens) → IsNewId S (route S.directory e) new) → (WouldOverflow S (route S.directory e) turn (outcome_in S (route S.directory e) turn new) → ⊥) → Goes S e
+taken_step : (S : State) (e : Event) (turn : Turn) (new : List ℕ) → TurnsTo S e turn
+    → (IsTrue (is_some (outcome_in S (route S.directory e) turn new).opens) → IsNewId S (route S.directory e) new)
+    → (WouldOverflow S (route S.directory e) turn (outcome_in S (route S.directory e) turn new) → ⊥) → Goes S e
 taken_step S e turn new turns opens room = inl (
   ticked turn (moved S (concern S.directory turn) (named turn) new (outcome_in S (route S.directory e) turn new)),
-  record { id = taken new (outcome_in S (route S.directory e) turn new).opens; subject = subject_of S turn; sent = (outcome_in S (route S.directory e) turn new).sent },
+  record {
+    id = taken new (outcome_in S (route S.directory e) turn new).opens;
+    subject = subject_of S turn;
+    sent =
+        (outcome_in S (route S.directory e) turn new).sent;
+  },
   Taken turn new turns (record { opens = opens; room = room; state = refl; id = refl; subject = refl; sent = refl }),
 )
 
@@ -403,13 +468,14 @@ change_event S e _ imsi change (Expiring m i d j v is due least) q = cc
 change_event S e _ imsi change (Changing y k is) q = cc
 
 -- in a full shard, in addition to the open ones
-overflows : (S : State) (e : Event) (turn : Turn) (new : List ℕ) → View S e turn → TurnsTo S e turn → WouldOverflow S (route S.directory e) turn (outcome_in S (route S.directory e) turn new) → (x : List ℕ) → concern S.directory turn ≡ Some x → Goes S e
+overflows : (S : State) (e : Event) (turn : Turn) (new : List ℕ) → View S e turn → TurnsTo S e turn
+    → WouldOverflow S (route S.directory e) turn (outcome_in S (route S.directory e) turn new) → (x : List ℕ) → concern S.directory turn ≡ Some x → Goes S e
 overflows S e turn new v turns w x c = by turn refl
   where
     away : (from r : List ℕ) (p : Option (List ℕ)) (cs : List Component) → turn ≡ Begins from r p cs → Goes S e
     away from r p cs is = inl (
       S,
-      record { id = None; subject = subject_of S turn; sent = send from (SentAbort r (Cause no_resources)) },
+      record { id = None; subject = subject_of S turn; sent = send from (SentAbort r (Cause RESOURCE_LIMITATION)) },
       Full turn new turns (record { from = from; origin = r; name = p; components = cs; begins = is; overflows = w; state = refl; id = refl; subject = refl; sent = refl }),
     )
 
@@ -438,15 +504,19 @@ each_event_goes S e sound = go (event_turns S e sound)
         by : (c : Option (List ℕ)) → concern S.directory turn ≡ c → Goes S e
         by None c =
             let bare : Bare (outcome (local_of_nobody S (route S.directory e)) turn []) = bare_came S e turn (route S.directory e) [] (view S e turn turns) c in
-            let shut : IsTrue (is_some (outcome_in S (route S.directory e) turn []).opens) → ⊥ = (λ t. both_ways false refl (sym (ap (λ o. is_some (outcome (seen S (route S.directory e) o) turn []).opens) c ∙ ap (λ o. is_some o) bare.opens) ∙ t)) in
+            let shut : IsTrue (is_some (outcome_in S (route S.directory e) turn []).opens)
+            → ⊥ = (λ t. both_ways false refl (sym (ap (λ o. is_some (outcome (seen S (route S.directory e) o) turn []).opens) c
+            ∙ ap (λ o. is_some o) bare.opens) ∙ t)) in
             taken_step S e turn [] turns (λ t. absurd (shut t)) (λ w. shut w.opens)
         by (Some x) c =
             let f : Facts S e turn x [] (route S.directory e) = facts S e turn x [] (route S.directory e) sound (view S e turn turns) c in
             let small : route S.directory e < 16 = subst (λ (m : ℕ). m < 16) (sym f.here) (shard_small x) in
             let new : (i : List ℕ) × IsNewId S (route S.directory e) i = free_id S (route S.directory e) sound small in
-            with_id x c new.0 new.1 (full_or_not S (route S.directory e) sound) (is_some (outcome_in S (route S.directory e) turn new.0).opens) refl (named turn) refl
+            with_id x c new.0 new.1 (full_or_not S (route S.directory e) sound) (is_some (outcome_in S (route S.directory e) turn new.0).opens) refl
+            (named turn) refl
           where
-            with_id : (x : List ℕ) → concern S.directory turn ≡ Some x → (new : List ℕ) → IsNewId S (route S.directory e) new → IsFull S (route S.directory e) ⊎ (IsFull S (route S.directory e) → ⊥)
+            with_id : (x : List ℕ) → concern S.directory turn ≡ Some x → (new : List ℕ) → IsNewId S (route S.directory e) new
+                → IsFull S (route S.directory e) ⊎ (IsFull S (route S.directory e) → ⊥)
                 → (b : Bool) → is_some (outcome_in S (route S.directory e) turn new).opens ≡ b → (o : Option (List ℕ)) → named turn ≡ o → Goes S e
             with_id x c new id (inr room) b q o z = taken_step S e turn new turns (λ t. id) (λ w. room w.full)
             with_id x c new id (inl full) false q o z = taken_step S e turn new turns (λ t. id) (λ w. both_ways _ q w.opens)

@@ -1,13 +1,13 @@
 -- A purge that names no register, or another than the serving one, changes nothing.
 use Rattle.std.proofs.Common.{◌≡◌, ℕ, ℤ, List, [], ◌∷◌, Bool, true, false, cond, refl, sym, ap, ◌∙◌, subst, Option, Some, None}
 use Rattle.machine.specs.Received.{Argument, Begin, Component, Purge, Read, Register}
-use Rattle.machine.specs.Begins.{Asker, answered, begins, begins_in, begins_named, begun, first_argument, offer_in, purge, purge_at}
+use Rattle.machine.specs.Begins.{Initiator, end_of_begin, begins, begins_in, begins_named, begun, first_argument, offer_in, purge, purge_at}
 use Rattle.machine.specs.Contexts.{accepted}
 use Rattle.machine.specs.Effect.{effect}
 use Rattle.machine.specs.Events.{Event, Frame}
 use Rattle.machine.specs.Holders.{served_by, serving}
 use Rattle.machine.specs.Keys.{put, same}
-use Rattle.machine.specs.Numbers.{unknown_subscriber}
+use Rattle.machine.specs.declared.numbers.TheConstants.{UNKNOWN_SUBSCRIBER}
 use Rattle.machine.specs.Outcome.{Outcome, unchanged}
 use Rattle.machine.specs.Routing.{named_in, route}
 use Rattle.machine.specs.Sent.{Context, Out, PurgeResult, SentError}
@@ -29,35 +29,35 @@ module _ (L : Local) (new : List ℕ) where
   answers : (sent : List Out) → IsStill L (unchanged L sent)
   answers sent = record { after = refl; opens = refl }
 
-  still_at : (asker : Asker) (k : ℤ) (s : Subscriber) (v : List ℕ) (g : Option Register) → served_by g v ≡ false
-      → IsStill L (purge_at L asker k s v g)
-  still_at asker k s v None other = answers _
-  still_at asker k s v (Some g) other = by (same g.vlr v) other
+  still_at : (initiator : Initiator) (k : ℤ) (s : Subscriber) (v : List ℕ) (g : Option Register) → served_by g v ≡ false
+      → IsStill L (purge_at L initiator k s v g)
+  still_at initiator k s v None other = answers _
+  still_at initiator k s v (Some g) other = by (same g.vlr v) other
     where
       by : (b : Bool) → b ≡ false
           → IsStill L (cond b
-          (record { after = Some (record s { purged = true }); stays = None; opens = None; sent = answered asker (PurgeResult k true ∷ []) })
-          (unchanged L (answered asker (PurgeResult k false ∷ []))))
+          (record { after = Some (record s { purged = true }); stays = None; opens = None; sent = end_of_begin initiator (PurgeResult k true ∷ []) })
+          (unchanged L (end_of_begin initiator (PurgeResult k false ∷ []))))
       by true e = cc
       by false e = answers _
 
-  still_purge : (asker : Asker) (k : ℤ) (vlr : Option (List ℕ)) (found : Option Subscriber) → IsForeign vlr found
-      → IsStill L (purge L asker k vlr found)
-  still_purge asker k None found other = answers _
-  still_purge asker k (Some v) None other = answers _
-  still_purge asker k (Some v) (Some s) other = by s.withdrawn
+  still_purge : (initiator : Initiator) (k : ℤ) (vlr : Option (List ℕ)) (found : Option Subscriber) → IsForeign vlr found
+      → IsStill L (purge L initiator k vlr found)
+  still_purge initiator k None found other = answers _
+  still_purge initiator k (Some v) None other = answers _
+  still_purge initiator k (Some v) (Some s) other = by s.withdrawn
     where
       by : (b : Bool)
-          → IsStill L (cond b (unchanged L (answered asker (SentError k unknown_subscriber ∷ []))) (purge_at L asker k s v s.register))
+          → IsStill L (cond b (unchanged L (end_of_begin initiator (SentError k UNKNOWN_SUBSCRIBER ∷ []))) (purge_at L initiator k s v s.register))
       by true = answers _
-      by false = still_at asker k s v s.register (other v refl)
+      by false = still_at initiator k s v s.register (other v refl)
 
   module _ (imsi : List ℕ) (vlr : Option (List ℕ)) (other : IsForeign vlr L.record_of) where
-    still_begun : (asker : Asker) (started : Option ℤ) (p : Option Argument) → p ≡ Some (Purge imsi vlr)
-        → IsStill L (begun L asker started p new)
-    still_begun asker None p e = answers _
-    still_begun asker (Some k) p e =
-        subst (λ q. IsStill L (begun L asker (Some k) q new)) (sym e) (still_purge asker k vlr L.record_of other)
+    still_begun : (initiator : Initiator) (started : Option ℤ) (p : Option Argument) → p ≡ Some (Purge imsi vlr)
+        → IsStill L (begun L initiator started p new)
+    still_begun initiator None p e = answers _
+    still_begun initiator (Some k) p e =
+        subst (λ q. IsStill L (begun L initiator (Some k) q new)) (sym e) (still_purge initiator k vlr L.record_of other)
 
     still_in : (from origin : List ℕ) (c : Context) (cs : List Component) → first_argument cs ≡ Some (Purge imsi vlr)
         → IsStill L (begins_in L from origin c cs new)

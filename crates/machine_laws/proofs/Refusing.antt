@@ -3,7 +3,7 @@ use Rattle.std.proofs.Common.{◌≡◌, ℕ, ℤ, List, [], ◌∷◌, Bool, tr
 use Rattle.std.proofs.lemmas.Bool.{both_ways}
 use Rattle.machine.specs.Step.{Answer, Full, HasNoRoom, Moves, Step, Taken, TurnedAway, known_in, outcome_in, seen, subject_of}
 use Rattle.machine.specs.Received.{Argument, BadValue, Begin, Component, Purge, Read, Register, Route, Update}
-use Rattle.machine.specs.Begins.{Asker, answered, begins, begins_in, begins_named, begun, first_argument, procedure, purge, purge_at, update_begins}
+use Rattle.machine.specs.Begins.{Initiator, end_of_begin, begins, begins_in, begins_named, begun, first_argument, procedure, purge, purge_at, update_begins}
 use Rattle.machine.specs.Turns.{Begins, Changes, Turn, TurnsTo, concern}
 use Rattle.machine.specs.Events.{Change, Clock, Event, Expire, Frame, Operator}
 use Rattle.machine.specs.Sent.{Context, PurgeResult}
@@ -46,7 +46,8 @@ pub record IsUpdateHere (L : Local) (cs : List Component) : Type 0 where
   pub known : IsTrue (is_some L.record_of)
 
 -- either way of a test of which only the first opens
-opens_first : (P : Type 0) (b : Bool) (o p : Outcome) → (IsTrue (is_some o.opens) → P) → (IsTrue (is_some p.opens) → P) → IsTrue (is_some (cond b o p).opens) → P
+opens_first : (P : Type 0) (b : Bool) (o p : Outcome) → (IsTrue (is_some o.opens) → P) → (IsTrue (is_some p.opens) → P) → IsTrue (is_some (cond b o p).opens)
+    → P
 opens_first P true o p f g h = f h
 opens_first P false o p f g h = g h
 
@@ -54,35 +55,40 @@ pub never : (P : Type 0) → IsTrue false → P
 never P h = absurd (both_ways false refl h)
 
 module _ (L : Local) (new : List ℕ) where
-  opens_known : (asker : Asker) (k : ℤ) (register : Register) (R : Option Subscriber) → L.record_of ≡ R → IsTrue (is_some (update_begins L asker k register R new).opens) → IsTrue (is_some L.record_of)
-  opens_known asker k register None r h = never _ h
-  opens_known asker k register (Some s) r h = ap (λ o. is_some o) r
+  opens_known : (initiator : Initiator) (k : ℤ) (register : Register) (R : Option Subscriber) → L.record_of ≡ R
+      → IsTrue (is_some (update_begins L initiator k register R new).opens) → IsTrue (is_some L.record_of)
+  opens_known initiator k register None r h = never _ h
+  opens_known initiator k register (Some s) r h = ap (λ o. is_some o) r
 
-  purge_opens : (P : Type 0) (asker : Asker) (k : ℤ) (vlr : Option (List ℕ)) (R : Option Subscriber) → IsTrue (is_some (purge L asker k vlr R).opens) → P
-  purge_opens P asker k None R h = never P h
-  purge_opens P asker k (Some vlr) None h = never P h
-  purge_opens P asker k (Some vlr) (Some s) h = opens_first P s.withdrawn _ (purge_at L asker k s vlr s.register) (never P) (at_register s.register) h
+  purge_opens : (P : Type 0) (initiator : Initiator) (k : ℤ) (vlr : Option (List ℕ)) (R : Option Subscriber)
+      → IsTrue (is_some (purge L initiator k vlr R).opens) → P
+  purge_opens P initiator k None R h = never P h
+  purge_opens P initiator k (Some vlr) None h = never P h
+  purge_opens P initiator k (Some vlr) (Some s) h = opens_first P s.withdrawn _ (purge_at L initiator k s vlr s.register) (never P) (at_register s.register) h
     where
-      at_register : (g : Option Register) → IsTrue (is_some (purge_at L asker k s vlr g).opens) → P
+      at_register : (g : Option Register) → IsTrue (is_some (purge_at L initiator k s vlr g).opens) → P
       at_register None q = never P q
-      at_register (Some g) q = opens_first P (same g.vlr vlr) _ (unchanged L (answered asker (PurgeResult k false ∷ []))) (never P) (never P) q
+      at_register (Some g) q = opens_first P (same g.vlr vlr) _ (unchanged L (end_of_begin initiator (PurgeResult k false ∷ []))) (never P) (never P) q
 
-  procedure_opens : (asker : Asker) (k : ℤ) (p : Argument) (cs : List Component) → first_argument cs ≡ Some p → IsTrue (is_some (procedure L asker k p new).opens) → IsUpdateHere L cs
-  procedure_opens asker k BadValue cs q h = never _ h
-  procedure_opens asker k (Update imsi register) cs q h = record { imsi = imsi; register = register; argument = q; known = opens_known asker k register L.record_of refl h }
-  procedure_opens asker k (Purge imsi vlr) cs q h = purge_opens _ asker k vlr L.record_of h
-  procedure_opens asker k (Route msisdn) cs q h = never _ h
+  procedure_opens : (initiator : Initiator) (k : ℤ) (p : Argument) (cs : List Component) → first_argument cs ≡ Some p
+      → IsTrue (is_some (procedure L initiator k p new).opens) → IsUpdateHere L cs
+  procedure_opens initiator k BadValue cs q h = never _ h
+  procedure_opens initiator k (Update imsi register) cs q h = record { imsi = imsi; register = register; argument = q; known = opens_known initiator k register L.record_of refl h }
+  procedure_opens initiator k (Purge imsi vlr) cs q h = purge_opens _ initiator k vlr L.record_of h
+  procedure_opens initiator k (Route msisdn) cs q h = never _ h
 
-  begun_opens : (asker : Asker) (s : Option ℤ) (p : Option Argument) (cs : List Component) → first_argument cs ≡ p → IsTrue (is_some (begun L asker s p new).opens) → IsUpdateHere L cs
-  begun_opens asker None p cs q h = never _ h
-  begun_opens asker (Some k) None cs q h = never _ h
-  begun_opens asker (Some k) (Some p) cs q h = procedure_opens asker k p cs q h
+  begun_opens : (initiator : Initiator) (s : Option ℤ) (p : Option Argument) (cs : List Component) → first_argument cs ≡ p
+      → IsTrue (is_some (begun L initiator s p new).opens) → IsUpdateHere L cs
+  begun_opens initiator None p cs q h = never _ h
+  begun_opens initiator (Some k) None cs q h = never _ h
+  begun_opens initiator (Some k) (Some p) cs q h = procedure_opens initiator k p cs q h
 
   in_opens : (from r : List ℕ) (c : Context) (cs : List Component) → IsTrue (is_some (begins_in L from r c cs new).opens) → IsUpdateHere L cs
   in_opens from r c [] h = never _ h
   in_opens from r c (k ∷ ks) h = begun_opens _ _ (first_argument (k ∷ ks)) (k ∷ ks) refl h
 
-  named_opens : (from r name : List ℕ) (c : Option Context) (cs : List Component) → IsTrue (is_some (begins_named L from r name c cs new).opens) → IsUpdateHere L cs
+  named_opens : (from r name : List ℕ) (c : Option Context) (cs : List Component) → IsTrue (is_some (begins_named L from r name c cs new).opens)
+      → IsUpdateHere L cs
   named_opens from r name None cs h = never _ h
   named_opens from r name (Some c) cs h = in_opens from r c cs h
 
@@ -92,7 +98,8 @@ module _ (L : Local) (new : List ℕ) where
 
 -- what is turned away is an update of its subject
 
-begin_event : (S : State) (e : Event) (turn : Turn) (from r : List ℕ) (p : Option (List ℕ)) (cs : List Component) → View S e turn → turn ≡ Begins from r p cs → e ≡ Frame from (Read (Begin r p cs))
+begin_event : (S : State) (e : Event) (turn : Turn) (from r : List ℕ) (p : Option (List ℕ)) (cs : List Component) → View S e turn → turn ≡ Begins from r p cs
+    → e ≡ Frame from (Read (Begin r p cs))
 begin_event S e _ from r p cs (Idly out quiet) q = cc
 begin_event S e _ from r p cs (Ticking m now is) q = cc
 begin_event S e _ from r p cs (Beginning from' r' p' cs' is) q = cc
@@ -109,7 +116,9 @@ record_known : (S : State) (n : ℕ) (x : List ℕ) → IsTrue (is_some (local_o
 unfolding local_of
 record_known S n x h = h
 
-pub away_is : (S : State) (e : Event) (turn : Turn) (new : List ℕ) (T : State) (a : Answer) → TurnsTo S e turn → TurnedAway S (route S.directory e) turn (outcome_in S (route S.directory e) turn new) T a → (x : List ℕ) × MetFullShard S e T a x × (is_turned_away a.sent ≡ true)
+pub away_is : (S : State) (e : Event) (turn : Turn) (new : List ℕ) (T : State) (a : Answer) → TurnsTo S e turn
+    → TurnedAway S (route S.directory e) turn (outcome_in S (route S.directory e) turn new) T a
+    → (x : List ℕ) × MetFullShard S e T a x × (is_turned_away a.sent ≡ true)
 away_is S e turn new T a turns t = go (asked S.directory t.components) refl
   where
     n : ℕ
@@ -120,7 +129,8 @@ away_is S e turn new T a turns t = go (asked S.directory t.components) refl
 
     sight : (o : Option (List ℕ)) → asked S.directory t.components ≡ o → IsUpdateHere (seen S (route S.directory e) o) t.components
     sight o q = begins_opens (seen S (route S.directory e) o) new t.from t.origin t.name t.components
-        (sym (ap (λ (p : Outcome). is_some p.opens) (ap (λ k. outcome_in S (route S.directory e) k new) t.begins ∙ ap (λ p. begins (seen S (route S.directory e) p) t.from t.origin t.name t.components new) q)) ∙ t.overflows.opens)
+        (sym (ap (λ (p : Outcome). is_some p.opens) (ap (λ k. outcome_in S (route S.directory e) k new) t.begins
+        ∙ ap (λ p. begins (seen S (route S.directory e) p) t.from t.origin t.name t.components new) q)) ∙ t.overflows.opens)
 
     go : (o : Option (List ℕ)) → asked S.directory t.components ≡ o → (x : List ℕ) × MetFullShard S e T a x × (is_turned_away a.sent ≡ true)
     go None q = absurd (nobody_known S (route S.directory e) (sight None q).known)
@@ -136,7 +146,8 @@ away_is S e turn new T a turns t = go (asked S.directory t.components) refl
             register = one.register;
             event = begin_event S e turn t.from t.origin t.name t.components (view S e turn turns) t.begins;
             argument = one.argument ∙ ap (λ (y : List ℕ). Some (Update y one.register)) is_x;
-            subject = t.subject ∙ ap (λ k. subject_of S k) t.begins ∙ ap (λ p. known_in S p) q ∙ known_is x (S.records x) (record_known S (route S.directory e) x one.known);
+            subject = t.subject ∙ ap (λ k. subject_of S k) t.begins ∙ ap (λ p. known_in S p) q
+                ∙ known_is x (S.records x) (record_known S (route S.directory e) x one.known);
             full = t.overflows.full;
             unchanged = t.state;
           },

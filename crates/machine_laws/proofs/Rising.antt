@@ -48,7 +48,8 @@ every_join P (u ∷ us) vs h g = (h.0, every_join P us vs h.1 g)
 -- after components
 
 module _ {P : Type 0} where
-  pub concluded_as : (Q : List Invocation → Type 0) (now : ℕ) (cs : List (ComponentOf P)) (v : Invocation) → Q [] → ((u : Invocation) → u.id ≡ v.id → Q (u ∷ [])) → Q (concluded now cs v)
+  pub concluded_as : (Q : List Invocation → Type 0) (now : ℕ) (cs : List (ComponentOf P)) (v : Invocation) → Q []
+      → ((u : Invocation) → u.id ≡ v.id → Q (u ∷ [])) → Q (concluded now cs v)
   concluded_as Q now cs v none one = by (is_sent v.was)
     where
       ends : (o : Option (ComponentOf P)) → Q (concluded_by now v o)
@@ -65,12 +66,15 @@ module _ {P : Type 0} where
       by true = ends (concluding v.id cs)
       by false = one v refl
 
-  pub every_concluded : (Q : ℤ → Type 0) (now : ℕ) (cs : List (ComponentOf P)) (v : Invocation) → Q v.id → Every (λ (u : Invocation). Q u.id) (concluded now cs v)
+  pub every_concluded : (Q : ℤ → Type 0) (now : ℕ) (cs : List (ComponentOf P)) (v : Invocation) → Q v.id
+      → Every (λ (u : Invocation). Q u.id) (concluded now cs v)
   every_concluded Q now cs v h = concluded_as (λ us. Every (λ (u : Invocation). Q u.id) us) now cs v tt (λ u e. (subst Q (sym e) h, tt))
 
-  pub every_after : (Q : ℤ → Type 0) (now : ℕ) (cs : List (ComponentOf P)) (vs : List Invocation) → Every (λ (u : Invocation). Q u.id) vs → Every (λ (u : Invocation). Q u.id) (invocations_after now cs vs)
+  pub every_after : (Q : ℤ → Type 0) (now : ℕ) (cs : List (ComponentOf P)) (vs : List Invocation) → Every (λ (u : Invocation). Q u.id) vs
+      → Every (λ (u : Invocation). Q u.id) (invocations_after now cs vs)
   every_after Q now cs [] h = tt
-  every_after Q now cs (v ∷ vs) h = every_join _ (concluded now cs v) (invocations_after now cs vs) (every_concluded Q now cs v h.0) (every_after Q now cs vs h.1)
+  every_after Q now cs (v ∷ vs) h = every_join _ (concluded now cs v) (invocations_after now cs vs) (every_concluded Q now cs v h.0)
+      (every_after Q now cs vs h.1)
 
   pub rising_after : (now : ℕ) (cs : List (ComponentOf P)) (vs : List Invocation) → AreRising vs → AreRising (invocations_after now cs vs)
   rising_after now cs [] h = tt

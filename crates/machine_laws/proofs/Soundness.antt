@@ -1,6 +1,6 @@
 -- A step keeps sound states sound.
 use Rattle.std.proofs.Common.{◌≡◌, ◌≤◌, ◌<◌, ℕ, suc, List, ◌∷◌, length, refl, sym, ap, ◌∙◌, subst, ◌⊎◌, inl, inr, arith, Option, Some, None, is_some, IsTrue, take, length-take-le}
-use Rattle.std.proofs.lemmas.Bool.{and_from, both_ways, cases_lt}
+use Rattle.std.proofs.lemmas.Bool.{cases_lt}
 use Rattle.machine.specs.Keys.{AreDifferent, Every, put, shard_of, shard_of_id}
 use Rattle.machine.specs.State.{AreOpen, Dialogue, IsFull, IsIdOf, State, Subscriber, local_of}
 use Rattle.machine.specs.Sound.{IsUpdateOf, Sound, SoundDialogue, SoundRecord}
@@ -20,21 +20,24 @@ pub data From (S : State) (i : Option (List ℕ)) (new : List ℕ) (o : Outcome)
   Stayed : i ≡ Some j → o.stays ≡ Some d → From S i new o j d
   Was_there : S.dialogues j ≡ Some d → (i ≡ Some j → ⊥) → From S i new o j d
 
-from_named : (S : State) (i : Option (List ℕ)) (new : List ℕ) (o : Outcome) (j : List ℕ) (d : Dialogue) → named_stays i o.stays S.dialogues j ≡ Some d → From S i new o j d
+from_named : (S : State) (i : Option (List ℕ)) (new : List ℕ) (o : Outcome) (j : List ℕ) (d : Dialogue) → named_stays i o.stays S.dialogues j ≡ Some d
+    → From S i new o j d
 from_named S None new o j d e = Was_there e (λ h. none_some j None refl h)
 from_named S (Some k) new o j d e =
     put_cases S.dialogues k o.stays j (λ v. v ≡ Some d → From S (Some k) new o j d)
     (λ kj h. Stayed (ap (λ (q : List ℕ). Some q) kj) h)
     (λ ne h. Was_there h (λ q. ne (some_inj k j _ refl q))) e
 
-from_new : (S : State) (i : Option (List ℕ)) (new : List ℕ) (o : Outcome) (j : List ℕ) (d : Dialogue) (opens : Option Dialogue) → o.opens ≡ opens → new_opens new opens (named_stays i o.stays S.dialogues) j ≡ Some d → From S i new o j d
+from_new : (S : State) (i : Option (List ℕ)) (new : List ℕ) (o : Outcome) (j : List ℕ) (d : Dialogue) (opens : Option Dialogue) → o.opens ≡ opens
+    → new_opens new opens (named_stays i o.stays S.dialogues) j ≡ Some d → From S i new o j d
 from_new S i new o j d None q e = from_named S i new o j d e
 from_new S i new o j d (Some f) q e =
     put_cases (named_stays i o.stays S.dialogues) new (Some f) j (λ v. v ≡ Some d → From S i new o j d)
     (λ nj h. Opened nj (q ∙ h))
     (λ ne h. from_named S i new o j d h) e
 
-pub from : (S : State) (i : Option (List ℕ)) (new : List ℕ) (o : Outcome) (j : List ℕ) (d : Dialogue) → new_opens new o.opens (named_stays i o.stays S.dialogues) j ≡ Some d → From S i new o j d
+pub from : (S : State) (i : Option (List ℕ)) (new : List ℕ) (o : Outcome) (j : List ℕ) (d : Dialogue)
+    → new_opens new o.opens (named_stays i o.stays S.dialogues) j ≡ Some d → From S i new o j d
 from S i new o j d e = from_new S i new o j d o.opens refl e
 
 -- a dialogue that is neither the new one nor the named one is as it was
@@ -42,11 +45,13 @@ named_other : (m : List ℕ → Option Dialogue) (i : Option (List ℕ)) (stays 
 named_other m None stays j h = refl
 named_other m (Some k) stays j h = put-other m k stays j (λ e. h (ap (λ (q : List ℕ). Some q) e))
 
-pub opens_other : (m : List ℕ → Option Dialogue) (new : List ℕ) (opens : Option Dialogue) (j : List ℕ) → (IsTrue (is_some opens) → new ≡ j → ⊥) → new_opens new opens m j ≡ m j
+pub opens_other : (m : List ℕ → Option Dialogue) (new : List ℕ) (opens : Option Dialogue) (j : List ℕ) → (IsTrue (is_some opens) → new ≡ j → ⊥)
+    → new_opens new opens m j ≡ m j
 opens_other m new None j h = refl
 opens_other m new (Some d) j h = put-other m new (Some d) j (h refl)
 
-pub others_stay : (S : State) (i : Option (List ℕ)) (new : List ℕ) (o : Outcome) (j : List ℕ) → (i ≡ Some j → ⊥) → (IsTrue (is_some o.opens) → new ≡ j → ⊥) → new_opens new o.opens (named_stays i o.stays S.dialogues) j ≡ S.dialogues j
+pub others_stay : (S : State) (i : Option (List ℕ)) (new : List ℕ) (o : Outcome) (j : List ℕ) → (i ≡ Some j → ⊥) → (IsTrue (is_some o.opens) → new ≡ j → ⊥)
+    → new_opens new o.opens (named_stays i o.stays S.dialogues) j ≡ S.dialogues j
 others_stay S i new o j h g = opens_other (named_stays i o.stays S.dialogues) new o.opens j g ∙ named_other S.dialogues i o.stays j h
 
 some_is : {X : Type 0} (o : Option X) (x : X) → o ≡ Some x → IsTrue (is_some o)
@@ -59,8 +64,10 @@ is_there (Some d) h = (d, refl)
 not_none : (o : Option Dialogue) (d : Dialogue) → o ≡ Some d → o ≡ None → ⊥
 not_none o d e n = none_some d o n e
 
-module _ (S : State) (n : ℕ) (x : List ℕ) (i : Option (List ℕ)) (new : List ℕ) (o : Outcome) (began vlr : Option (List ℕ)) (sound : Sound S) (good : Good (local_of S n x) S.dialogues i began vlr new o)
-    (here : n ≡ shard_of x) (names : NamesOf S x i) (of_shard : IsTrue (is_some o.opens) → IsIdOf n new) (is_new : IsTrue (is_some o.opens) → S.dialogues new ≡ None)
+module _ (S : State) (n : ℕ) (x : List ℕ) (i : Option (List ℕ)) (new : List ℕ) (o : Outcome) (began vlr : Option (List ℕ)) (sound : Sound S)
+    (good : Good (local_of S n x) S.dialogues i began vlr new o)
+    (here : n ≡ shard_of x) (names : NamesOf S x i) (of_shard : IsTrue (is_some o.opens) → IsIdOf n new)
+    (is_new : IsTrue (is_some o.opens) → S.dialogues new ≡ None)
     (room : IsTrue (is_some o.opens) → i ≡ None → IsFull S n → ⊥) where
   after : State
   after = moved S (Some x) i new o
@@ -74,7 +81,8 @@ module _ (S : State) (n : ℕ) (x : List ℕ) (i : Option (List ℕ)) (new : Lis
   record_is = refl
 
   known_still : (y : List ℕ) → is_some (put S.records x o.after y) ≡ is_some (S.records y)
-  known_still y = put_cases S.records x o.after y (λ v. is_some v ≡ is_some (S.records y)) (λ e. good.known ∙ ap (λ r. is_some r) record_is ∙ ap (λ z. is_some (S.records z)) e) (λ h. refl)
+  known_still y = put_cases S.records x o.after y (λ v. is_some v ≡ is_some (S.records y))
+      (λ e. good.known ∙ ap (λ r. is_some r) record_is ∙ ap (λ z. is_some (S.records z)) e) (λ h. refl)
 
   opened_known : (d : Dialogue) → o.opens ≡ Some d → IsTrue (is_some (S.records x))
   opened_known d e = sym (ap (λ r. is_some r) record_is) ∙ (good.opens d e).1
@@ -84,7 +92,8 @@ module _ (S : State) (n : ℕ) (x : List ℕ) (i : Option (List ℕ)) (new : Lis
       let like : Like (local_of S n x).imsi vlr d = (good.opens d e).0 in
       let sub : d.subscriber ≡ x = like.subscriber ∙ imsi_is in
       record {
-        id = subst (λ (k : List ℕ). IsIdOf (shard_of d.subscriber) k) nj (subst (λ (m : ℕ). IsIdOf m new) (here ∙ ap shard_of (sym sub)) (of_shard (some_is o.opens d e)));
+        id = subst (λ (k : List ℕ). IsIdOf (shard_of d.subscriber) k) nj
+            (subst (λ (m : ℕ). IsIdOf m new) (here ∙ ap shard_of (sym sub)) (of_shard (some_is o.opens d e)));
         has_record = known_still d.subscriber ∙ ap (λ z. is_some (S.records z)) sub ∙ opened_known d e;
         has_sent = like.has_sent;
         rising = like.rising;
@@ -105,14 +114,16 @@ module _ (S : State) (n : ℕ) (x : List ℕ) (i : Option (List ℕ)) (new : Lis
       record { id = before.id; has_record = known_still d.subscriber ∙ before.has_record; has_sent = before.has_sent; rising = before.rising }
 
   -- the marked dialogue of another subscriber is neither the new one nor the named one
-  other_update : (y : List ℕ) (j : List ℕ) → (x ≡ y → ⊥) → IsUpdateOf y (S.dialogues j) → new_opens new o.opens (named_stays i o.stays S.dialogues) j ≡ S.dialogues j
+  other_update : (y : List ℕ) (j : List ℕ) → (x ≡ y → ⊥) → IsUpdateOf y (S.dialogues j)
+      → new_opens new o.opens (named_stays i o.stays S.dialogues) j ≡ S.dialogues j
   other_update y j ne u = others_stay S i new o j
       (λ ij. let was : (f : Dialogue) × (S.dialogues j ≡ Some f) × (f.subscriber ≡ x) = names j ij in
       let P : Option Dialogue → Type 0 = λ v. IsUpdateOf y v in
       ne (sym was.2 ∙ (subst P was.1 u).0))
       (λ h nj. let P : Option Dialogue → Type 0 = λ v. IsUpdateOf y v in subst P (ap S.dialogues (sym nj) ∙ is_new h) u)
 
-  sound_record : (y : List ℕ) (s : Subscriber) → put S.records x o.after y ≡ Some s → SoundRecord (new_opens new o.opens (named_stays i o.stays S.dialogues)) y s
+  sound_record : (y : List ℕ) (s : Subscriber) → put S.records x o.after y ≡ Some s
+      → SoundRecord (new_opens new o.opens (named_stays i o.stays S.dialogues)) y s
   sound_record y s = put_cases S.records x o.after y (λ v. v ≡ Some s → SoundRecord (new_opens new o.opens (named_stays i o.stays S.dialogues)) y s)
       (λ xy e. subst (λ z. SoundRecord (new_opens new o.opens (named_stays i o.stays S.dialogues)) z s) (imsi_is ∙ xy) (good.sound is_new s e))
       (λ ne e. record_keeps y S.dialogues (new_opens new o.opens (named_stays i o.stays S.dialogues)) s (sound.records y s e)
@@ -133,7 +144,8 @@ module _ (S : State) (n : ℕ) (x : List ℕ) (i : Option (List ℕ)) (new : Lis
   Open_after : ℕ → List ℕ → Type 0
   Open_after m j = (shard_of_id j ≡ m) × (new_opens new o.opens (named_stays i o.stays S.dialogues) j ≡ None → ⊥)
 
-  few_after : (m : ℕ) (is : List (List ℕ)) → AreDifferent is → Every (λ j. (shard_of_id j ≡ m) × (new_opens new o.opens (named_stays i o.stays S.dialogues) j ≡ None → ⊥)) is → length is ≤ 4096
+  few_after : (m : ℕ) (is : List (List ℕ)) → AreDifferent is → Every
+      (λ j. (shard_of_id j ≡ m) × (new_opens new o.opens (named_stays i o.stays S.dialogues) j ≡ None → ⊥)) is → length is ≤ 4096
   few_after m is different open_ones = by_opens o.opens refl
     where
       E : List ℕ → Option Dialogue
@@ -143,23 +155,38 @@ module _ (S : State) (n : ℕ) (x : List ℕ) (i : Option (List ℕ)) (new : Lis
       rest_open : AreOpen S m (less new is)
       rest_open = record {
         different = different_less new is different;
-        open_ones = every_with (λ j. (shard_of_id j ≡ m) × (new_opens new o.opens (named_stays i o.stays S.dialogues) j ≡ None → ⊥)) (λ j. new ≡ j → ⊥) (λ j. (shard_of_id j ≡ m) × (S.dialogues j ≡ None → ⊥))
-            (λ j h ne. (h.0, let d : (f : Dialogue) × (new_opens new o.opens (named_stays i o.stays S.dialogues) j ≡ Some f) = is_there _ h.1 in was_open j d.0 (from S i new o j d.0 d.1) ne))
+        open_ones = every_with (λ j. (shard_of_id j ≡ m) × (new_opens new o.opens (named_stays i o.stays S.dialogues) j ≡ None → ⊥)) (λ j. new ≡ j → ⊥)
+            (λ j. (shard_of_id j ≡ m) × (S.dialogues j ≡ None → ⊥))
+            (λ j h ne. (
+              h.0,
+              let d : (f : Dialogue) × (new_opens new o.opens (named_stays i o.stays S.dialogues) j ≡ Some f) = is_there _ h.1 in was_open j d.0
+                  (from S i new o j d.0 d.1) ne,
+            ))
             (less new is) (every_less new _ is open_ones) (none_less new is different);
       }
 
       all_open : o.opens ≡ None → AreOpen S m is
       all_open q = record {
         different = different;
-        open_ones = every_to (λ j. (shard_of_id j ≡ m) × (new_opens new o.opens (named_stays i o.stays S.dialogues) j ≡ None → ⊥)) (λ j. (shard_of_id j ≡ m) × (S.dialogues j ≡ None → ⊥))
-            (λ j h. (h.0, let d : (f : Dialogue) × (new_opens new o.opens (named_stays i o.stays S.dialogues) j ≡ Some f) = is_there _ h.1 in was_open_all q j d.0 (from S i new o j d.0 d.1))) is open_ones;
+        open_ones = every_to (λ j. (shard_of_id j ≡ m) × (new_opens new o.opens (named_stays i o.stays S.dialogues) j ≡ None → ⊥))
+            (λ j. (shard_of_id j ≡ m) × (S.dialogues j ≡ None → ⊥))
+            (λ j h. (
+              h.0,
+              let d : (f : Dialogue) × (new_opens new o.opens (named_stays i o.stays S.dialogues) j
+                  ≡ Some f) = is_there _ h.1 in was_open_all q j d.0 (from S i new o j d.0 d.1),
+            )) is open_ones;
       }
 
       other_shard : IsTrue (is_some o.opens) → (m ≡ n → ⊥) → AreOpen S m is
       other_shard q ne = record {
         different = different;
-        open_ones = every_to (λ j. (shard_of_id j ≡ m) × (new_opens new o.opens (named_stays i o.stays S.dialogues) j ≡ None → ⊥)) (λ j. (shard_of_id j ≡ m) × (S.dialogues j ≡ None → ⊥))
-            (λ j h. (h.0, let d : (f : Dialogue) × (new_opens new o.opens (named_stays i o.stays S.dialogues) j ≡ Some f) = is_there _ h.1 in was_open j d.0 (from S i new o j d.0 d.1) (λ nj. ne (sym h.0 ∙ ap shard_of_id (sym nj) ∙ (of_shard q).shard)))) is open_ones;
+        open_ones = every_to (λ j. (shard_of_id j ≡ m) × (new_opens new o.opens (named_stays i o.stays S.dialogues) j ≡ None → ⊥))
+            (λ j. (shard_of_id j ≡ m) × (S.dialogues j ≡ None → ⊥))
+            (λ j h. (
+              h.0,
+              let d : (f : Dialogue) × (new_opens new o.opens (named_stays i o.stays S.dialogues) j ≡ Some f) = is_there _ h.1 in was_open j d.0
+                  (from S i new o j d.0 d.1) (λ nj. ne (sym h.0 ∙ ap shard_of_id (sym nj) ∙ (of_shard q).shard)),
+            )) is open_ones;
       }
 
       full_if : m ≡ n → 4096 ≤ length (less new is) → IsFull S n
@@ -167,7 +194,8 @@ module _ (S : State) (n : ℕ) (x : List ℕ) (i : Option (List ℕ)) (new : Lis
         take 4096 (less new is),
         record {
           different = different_take 4096 (less new is) rest_open.different;
-          open_ones = let P : ℕ → Type 0 = λ k. Every (λ j. (shard_of_id j ≡ k) × (S.dialogues j ≡ None → ⊥)) (take 4096 (less new is)) in subst P mn (every_take 4096 _ (less new is) rest_open.open_ones);
+          open_ones = let P : ℕ → Type 0 = λ k. Every (λ j. (shard_of_id j ≡ k) × (S.dialogues j ≡ None → ⊥)) (take 4096 (less new is)) in subst P mn
+              (every_take 4096 _ (less new is) rest_open.open_ones);
         },
         length-take-le 4096 (less new is) h,
       )
@@ -179,8 +207,10 @@ module _ (S : State) (n : ℕ) (x : List ℕ) (i : Option (List ℕ)) (new : Lis
           let shard_k : shard_of_id k ≡ m = before.id.shard ∙ ap shard_of was.2 ∙ sym here ∙ sym mn in
           let more : AreOpen S m (k ∷ less new is) = record {
             different = (
-              every_with (λ j. (shard_of_id j ≡ m) × (new_opens new o.opens (named_stays i o.stays S.dialogues) j ≡ None → ⊥)) (λ j. new ≡ j → ⊥) (λ j. k ≡ j → ⊥)
-                  (λ j h ne kj. h.1 (opens_other (named_stays i o.stays S.dialogues) new o.opens j (λ _. ne) ∙ gone_at j kj)) (less new is) (every_less new _ is open_ones) (none_less new is different),
+              every_with (λ j. (shard_of_id j ≡ m) × (new_opens new o.opens (named_stays i o.stays S.dialogues) j ≡ None → ⊥)) (λ j. new ≡ j → ⊥)
+                  (λ j. k ≡ j → ⊥)
+                  (λ j h ne kj. h.1 (opens_other (named_stays i o.stays S.dialogues) new o.opens j (λ _. ne) ∙ gone_at j kj)) (less new is)
+                  (every_less new _ is open_ones) (none_less new is different),
               rest_open.different,
             );
             open_ones = ((shard_k, λ z. none_some was.0 _ z was.1), rest_open.open_ones);

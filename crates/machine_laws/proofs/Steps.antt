@@ -36,9 +36,16 @@ pub sound_before : (S : State) (n : ℕ) (x : List ℕ) → Sound S → SoundBef
 unfolding local_of
 sound_before S n x sound s e = sound.records x s e
 
-at_dialogue : (S : State) (n : ℕ) (i : List ℕ) (d f : Dialogue) → Sound S → S.dialogues i ≡ Some d → f.subscriber ≡ d.subscriber → f.kind ≡ d.kind → f.invocations ≡ d.invocations → At (local_of S n d.subscriber) S.dialogues i f
+at_dialogue : (S : State) (n : ℕ) (i : List ℕ) (d f : Dialogue) → Sound S → S.dialogues i ≡ Some d → f.subscriber ≡ d.subscriber → f.kind ≡ d.kind
+    → f.invocations ≡ d.invocations → At (local_of S n d.subscriber) S.dialogues i f
 unfolding local_of
-at_dialogue S n i d f sound e s k v = record { known = (sound.dialogues i d e).has_record; subscriber = s; there = (d, e, refl, sym k); rising = subst (λ us. AreRising us) (sym v) (sound.dialogues i d e).rising }
+at_dialogue S n i d f sound e s k v = record {
+  known = (sound.dialogues i d e).has_record;
+  subscriber = s;
+  there = (d, e, refl, sym k);
+  rising = subst
+      (λ us. AreRising us) (sym v) (sound.dialogues i d e).rising;
+}
 
 pub shard_small : (x : List ℕ) → shard_of x < 16
 unfolding shard_of
@@ -56,7 +63,8 @@ one_name S i d e j q = (d, ap S.dialogues (sym (some_inj i j _ refl q)) ∙ e, r
 no_name : (S : State) (x : List ℕ) → NamesOf S x None
 no_name S x j q = absurd (none_some j None refl q)
 
-pub facts : (S : State) (e : Event) (turn : Turn) (x new : List ℕ) (n : ℕ) → Sound S → View S e turn → concern S.directory turn ≡ Some x → Facts S e turn x new n
+pub facts : (S : State) (e : Event) (turn : Turn) (x new : List ℕ) (n : ℕ) → Sound S → View S e turn → concern S.directory turn ≡ Some x
+    → Facts S e turn x new n
 facts S e _ x new n sound (Idly out q) c = absurd (none_some x None refl c)
 facts S e _ x new n sound (Ticking m now q) c = absurd (none_some x None refl c)
 facts S e _ x new n sound (Beginning from r p cs q) c =
@@ -69,15 +77,18 @@ facts S e _ x new n sound (Beginning from r p cs q) c =
 facts S e _ x new n sound (Continuing i d t cs there active v nm r) c =
     let P : List ℕ → Type 0 = λ y. Facts S e (Continues i (record d { transaction = t }) cs) y new n in
     subst P (some_inj d.subscriber x _ refl c) (record {
-      good = let Q : Option (List ℕ) → Type 0 = λ w. Good (local_of S n d.subscriber) S.dialogues (Some i) (vlr_of_kind d.kind) w new (outcome (local_of S n d.subscriber) (Continues i (record d { transaction = t }) cs) new) in
-          subst Q (sym v) (good_continues (local_of S n d.subscriber) S.dialogues new i (record d { transaction = t }) (sound_before S n d.subscriber sound) (at_dialogue S n i d (record d { transaction = t }) sound there refl refl refl) cs active);
+      good = let Q : Option (List ℕ) → Type 0 = λ w. Good (local_of S n d.subscriber) S.dialogues (Some i) (vlr_of_kind d.kind) w new
+          (outcome (local_of S n d.subscriber) (Continues i (record d { transaction = t }) cs) new) in
+          subst Q (sym v) (good_continues (local_of S n d.subscriber) S.dialogues new i (record d { transaction = t }) (sound_before S n d.subscriber sound)
+          (at_dialogue S n i d (record d { transaction = t }) sound there refl refl refl) cs active);
       names = one_name S i d there;
       here = r ∙ shard_named_is S i d sound there;
     })
 facts S e _ x new n sound (Closing i d there v nm r) c =
     let P : List ℕ → Type 0 = λ y. Facts S e (Closes i d) y new n in
     subst P (some_inj d.subscriber x _ refl c) (record {
-      good = good_closes (local_of S n d.subscriber) S.dialogues (vlr_of e) new i d (sound_before S n d.subscriber sound) (at_dialogue S n i d d sound there refl refl refl) (vlr_of_kind d.kind);
+      good = good_closes (local_of S n d.subscriber) S.dialogues (vlr_of e) new i d (sound_before S n d.subscriber sound)
+          (at_dialogue S n i d d sound there refl refl refl) (vlr_of_kind d.kind);
       names = one_name S i d there;
       here = r ∙ shard_named_is S i d sound there;
     })
@@ -85,7 +96,8 @@ facts S e _ x new n sound (Expiring m i d j v q due least) c =
     let P : List ℕ → Type 0 = λ y. Facts S e (Expires i d j v.was) y new n in
     let R : Event → Type 0 = λ f. Facts S f (Expires i d j v.was) d.subscriber new n in
     subst P (some_inj d.subscriber x _ refl c) (subst R (sym q) (record {
-      good = good_expires (local_of S n d.subscriber) S.dialogues new i d (sound_before S n d.subscriber sound) (at_dialogue S n i d d sound due.is_open refl refl refl) j v due.stands (sound.dialogues i d due.is_open).has_sent;
+      good = good_expires (local_of S n d.subscriber) S.dialogues new i d (sound_before S n d.subscriber sound)
+          (at_dialogue S n i d d sound due.is_open refl refl refl) j v due.stands (sound.dialogues i d due.is_open).has_sent;
       names = one_name S i d due.is_open;
       here = sym due.of_shard ∙ (sound.dialogues i d due.is_open).id.shard;
     }))
@@ -116,15 +128,21 @@ no_tick S T (Expires i d j was) x c = refl
 no_tick S T (Changes y k) x c = refl
 
 -- the state after a step whose subscriber is x
-pub state_of : (S : State) (e : Event) (turn : Turn) (x new : List ℕ) (after : State) (a : Answer) → concern S.directory turn ≡ Some x → Moves S (route S.directory e) turn new (outcome_in S (route S.directory e) turn new) after a → after ≡ moved S (Some x) (named turn) new (outcome (local_of S (route S.directory e) x) turn new)
-state_of S e turn x new after a c m = m.state ∙ no_tick S _ turn x c ∙ ap (λ (o : Option (List ℕ)). moved S o (named turn) new (outcome (seen S (route S.directory e) o) turn new)) c
+pub state_of : (S : State) (e : Event) (turn : Turn) (x new : List ℕ) (after : State) (a : Answer) → concern S.directory turn ≡ Some x
+    → Moves S (route S.directory e) turn new (outcome_in S (route S.directory e) turn new) after a
+    → after ≡ moved S (Some x) (named turn) new (outcome (local_of S (route S.directory e) x) turn new)
+state_of S e turn x new after a c m = m.state ∙ no_tick S _ turn x c
+    ∙ ap (λ (o : Option (List ℕ)). moved S o (named turn) new (outcome (seen S (route S.directory e) o) turn new)) c
 
-pub outcome_of : (S : State) (n : ℕ) (turn : Turn) (x new : List ℕ) → concern S.directory turn ≡ Some x → outcome_in S n turn new ≡ outcome (local_of S n x) turn new
+pub outcome_of : (S : State) (n : ℕ) (turn : Turn) (x new : List ℕ) → concern S.directory turn ≡ Some x
+    → outcome_in S n turn new ≡ outcome (local_of S n x) turn new
 outcome_of S n turn x new c = ap (λ (o : Option (List ℕ)). outcome (seen S n o) turn new) c
 
 -- without a subscriber, only a clock moves
-pub state_none : (S : State) (e : Event) (turn : Turn) (new : List ℕ) (after : State) (a : Answer) → concern S.directory turn ≡ None → Moves S (route S.directory e) turn new (outcome_in S (route S.directory e) turn new) after a → after ≡ ticked turn S
-state_none S e turn new after a c m = m.state ∙ ap (λ (o : Option (List ℕ)). ticked turn (moved S o (named turn) new (outcome_in S (route S.directory e) turn new))) c
+pub state_none : (S : State) (e : Event) (turn : Turn) (new : List ℕ) (after : State) (a : Answer) → concern S.directory turn ≡ None
+    → Moves S (route S.directory e) turn new (outcome_in S (route S.directory e) turn new) after a → after ≡ ticked turn S
+state_none S e turn new after a c m = m.state ∙ ap (λ (o : Option (List ℕ)). ticked turn
+    (moved S o (named turn) new (outcome_in S (route S.directory e) turn new))) c
 
 sound_ticked : (S : State) (turn : Turn) → Sound S → Sound (ticked turn S)
 sound_ticked S (Dismissed out) sound = sound
@@ -135,7 +153,9 @@ sound_ticked S (Closes i d) sound = sound
 sound_ticked S (Expires i d j was) sound = sound
 sound_ticked S (Changes y k) sound = sound
 
-taken_sound : (S : State) (e : Event) (turn : Turn) (new : List ℕ) (after : State) (a : Answer) → Sound S → View S e turn → Moves S (route S.directory e) turn new (outcome_in S (route S.directory e) turn new) after a → (c : Option (List ℕ)) → concern S.directory turn ≡ c → Sound after
+taken_sound : (S : State) (e : Event) (turn : Turn) (new : List ℕ) (after : State) (a : Answer) → Sound S → View S e turn
+    → Moves S (route S.directory e) turn new (outcome_in S (route S.directory e) turn new) after a → (c : Option (List ℕ)) → concern S.directory turn ≡ c
+    → Sound after
 taken_sound S e turn new after a sound v m None c = subst (λ T. Sound T) (sym (state_none S e turn new after a c m)) (sound_ticked S turn sound)
 taken_sound S e turn new after a sound v m (Some x) c =
     let n : ℕ = route S.directory e in

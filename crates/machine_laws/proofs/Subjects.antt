@@ -29,7 +29,8 @@ subject_known S e _ sound (Expiring m i d j v q due least) = dialogue_known S i 
 subject_known S e _ sound (Changing y k q) = refl
 
 -- in two states that know the same
-pub subject_alike : (S T : State) (turn : Turn) → known_in T (concern T.directory turn) ≡ known_in S (concern S.directory turn) → subject_of T turn ≡ subject_of S turn
+pub subject_alike : (S T : State) (turn : Turn) → known_in T (concern T.directory turn) ≡ known_in S (concern S.directory turn)
+    → subject_of T turn ≡ subject_of S turn
 subject_alike S T (Dismissed out) h = refl
 subject_alike S T (Ticks n now) h = refl
 subject_alike S T (Begins from r p cs) h = h

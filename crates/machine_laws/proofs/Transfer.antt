@@ -1,5 +1,5 @@
 -- A step in one state is a step in another that agrees with it on what the step reads.
-use Rattle.std.proofs.Common.{◌≡◌, ◌+◌, ◌≤◌, ◌<◌, ℕ, ℤ, suc, List, [], ◌∷◌, map, Bool, true, false, cond, ◌&&◌, ◌==◌, refl, sym, ap, ◌∙◌, subst, ◌⊎◌, inl, inr, Option, Some, None, is_some, IsTrue}
+use Rattle.std.proofs.Common.{◌≡◌, ℕ, List, cond, ◌==◌, refl, sym, ap, ◌∙◌, subst, Option, Some, None, is_some}
 use Rattle.std.proofs.lemmas.Bool.{ne_eqb}
 use Rattle.machine.specs.Step.{Answer, Full, Moves, Step, Taken, TurnedAway, moved, named_stays, new_opens, outcome, outcome_in, seen, subject_of, taken, ticked}
 use Rattle.machine.specs.State.{Dialogue, IsFull, IsIdOf, State, local_of}
@@ -33,7 +33,8 @@ module _ {X : Type 0} where
   put_at_other m k v q e = ap (λ b. cond b v (m q)) (ne_eqb k q e)
 
 -- the dialogues after, at one id
-pub dialogues_alike : (D E : List ℕ → Option Dialogue) (i : Option (List ℕ)) (new : List ℕ) (stays opens : Option Dialogue) (j : List ℕ) → D j ≡ E j → new_opens new opens (named_stays i stays D) j ≡ new_opens new opens (named_stays i stays E) j
+pub dialogues_alike : (D E : List ℕ → Option Dialogue) (i : Option (List ℕ)) (new : List ℕ) (stays opens : Option Dialogue) (j : List ℕ) → D j ≡ E j
+    → new_opens new opens (named_stays i stays D) j ≡ new_opens new opens (named_stays i stays E) j
 dialogues_alike D E i new stays opens j e = by_opens opens
   where
     by_named : (k : Option (List ℕ)) → named_stays k stays D j ≡ named_stays k stays E j
@@ -58,18 +59,22 @@ pub record Alike (S T : State) (e : Event) (turn : Turn) : Type 0 where
 unfoldable pub step_after : State → Event → Turn → List ℕ → State
 step_after T e turn new = ticked turn (moved T (concern T.directory turn) (named turn) new (outcome_in T (route T.directory e) turn new))
 
-pub step_after_is : (T : State) (e : Event) (turn : Turn) (new : List ℕ) → step_after T e turn new ≡ ticked turn (moved T (concern T.directory turn) (named turn) new (outcome_in T (route T.directory e) turn new))
+pub step_after_is : (T : State) (e : Event) (turn : Turn) (new : List ℕ)
+    → step_after T e turn new ≡ ticked turn (moved T (concern T.directory turn) (named turn) new (outcome_in T (route T.directory e) turn new))
 unfolding step_after
 step_after_is T e turn new = refl
 
-pub same_out : (S T : State) (e : Event) (turn : Turn) (new : List ℕ) → Alike S T e turn → outcome_in T (route T.directory e) turn new ≡ outcome_in S (route S.directory e) turn new
+pub same_out : (S T : State) (e : Event) (turn : Turn) (new : List ℕ) → Alike S T e turn
+    → outcome_in T (route T.directory e) turn new ≡ outcome_in S (route S.directory e) turn new
 same_out S T e turn new h = ap (λ L. outcome L turn new) h.same_seen
 
-pub transfer : (S T : State) (e : Event) (turn : Turn) (new : List ℕ) (S' : State) (a : Answer) → Alike S T e turn → Moves S (route S.directory e) turn new (outcome_in S (route S.directory e) turn new) S' a → Step T e (step_after T e turn new) a
+pub transfer : (S T : State) (e : Event) (turn : Turn) (new : List ℕ) (S' : State) (a : Answer) → Alike S T e turn
+    → Moves S (route S.directory e) turn new (outcome_in S (route S.directory e) turn new) S' a → Step T e (step_after T e turn new) a
 unfolding step_after
 transfer S T e turn new S' a h m =
     let o_is : outcome_in T (route T.directory e) turn new ≡ outcome_in S (route S.directory e) turn new = same_out S T e turn new h in
-    let opens_is : is_some (outcome_in T (route T.directory e) turn new).opens ≡ is_some (outcome_in S (route S.directory e) turn new).opens = ap (λ (o : Outcome). is_some o.opens) o_is in
+    let opens_is : is_some (outcome_in T (route T.directory e) turn new).opens
+    ≡ is_some (outcome_in S (route S.directory e) turn new).opens = ap (λ (o : Outcome). is_some o.opens) o_is in
     Taken turn new h.comes (record {
       opens = λ t. record {
         of_shard = subst (λ n. IsIdOf n new) (sym h.same_route) (m.opens (sym opens_is ∙ t)).of_shard;
@@ -82,7 +87,9 @@ transfer S T e turn new S' a h m =
       sent = m.sent ∙ ap (λ (o : Outcome). o.sent) (sym o_is);
     })
 
-pub transfer_full : (S T : State) (e : Event) (turn : Turn) (new : List ℕ) (S' : State) (a : Answer) → Alike S T e turn → (IsFull S (route S.directory e) → IsFull T (route T.directory e)) → TurnedAway S (route S.directory e) turn (outcome_in S (route S.directory e) turn new) S' a → Step T e T a
+pub transfer_full : (S T : State) (e : Event) (turn : Turn) (new : List ℕ) (S' : State) (a : Answer) → Alike S T e turn
+    → (IsFull S (route S.directory e) → IsFull T (route T.directory e))
+    → TurnedAway S (route S.directory e) turn (outcome_in S (route S.directory e) turn new) S' a → Step T e T a
 transfer_full S T e turn new S' a h full t =
     let o_is : outcome_in T (route T.directory e) turn new ≡ outcome_in S (route S.directory e) turn new = same_out S T e turn new h in
     Full turn new h.comes (record {
@@ -125,7 +132,8 @@ leaves_ticked S e _ (Closing i d there v nm r) = leaves_same S S _ refl
 leaves_ticked S e _ (Expiring m i d j v q due least) = leaves_same S S _ refl
 leaves_ticked S e _ (Changing y k q) = leaves_same S S _ refl
 
-leaves_moved : (S : State) (e : Event) (turn : Turn) (new x : List ℕ) (T : State) (a : Answer) → Sound S → View S e turn → concern S.directory turn ≡ Some x → Moves S (route S.directory e) turn new (outcome_in S (route S.directory e) turn new) T a → Leaves S T (route S.directory e)
+leaves_moved : (S : State) (e : Event) (turn : Turn) (new x : List ℕ) (T : State) (a : Answer) → Sound S → View S e turn → concern S.directory turn ≡ Some x
+    → Moves S (route S.directory e) turn new (outcome_in S (route S.directory e) turn new) T a → Leaves S T (route S.directory e)
 leaves_moved S e turn new x T a sound v c m =
     let n : ℕ = route S.directory e in
     let o : Outcome = outcome (local_of S n x) turn new in

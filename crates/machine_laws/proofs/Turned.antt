@@ -3,20 +3,20 @@ use Rattle.std.proofs.Common.{◌≡◌, ℕ, ℤ, List, [], ◌∷◌, ◌++◌
 use Rattle.std.proofs.lemmas.Bool.{both_ways, and_parts}
 use Rattle.machine.specs.Step.{Answer, Full, Step, Taken, outcome, seen}
 use Rattle.machine.specs.Received.{Argument, BadValue, Component, Purge, Register, Route, Update}
-use Rattle.machine.specs.Begins.{Asker, answered, begins, begins_in, begins_named, begun, is_allowed, procedure, purge, purge_at, update_begins, update_opened}
+use Rattle.machine.specs.Begins.{Initiator, end_of_begin, begins, begins_in, begins_named, begun, is_allowed, procedure, purge, purge_at, update_begins, update_opened}
 use Rattle.machine.specs.Turns.{Begins, Changes, Closes, Continues, Dismissed, Expires, Ticks, Turn, concern}
 use Rattle.machine.specs.Sent.{CancellationType, Context, PurgeResult, Rejection, SentBegin, SentComponent, SentError, SubscriberDataMngt, UpdateProcedure, UpdateResult}
 use Rattle.machine.specs.State.{Cancels, Data, Dialogue, Kind, Local, OperationSent, State, Subscriber, Transaction, Updates, WaitForReject, Was}
 use Rattle.machine.specs.Events.{Change, Codes, Event, Withdraw}
 use Rattle.machine.specs.Effect.{Conclusion, Effect, GoesOn, HasFailed, HasSucceeded, effect}
 use Rattle.machine.specs.Isolation.{MetFullShard, is_turned_away}
-use Rattle.machine.specs.Outcome.{Outcome, cancel_begin, continued, ended, inserts, is_marked, send, unchanged}
+use Rattle.machine.specs.Outcome.{Outcome, cancel_begin, continue_in_dialogue, end_in_dialogue, inserts, is_marked, send, unchanged}
 use Rattle.machine.specs.Contexts.{accepted}
 use Rattle.machine.specs.Changes.{change_to, changes, codes_to, withdraw_from}
 use Rattle.machine.specs.Dialogues.{continues_as, offer_to, other_continues, update_completes, update_continues, update_done}
 use Rattle.machine.specs.Expiries.{expires, is_repeated, sent_expires}
 use Rattle.machine.specs.Holders.{is_subject}
-use Rattle.machine.specs.Numbers.{roaming_not_allowed, system_failure}
+use Rattle.machine.specs.declared.numbers.TheConstants.{ROAMING_NOT_ALLOWED, SYSTEM_FAILURE}
 use Rattle.machine.specs.Routing.{route}
 use Rattle.machine.specs.Keys.{same}
 use Rattle.machine_laws.proofs.Keys.{none_some, same_is}
@@ -32,26 +32,28 @@ abbrev Still : Outcome → Type 0
 Still o = is_turned_away o.sent ≡ false
 
 module _ (L : Local) (new : List ℕ) where
-  still_update : (a : Asker) (k : ℤ) (reg : Register) (R : Option Subscriber) → Still (update_begins L a k reg R new)
+  still_update : (a : Initiator) (k : ℤ) (reg : Register) (R : Option Subscriber) → Still (update_begins L a k reg R new)
   still_update a k reg None = refl
-  still_update a k reg (Some s) = either Still s.withdrawn _ _ refl (either Still (is_allowed s.roam reg.vlr) (update_opened L a k reg s new) (unchanged L (answered a (SentError k roaming_not_allowed ∷ []))) refl refl)
+  still_update a k reg (Some s) = either Still s.withdrawn _ _ refl
+      (either Still (is_allowed s.roam reg.vlr) (update_opened L a k reg s new)
+      (unchanged L (end_of_begin a (SentError k ROAMING_NOT_ALLOWED ∷ []))) refl refl)
 
-  still_purge : (a : Asker) (k : ℤ) (vlr : Option (List ℕ)) (R : Option Subscriber) → Still (purge L a k vlr R)
+  still_purge : (a : Initiator) (k : ℤ) (vlr : Option (List ℕ)) (R : Option Subscriber) → Still (purge L a k vlr R)
   still_purge a k None R = refl
   still_purge a k (Some vlr) None = refl
   still_purge a k (Some vlr) (Some s) = either Still s.withdrawn _ _ refl (at_register s.register)
     where
       at_register : (g : Option Register) → Still (purge_at L a k s vlr g)
       at_register None = refl
-      at_register (Some reg) = either Still (same reg.vlr vlr) _ (unchanged L (answered a (PurgeResult k false ∷ []))) refl refl
+      at_register (Some reg) = either Still (same reg.vlr vlr) _ (unchanged L (end_of_begin a (PurgeResult k false ∷ []))) refl refl
 
-  still_procedure : (a : Asker) (k : ℤ) (p : Argument) → Still (procedure L a k p new)
+  still_procedure : (a : Initiator) (k : ℤ) (p : Argument) → Still (procedure L a k p new)
   still_procedure a k (Update imsi reg) = still_update a k reg L.record_of
   still_procedure a k (Purge imsi vlr) = still_purge a k vlr L.record_of
   still_procedure a k (Route msisdn) = refl
   still_procedure a k BadValue = refl
 
-  still_begun : (a : Asker) (s : Option ℤ) (p : Option Argument) → Still (begun L a s p new)
+  still_begun : (a : Initiator) (s : Option ℤ) (p : Option Argument) → Still (begun L a s p new)
   still_begun a None p = refl
   still_begun a (Some k) None = refl
   still_begun a (Some k) (Some p) = still_procedure a k p
@@ -68,25 +70,31 @@ module _ (L : Local) (new : List ℕ) where
   still_begins from r None cs = refl
   still_begins from r (Some name) cs = still_named from r name (accepted name) cs
 
-  still_ended : (t : Transaction) (q : Option (List ℕ)) (rejects : List Rejection) (cs : List SentComponent) → is_turned_away (ended t q rejects cs) ≡ false
+  still_ended : (t : Transaction) (q : Option (List ℕ)) (rejects : List Rejection) (cs : List SentComponent)
+      → is_turned_away (end_in_dialogue t q rejects cs) ≡ false
   still_ended t None rejects cs = refl
   still_ended t (Some r) rejects cs = refl
 
-  still_then : (t : Transaction) (q : Option (List ℕ)) (rejects : List Rejection) (cs : List SentComponent) (vlr : List ℕ) (cancellation : CancellationType) (b : Bool) → (is_turned_away (ended t q rejects cs ++ cond b [] (cancel_begin L vlr cancellation new)) ≡ false) × (is_turned_away (ended t q rejects cs ++ cond b (cancel_begin L vlr cancellation new) []) ≡ false)
+  still_then : (t : Transaction) (q : Option (List ℕ)) (rejects : List Rejection) (cs : List SentComponent) (vlr : List ℕ) (cancellation : CancellationType)
+      (b : Bool) → (is_turned_away (end_in_dialogue t q rejects cs ++ cond b [] (cancel_begin L vlr cancellation new)) ≡ false)
+      × (is_turned_away (end_in_dialogue t q rejects cs ++ cond b (cancel_begin L vlr cancellation new) []) ≡ false)
   still_then t None rejects cs vlr cancellation true = (refl, refl)
   still_then t None rejects cs vlr cancellation false = (refl, refl)
   still_then t (Some r) rejects cs vlr cancellation b = (refl, refl)
 
-  still_continued : (i : List ℕ) (t : Transaction) (q : Option (List ℕ)) (rejects : List Rejection) → is_turned_away (continued i t q rejects) ≡ false
+  still_continued : (i : List ℕ) (t : Transaction) (q : Option (List ℕ)) (rejects : List Rejection)
+      → is_turned_away (continue_in_dialogue i t q rejects) ≡ false
   still_continued i t q [] = refl
   still_continued i t None (r ∷ rs) = refl
   still_continued i t (Some s) (r ∷ rs) = refl
 
-  still_completes : (i : List ℕ) (d : Dialogue) (reg : Register) (k : ℤ) (rejects : List Rejection) (R : Option Subscriber) → Still (update_completes L i d reg k rejects new R)
-  still_completes i d reg k rejects None = still_ended d.transaction d.transaction.remote rejects (SentError k system_failure ∷ [])
-  still_completes i d reg k rejects (Some s) = either Still (is_marked s.current i) _ _ (done s.register) (still_ended d.transaction d.transaction.remote rejects (SentError k system_failure ∷ []))
+  still_completes : (i : List ℕ) (d : Dialogue) (reg : Register) (k : ℤ) (rejects : List Rejection) (R : Option Subscriber)
+      → Still (update_completes L i d reg k rejects new R)
+  still_completes i d reg k rejects None = still_ended d.transaction d.transaction.remote rejects (SentError k SYSTEM_FAILURE ∷ [])
+  still_completes i d reg k rejects (Some s) = either Still (is_marked s.current i) _ _ (done s.register)
+      (still_ended d.transaction d.transaction.remote rejects (SentError k SYSTEM_FAILURE ∷ []))
     where
-      done : (g : Option Register) → Still (update_done L reg s (ended d.transaction d.transaction.remote rejects (UpdateResult k L.hlr ∷ [])) new g)
+      done : (g : Option Register) → Still (update_done L reg s (end_in_dialogue d.transaction d.transaction.remote rejects (UpdateResult k L.hlr ∷ [])) new g)
       done None = still_ended d.transaction d.transaction.remote rejects (UpdateResult k L.hlr ∷ [])
       done (Some old) = (still_then d.transaction d.transaction.remote rejects (UpdateResult k L.hlr ∷ []) old.vlr UpdateProcedure (same old.vlr reg.vlr)).0
 
@@ -94,7 +102,7 @@ module _ (L : Local) (new : List ℕ) where
   still_part i d (Updates reg k) e = by e.conclusion
     where
       by : (c : Conclusion) → Still (update_continues L i d reg k e c new)
-      by HasFailed = still_ended d.transaction d.transaction.remote e.rejects (SentError k system_failure ∷ [])
+      by HasFailed = still_ended d.transaction d.transaction.remote e.rejects (SentError k SYSTEM_FAILURE ∷ [])
       by HasSucceeded = still_completes i d reg k e.rejects L.record_of
       by GoesOn = still_continued i d.transaction d.transaction.remote e.rejects
   still_part i d (Cancels vlr attempt cancellation) e = by e.conclusion
@@ -115,7 +123,7 @@ module _ (L : Local) (new : List ℕ) where
   still_expires i d j OperationSent = by d.kind
     where
       by : (kind : Kind) → Still (sent_expires L i d kind new)
-      by (Updates reg k) = still_ended d.transaction d.transaction.remote [] (SentError k system_failure ∷ [])
+      by (Updates reg k) = still_ended d.transaction d.transaction.remote [] (SentError k SYSTEM_FAILURE ∷ [])
       by (Cancels vlr attempt cancellation) = (still_then d.transaction d.transaction.remote [] [] vlr cancellation (is_repeated L vlr attempt)).1
       by Data = still_ended d.transaction d.transaction.remote [] []
 
@@ -150,7 +158,8 @@ module _ (L : Local) (new : List ℕ) where
   still directory (Changes y k) x c = still_changes k L.record_of
 
 -- an answer that says so is that of an update of its subject in a full shard
-pub turned_exact : (S : State) (e : Event) (T : State) (a : Answer) (x : List ℕ) → Step S e T a → is_subject x a.subject && is_turned_away a.sent ≡ true → MetFullShard S e T a x
+pub turned_exact : (S : State) (e : Event) (T : State) (a : Answer) (x : List ℕ) → Step S e T a → is_subject x a.subject && is_turned_away a.sent ≡ true
+    → MetFullShard S e T a x
 turned_exact S e T a x (Taken turn new c m) h =
     let p : (is_subject x a.subject ≡ true) × (is_turned_away a.sent ≡ true) = and_parts _ _ h in
     let y : concern S.directory turn ≡ Some x = subject_concern S x turn (sym (ap (λ o. is_subject x o) m.subject) ∙ p.0) in

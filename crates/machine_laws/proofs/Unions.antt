@@ -14,5 +14,7 @@ union_of_parts S sound late = sym (goes_union S (part S) (record {
   clocks = late;
 }))
 
-pub parts_of_union : (states : ℕ → State) (n : ℕ) → ((m : ℕ) → m < 16 → Sound (states m)) → ((m : ℕ) → m < 16 → (states m).directory ≡ (states 0).directory) → ((m : ℕ) → m < 16 → (states m).hlr ≡ (states 0).hlr) → n < 16 → states n ≡ part (states n) n → part (union states) n ≡ states n
-parts_of_union states n sounds directories hlrs small is_part = part_alike n (states n) (union states) ((union_goes states sounds directories hlrs).agree n small) ∙ sym is_part
+pub parts_of_union : (states : ℕ → State) (n : ℕ) → ((m : ℕ) → m < 16 → Sound (states m)) → ((m : ℕ) → m < 16 → (states m).directory ≡ (states 0).directory)
+    → ((m : ℕ) → m < 16 → (states m).hlr ≡ (states 0).hlr) → n < 16 → states n ≡ part (states n) n → part (union states) n ≡ states n
+parts_of_union states n sounds directories hlrs small is_part = part_alike n (states n) (union states)
+    ((union_goes states sounds directories hlrs).agree n small) ∙ sym is_part

@@ -19,8 +19,10 @@ pub data View (S : State) (e : Event) : Turn → Type 0 where
   Beginning : (from r : List ℕ) (p : Option (List ℕ)) (cs : List Component) → e ≡ Frame from (Read (Begin r p cs)) → View S e (Begins from r p cs)
   Continuing : (i : List ℕ) (d : Dialogue) (t : Transaction) (cs : List Component) → S.dialogues i ≡ Some d → IsTrue (is_some t.remote)
       → vlr_of e ≡ None → names e ≡ Some i → route S.directory e ≡ shard_named i → View S e (Continues i (record d { transaction = t }) cs)
-  Closing : (i : List ℕ) (d : Dialogue) → S.dialogues i ≡ Some d → vlr_of e ≡ None → names e ≡ Some i → route S.directory e ≡ shard_named i → View S e (Closes i d)
-  Expiring : (n : ℕ) (i : List ℕ) (d : Dialogue) (j : ℤ) (v : Invocation) → e ≡ Expire n → IsDue S n i d j v → IsLeast S n v.deadline i j → View S e (Expires i d j v.was)
+  Closing : (i : List ℕ) (d : Dialogue) → S.dialogues i ≡ Some d → vlr_of e ≡ None → names e ≡ Some i → route S.directory e ≡ shard_named i
+      → View S e (Closes i d)
+  Expiring : (n : ℕ) (i : List ℕ) (d : Dialogue) (j : ℤ) (v : Invocation) → e ≡ Expire n → IsDue S n i d j v → IsLeast S n v.deadline i j
+      → View S e (Expires i d j v.was)
   Changing : (x : List ℕ) (c : Change) → e ≡ Operator x c → View S e (Changes x c)
 
 quiet_none : Quiet []
@@ -32,7 +34,8 @@ quiet_abort from r c y is_y b h w = refl
 active_after : (t u : Transaction) (from r : List ℕ) → for_it (transact (Some t) (ContinueComes from r)) ≡ Some u → IsTrue (is_some u.remote)
 active_after t u from r e = go t.remote refl e
   where
-    matches : (known : List ℕ) (q : Bool) → t.remote ≡ Some known → for_it (cond q (row (Some t) ForIt) (row (Some t) Unassigned)) ≡ Some u → IsTrue (is_some u.remote)
+    matches : (known : List ℕ) (q : Bool) → t.remote ≡ Some known → for_it (cond q (row (Some t) ForIt) (row (Some t) Unassigned)) ≡ Some u
+        → IsTrue (is_some u.remote)
     matches known true m f = subst (λ (v : Transaction). IsTrue (is_some v.remote)) (some_inj t u _ refl f) (ap (λ o. is_some o) m)
     matches known false m f = absurd (none_some u None refl f)
 
@@ -40,15 +43,18 @@ active_after t u from r e = go t.remote refl e
     go None m f = subst (λ (v : Transaction). IsTrue (is_some v.remote)) (some_inj _ u _ refl f) refl
     go (Some known) m f = matches known (same known r) m f
 
-view_continue : (S : State) (from r i : List ℕ) (p : Option Response) (cs : List Component) (o : Option Dialogue) → S.dialogues i ≡ o → View S (Frame from (Read (Continue r i p cs))) (continue_at from r i cs o)
+view_continue : (S : State) (from r i : List ℕ) (p : Option Response) (cs : List Component) (o : Option Dialogue) → S.dialogues i ≡ o
+    → View S (Frame from (Read (Continue r i p cs))) (continue_at from r i cs o)
 view_continue S from r i p cs None q = Idly _ (quiet_abort from r 1)
 view_continue S from r i p cs (Some d) q = go (for_it (transact (Some d.transaction) (ContinueComes from r))) refl
   where
-    go : (t : Option Transaction) → for_it (transact (Some d.transaction) (ContinueComes from r)) ≡ t → View S (Frame from (Read (Continue r i p cs))) (continue_for from r i cs d t)
+    go : (t : Option Transaction) → for_it (transact (Some d.transaction) (ContinueComes from r)) ≡ t
+        → View S (Frame from (Read (Continue r i p cs))) (continue_for from r i cs d t)
     go None e = Idly _ (quiet_abort from r 1)
     go (Some t) e = Continuing i d t cs q (active_after d.transaction t from r e) refl refl refl
 
-view_close : (S : State) (e : Event) (i : List ℕ) (o : Option Dialogue) → S.dialogues i ≡ o → vlr_of e ≡ None → names e ≡ Some i → route S.directory e ≡ shard_named i → View S e (close_at i o)
+view_close : (S : State) (e : Event) (i : List ℕ) (o : Option Dialogue) → S.dialogues i ≡ o → vlr_of e ≡ None → names e ≡ Some i
+    → route S.directory e ≡ shard_named i → View S e (close_at i o)
 view_close S e i None q v n r = Idly [] quiet_none
 view_close S e i (Some d) q v n r = Closing i d q v n r
 

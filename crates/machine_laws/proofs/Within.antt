@@ -3,7 +3,7 @@ use Rattle.std.proofs.Common.{◌≡◌, min, max, ◌<◌, ◌≤◌, ℕ, List
 use Rattle.std.proofs.lemmas.Bool.{cases_eq, cases_lt}
 use Rattle.machine.specs.Received.{Abort, Begin, Component, Continue, Discard, End, Read, Refuse, Verdict}
 use Rattle.machine.specs.Step.{Answer, Full, Step, Taken, moved, outcome_in, seen, ticked}
-use Rattle.octets.specs.Octets.{IsOctet, AreOctets}
+use Rattle.machine.specs.Octets.{IsOctet, AreOctets}
 use Rattle.machine.specs.Bounds.{AnswerInBounds, AreDigits, ChangeInBounds, ComponentsInBounds, DialogueInBounds, EventInBounds, IfThere, IsName, IsTransactionId, KindInBounds, OutInBounds, RecordInBounds, StateInBounds, VerdictInBounds}
 use Rattle.machine.specs.Turns.{Begins, Changes, Closes, Continues, Dismissed, Expires, Expiry, NoneDue, OneDue, Ticks, Turn, TurnsTo, close_at, concern, continue_at, continue_for, for_it, named, turn_of_verdict}
 use Rattle.machine.specs.State.{Cancels, Data, Dialogue, IsIdOf, Kind, State, Subscriber, Updates, local_of, local_of_nobody}
@@ -15,7 +15,7 @@ use Rattle.machine.specs.Outcome.{Outcome, send}
 use Rattle.machine.specs.Run.{Run}
 use Rattle.machine.specs.Routing.{asked, route}
 use Rattle.machine_laws.specs.Worked.{directory, hlr, records}
-use Rattle.machine.specs.Numbers.{latest_clock, shards}
+use Rattle.machine.specs.declared.numbers.TheConstants.{MAX_CLOCK, SHARDS}
 use Rattle.machine.specs.Holders.{names}
 use Rattle.machine.specs.Opening.{opening}
 use Rattle.machine.specs.Parts.{part, union}
@@ -30,7 +30,7 @@ use Rattle.machine_laws.proofs.Bounding.{LocalInBounds, Bounded, bounded_unchang
 
 abbrev TurnInBounds : Turn → Type 0
 TurnInBounds (Dismissed out) = Every OutInBounds out
-TurnInBounds (Ticks n now) = n < shards
+TurnInBounds (Ticks n now) = n < SHARDS
 TurnInBounds (Begins from r p cs) = AreDigits from × IsTransactionId r × IfThere IsName p × ComponentsInBounds cs
 TurnInBounds (Continues i d cs) = IsTransactionId i × DialogueInBounds d × ComponentsInBounds cs
 TurnInBounds (Closes i d) = IsTransactionId i × DialogueInBounds d
@@ -41,7 +41,8 @@ module _ (S : State) (bounds : StateInBounds S) where
   unassigned : (from r : List ℕ) (c : ℕ) → AreDigits from → IsTransactionId r → IsOctet c → Every OutInBounds (send from (SentAbort r (Cause c)))
   unassigned from r c f t o = ((f, (t, o)), tt)
 
-  continue_in : (from r i : List ℕ) (cs : List Component) → AreDigits from → IsTransactionId r → ComponentsInBounds cs → (o : Option Dialogue) → S.dialogues i ≡ o → TurnInBounds (continue_at from r i cs o)
+  continue_in : (from r i : List ℕ) (cs : List Component) → AreDigits from → IsTransactionId r → ComponentsInBounds cs → (o : Option Dialogue)
+      → S.dialogues i ≡ o → TurnInBounds (continue_at from r i cs o)
   continue_in from r i cs f t h None q = unassigned from r 1 f t (lit< tt)
   continue_in from r i cs f t h (Some d) q = at_remote d.transaction.remote refl
     where
@@ -53,7 +54,8 @@ module _ (S : State) (bounds : StateInBounds S) where
       met (Cancels vlr attempt cause) g = g
       met Data g = tt
 
-      matches : (known : List ℕ) (z : Bool) → TurnInBounds (continue_for from r i cs d (for_it (cond z (row (Some d.transaction) ForIt) (row (Some d.transaction) Unassigned))))
+      matches : (known : List ℕ) (z : Bool) → TurnInBounds (continue_for from r i cs d
+          (for_it (cond z (row (Some d.transaction) ForIt) (row (Some d.transaction) Unassigned))))
       matches known true = (b.0, record { subscriber = b.1.subscriber; peer = b.1.peer; remote = b.1.remote; invocations = b.1.invocations; kind = b.1.kind }, h)
       matches known false = unassigned from r 1 f t (lit< tt)
 
@@ -103,10 +105,12 @@ module _ (S : State) (bounds : StateInBounds S) where
 
   -- the state after
 
-  record_in : (n : ℕ) (x : List ℕ) (s : Subscriber) (o : Option Subscriber) → ((u : Subscriber) → o ≡ Some u → AreDigits (local_of S n x).imsi × RecordInBounds u) → o ≡ Some s → AreDigits x × RecordInBounds s
+  record_in : (n : ℕ) (x : List ℕ) (s : Subscriber) (o : Option Subscriber)
+      → ((u : Subscriber) → o ≡ Some u → AreDigits (local_of S n x).imsi × RecordInBounds u) → o ≡ Some s → AreDigits x × RecordInBounds s
   record_in n x s o h e = (let P : List ℕ → Type 0 = λ y. AreDigits y in subst P (imsi_of n x) (h s e).0, (h s e).1)
 
-  moved_in : (n : ℕ) (turn : Turn) (new : List ℕ) (c i : Option (List ℕ)) (o : Outcome) → Bounded (seen S n c) new o → (IsTrue (is_some o.opens) → IsTransactionId new) → ((j : List ℕ) → i ≡ Some j → IsTransactionId j) → StateInBounds (moved S c i new o)
+  moved_in : (n : ℕ) (turn : Turn) (new : List ℕ) (c i : Option (List ℕ)) (o : Outcome) → Bounded (seen S n c) new o
+      → (IsTrue (is_some o.opens) → IsTransactionId new) → ((j : List ℕ) → i ≡ Some j → IsTransactionId j) → StateInBounds (moved S c i new o)
   moved_in n turn new None i o b t names = bounds
   moved_in n turn new (Some x) i o b t names = record {
     records = λ y s. put_cases S.records x o.after y (λ v. v ≡ Some s → AreDigits y × RecordInBounds s)
@@ -132,7 +136,7 @@ named_in_bounds (Closes i d) h j e = subst (λ (z : List ℕ). IsTransactionId z
 named_in_bounds (Expires i d k was) h j e = subst (λ (z : List ℕ). IsTransactionId z) (some_inj i j _ refl e) h.0
 named_in_bounds (Changes imsi change) h j e = absurd (none_some j None refl e)
 
-ticks_in : (S : State) (n now : ℕ) → n < shards → StateInBounds S → StateInBounds (ticked (Ticks n now) S)
+ticks_in : (S : State) (n now : ℕ) → n < SHARDS → StateInBounds S → StateInBounds (ticked (Ticks n now) S)
 ticks_in S n now small b = record {
   records = b.records;
   dialogues = b.dialogues;
@@ -141,12 +145,13 @@ ticks_in S n now small b = record {
   hlr = b.hlr;
 }
   where
-    clock_at : (m : ℕ) → (n ≡ m) ⊎ (n ≡ m → ⊥) → put_at S.clocks n (max (S.clocks n) (min now latest_clock)) m ≤ latest_clock
-    clock_at m (inl e) = let was : S.clocks n ≤ latest_clock = b.clocks n in let is : put_at S.clocks n (max (S.clocks n) (min now latest_clock)) m ≡ max (S.clocks n) (min now latest_clock) = put_at_same S.clocks n _ m e in subst (λ (t : ℕ). t ≤ latest_clock) (sym is) (clock_small (S.clocks n) now was)
+    clock_at : (m : ℕ) → (n ≡ m) ⊎ (n ≡ m → ⊥) → put_at S.clocks n (max (S.clocks n) (min now MAX_CLOCK)) m ≤ MAX_CLOCK
+    clock_at m (inl e) = let was : S.clocks n ≤ MAX_CLOCK = b.clocks n in let is : put_at S.clocks n (max (S.clocks n) (min now MAX_CLOCK)) m
+        ≡ max (S.clocks n) (min now MAX_CLOCK) = put_at_same S.clocks n _ m e in subst (λ (t : ℕ). t ≤ MAX_CLOCK) (sym is) (clock_small (S.clocks n) now was)
       where
-        clock_small : (c now : ℕ) → c ≤ latest_clock → max c (min now latest_clock) ≤ latest_clock
+        clock_small : (c now : ℕ) → c ≤ MAX_CLOCK → max c (min now MAX_CLOCK) ≤ MAX_CLOCK
         clock_small c now h = omega arith
-    clock_at m (inr ne) = subst (λ (t : ℕ). t ≤ latest_clock) (sym (put_at_other S.clocks n _ m ne)) (b.clocks m)
+    clock_at m (inr ne) = subst (λ (t : ℕ). t ≤ MAX_CLOCK) (sym (put_at_other S.clocks n _ m ne)) (b.clocks m)
 
 ticked_in : (S : State) (turn : Turn) → TurnInBounds turn → StateInBounds S → StateInBounds (ticked turn S)
 ticked_in S (Dismissed out) h b = b
@@ -167,17 +172,24 @@ new_in n new id = let four : length new ≡ 4 = id.four in record { octets = oct
 pub step_within : (S : State) (e : Event) (T : State) (a : Answer) → StateInBounds S → EventInBounds e → Step S e T a → StateInBounds T × AnswerInBounds a
 step_within S e T a b h (Taken turn new turns m) =
     let t : TurnInBounds turn = turn_in S b e turn h turns in
-    let o : Bounded (seen S (route S.directory e) (concern S.directory turn)) new (outcome_in S (route S.directory e) turn new) = outcome_in_bounds S b (route S.directory e) turn new t in
-    let fresh : IsTrue (is_some (outcome_in S (route S.directory e) turn new).opens) → IsTransactionId new = (λ q. new_in (route S.directory e) new (m.opens q).of_shard) in (
-      subst (λ U. StateInBounds U) (sym m.state) (ticked_in _ turn t (moved_in S b (route S.directory e) turn new (concern S.directory turn) (named turn) _ o fresh (named_in_bounds turn t))),
+    let o : Bounded (seen S (route S.directory e) (concern S.directory turn)) new (outcome_in S (route S.directory e) turn new) = outcome_in_bounds S b
+    (route S.directory e) turn new t in
+    let fresh : IsTrue (is_some (outcome_in S (route S.directory e) turn new).opens)
+    → IsTransactionId new = (λ q. new_in (route S.directory e) new (m.opens q).of_shard) in (
+      subst (λ U. StateInBounds U) (sym m.state) (ticked_in _ turn t
+          (moved_in S b (route S.directory e) turn new (concern S.directory turn) (named turn) _ o fresh (named_in_bounds turn t))),
       subst (λ out. Every OutInBounds out) (sym m.sent) (o.sent fresh),
     )
 step_within S e T a b h (Full turn new turns t) =
     let w : TurnInBounds turn = turn_in S b e turn h turns in
-    let begins_in : TurnInBounds (Begins t.from t.origin t.name t.components) = subst (λ k. TurnInBounds k) t.begins w in
-    (subst (λ U. StateInBounds U) (sym t.state) b, subst (λ out. Every OutInBounds out) (sym t.sent) (unassigned S b t.from t.origin 4 begins_in.0 begins_in.1 (lit< tt)))
+    let begins_in : TurnInBounds (Begins t.from t.origin t.name t.components) = subst (λ k. TurnInBounds k) t.begins w in (
+      subst (λ U. StateInBounds U) (sym t.state) b,
+      subst (λ out. Every OutInBounds out) (sym t.sent)
+          (unassigned S b t.from t.origin 4 begins_in.0 begins_in.1 (lit< tt)),
+    )
 
-pub run_within : (es : List Event) (S T : State) (answers : List Answer) → StateInBounds S → Every EventInBounds es → Run S es T answers → StateInBounds T × Every AnswerInBounds answers
+pub run_within : (es : List Event) (S T : State) (answers : List Answer) → StateInBounds S → Every EventInBounds es → Run S es T answers
+    → StateInBounds T × Every AnswerInBounds answers
 run_within [] S T [] b h run = (subst (λ U. StateInBounds U) (sym run) b, tt)
 run_within [] S T (a ∷ answers) b h run = absurd run
 run_within (e ∷ es) S T [] b h run = absurd run
@@ -187,12 +199,13 @@ run_within (e ∷ es) S T (a ∷ answers) b h (M, step, run) =
     (rest.0, (one.1, rest.1))
 
 -- the opening state, and parts
-pub opening_within : (records : List ℕ → Option Subscriber) (directory : List ℕ → Option (List ℕ)) (hlr : List ℕ) → ((x : List ℕ) (s : Subscriber) → records x ≡ Some s → AreDigits x × RecordInBounds s) → AreDigits hlr → StateInBounds (opening records directory hlr)
+pub opening_within : (records : List ℕ → Option Subscriber) (directory : List ℕ → Option (List ℕ)) (hlr : List ℕ)
+    → ((x : List ℕ) (s : Subscriber) → records x ≡ Some s → AreDigits x × RecordInBounds s) → AreDigits hlr → StateInBounds (opening records directory hlr)
 unfolding opening
 opening_within records directory hlr h g = record {
   records = h;
   dialogues = λ i d e. absurd (none_some d None refl e);
-  clocks = λ n. zero_small latest_clock;
+  clocks = λ n. zero_small MAX_CLOCK;
   no_more = λ n late. refl;
   hlr = g;
 }
@@ -214,9 +227,9 @@ part_within S n b = record {
     there true o x e = e
     there false o x e = absurd (none_some x None refl e)
 
-    clock_at : (t : Bool) (c : ℕ) → c ≤ latest_clock → cond t c 0 ≤ latest_clock
+    clock_at : (t : Bool) (c : ℕ) → c ≤ MAX_CLOCK → cond t c 0 ≤ MAX_CLOCK
     clock_at true c h = h
-    clock_at false c h = zero_small latest_clock
+    clock_at false c h = zero_small MAX_CLOCK
       where
         zero_small : (m : ℕ) → 0 ≤ m
         zero_small m = omega arith
@@ -235,13 +248,14 @@ union_within states b = record {
   hlr = (b 0 (lit< tt)).hlr;
 }
   where
-    of_dialogue : (n : ℕ) (i : List ℕ) (d : Dialogue) → (n < 16) ⊎ (16 ≤ n) → cond (nat_lt n 16) ((states n).dialogues i) None ≡ Some d → IsTransactionId i × DialogueInBounds d
+    of_dialogue : (n : ℕ) (i : List ℕ) (d : Dialogue) → (n < 16) ⊎ (16 ≤ n) → cond (nat_lt n 16) ((states n).dialogues i) None ≡ Some d
+        → IsTransactionId i × DialogueInBounds d
     of_dialogue n i d (inl h) e = (b n h).dialogues i d (sym (ap (λ t. cond t ((states n).dialogues i) None) (lt-ltb n 16 h)) ∙ e)
     of_dialogue n i d (inr h) e = absurd (none_some d _ (ap (λ t. cond t ((states n).dialogues i) None) (le-ltb n 16 h)) e)
 
-    clock_at : (n : ℕ) → (n < 16) ⊎ (16 ≤ n) → cond (nat_lt n 16) ((states n).clocks n) 0 ≤ latest_clock
-    clock_at n (inl h) = subst (λ (t : ℕ). t ≤ latest_clock) (sym (ap (λ t. cond t ((states n).clocks n) 0) (lt-ltb n 16 h))) ((b n h).clocks n)
-    clock_at n (inr h) = subst (λ (t : ℕ). t ≤ latest_clock) (sym (ap (λ t. cond t ((states n).clocks n) 0) (le-ltb n 16 h))) (zero_small latest_clock)
+    clock_at : (n : ℕ) → (n < 16) ⊎ (16 ≤ n) → cond (nat_lt n 16) ((states n).clocks n) 0 ≤ MAX_CLOCK
+    clock_at n (inl h) = subst (λ (t : ℕ). t ≤ MAX_CLOCK) (sym (ap (λ t. cond t ((states n).clocks n) 0) (lt-ltb n 16 h))) ((b n h).clocks n)
+    clock_at n (inr h) = subst (λ (t : ℕ). t ≤ MAX_CLOCK) (sym (ap (λ t. cond t ((states n).clocks n) 0) (le-ltb n 16 h))) (zero_small MAX_CLOCK)
       where
         zero_small : (m : ℕ) → 0 ≤ m
         zero_small m = omega arith

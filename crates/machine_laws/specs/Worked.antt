@@ -1,7 +1,7 @@
 -- The subscribers and the messages of the worked examples.
 use Rattle.std.specs.Prelude.{ℕ, ◌-◌, ℤ, pos, List, [], ◌∷◌, map, false, cond, Option, Some, None, codes}
 use Rattle.machine.specs.Keys.{same}
-use Rattle.machine.specs.Numbers.{update_location, purge_ms, send_routing_info_for_sm}
+use Rattle.machine.specs.declared.numbers.TheConstants.{UPDATE_LOCATION, PURGE_MS, SEND_ROUTING_INFO_FOR_SM}
 use Rattle.machine.specs.Received.{Register, Update, Purge, Route, Typed, Number, Component, Invoke, ResultLast, Message, Begin, Continue}
 use Rattle.machine.specs.Sent.{Context, SentMessage, Out}
 use Rattle.machine.specs.Contexts.{name_of}
@@ -147,13 +147,13 @@ abbrev pub continue_to : List ℕ → List Component → Message
 continue_to id components = Continue theirs id None components
 
 abbrev pub update_of : List ℕ → Register → Component
-update_of imsi register = Invoke (pos 1) None (Number update_location) (Some (Typed (Update imsi register)))
+update_of imsi register = Invoke (pos 1) None (Number UPDATE_LOCATION) (Some (Typed (Update imsi register)))
 
 abbrev pub purge_of : List ℕ → Option (List ℕ) → Component
-purge_of imsi vlr = Invoke (pos 1) None (Number purge_ms) (Some (Typed (Purge imsi vlr)))
+purge_of imsi vlr = Invoke (pos 1) None (Number PURGE_MS) (Some (Typed (Purge imsi vlr)))
 
 abbrev pub route_of : List ℕ → Component
-route_of msisdn = Invoke (pos 1) None (Number send_routing_info_for_sm) (Some (Typed (Route msisdn)))
+route_of msisdn = Invoke (pos 1) None (Number SEND_ROUTING_INFO_FOR_SM) (Some (Typed (Route msisdn)))
 
 abbrev pub result_of : ℤ → Component
 result_of id = ResultLast id

@@ -1,7 +1,7 @@
 //! Worked examples of the procedures: what the definitions say of single messages, computed. The subscribers and the registers
 //! A, B and C are those of `specs/Worked.antt`; the id for a dialogue that opens is given.
 
-ghost use Rattle.std.specs.Prelude.{◌≡◌, ℕ, pos, List, Option, Some, None, [], ◌∷◌, ◌++◌, true, false};
+ghost use Rattle.std.specs.Prelude.{◌≡◌, ℕ, pos, List, Some, None, [], ◌∷◌, ◌++◌, true, false};
 ghost use Rattle.machine.specs.Received.{BadValue, Component, End, Invoke, Mistyped, Number, OfInvoke, Read, Register, ResultNotLast, ReturnError, Route, Typed, Update};
 ghost use Rattle.machine.specs.Sent.{Cancel, Cause, Insert, LocationCancellation, MsPurging, NetworkLocUp, Out, PurgeResult, RouteResult, SentAbort, SentBegin, SentComponent, SentContinue, SentEnd, SentError, ShortMsgGateway, SubscriberDataMngt, SubscriptionWithdraw, UpdateProcedure, UpdateResult};
 ghost use Rattle.machine.specs.State.{Cancels, IsFull, OperationSent, State};
@@ -20,31 +20,45 @@ ghost use Rattle.machine.specs.Routing.{route};
 
 /// The SM route of a subscriber whom a register serves.
 pub fn first_route()
-    ensures { (receives start gateway (begin_in ShortMsgGateway (route_of first_msisdn ∷ [])) id_a).answer.sent
-        ≡ one gateway (SentEnd theirs (Some ShortMsgGateway) [] (RouteResult (pos 1) first_imsi at_a.msc None ∷ [])) }
+    ensures { (receives start gateway (begin_in ShortMsgGateway
+        (route_of first_msisdn ∷ [])) id_a).answer.sent
+        ≡ one gateway (SentEnd theirs (Some ShortMsgGateway) []
+        (RouteResult (pos 1) first_imsi at_a.msc None ∷ [])) }
 {}
 
 /// No SM route: teleserviceNotProvisioned, absentSubscriberSM, and unknownSubscriber, whose frame is for shard 0. Either of the
 /// codes allShortMessageServices and shortMessageMT-PP is enough.
 pub fn route_errors()
-    ensures errors { let asks = λ (msisdn : List ℕ). (receives start gateway (begin_in ShortMsgGateway (route_of msisdn ∷ [])) id_a).answer.sent in
-        let answer = λ (code : ℕ). one gateway (SentEnd theirs (Some ShortMsgGateway) [] (SentError (pos 1) code ∷ [])) in
+    ensures errors { let asks = λ (msisdn : List ℕ).
+        (receives start gateway (begin_in ShortMsgGateway
+        (route_of msisdn ∷ [])) id_a).answer.sent in
+        let answer = λ (code : ℕ). one gateway
+        (SentEnd theirs (Some ShortMsgGateway) [] (SentError (pos 1) code ∷ [])) in
         (asks fourth_msisdn ≡ answer 11)
         × (asks second_msisdn ≡ answer 6)
         × (asks hlr ≡ answer 1) }
-    ensures shard { route directory (Frame gateway (Read (begin_in ShortMsgGateway (route_of hlr ∷ [])))) ≡ 0 }
-    ensures services { sm_route first_imsi (Some (subscriber first_msisdn (0x20 ∷ []) None (Some at_a))) ≡ RouteTo first_imsi at_a.msc None }
+    ensures shard { route directory (Frame gateway
+        (Read (begin_in ShortMsgGateway (route_of hlr ∷ [])))) ≡ 0 }
+    ensures services { sm_route first_imsi
+        (Some (subscriber first_msisdn (0x20 ∷ []) None (Some at_a)))
+        ≡ RouteTo first_imsi at_a.msc None }
 {}
 
 /// Of two Invokes in a Begin the first is answered, the second rejected: resourceLimitation.
 pub fn second_invoke_refused()
-    ensures { (receives start gateway (begin_in ShortMsgGateway (route_of first_msisdn ∷ Invoke (pos 2) None (Number 45) (Some (Typed (Route first_msisdn))) ∷ [])) id_a).answer.sent
-        ≡ one gateway (SentEnd theirs (Some ShortMsgGateway) (rejection (Some (pos 2)) OfInvoke 3 ∷ []) (RouteResult (pos 1) first_imsi at_a.msc None ∷ [])) }
+    ensures { (receives start gateway (begin_in ShortMsgGateway
+        (route_of first_msisdn ∷ Invoke (pos 2) None (Number 45)
+        (Some (Typed (Route first_msisdn))) ∷ [])) id_a).answer.sent
+        ≡ one gateway (SentEnd theirs (Some ShortMsgGateway)
+        (rejection (Some (pos 2)) OfInvoke 3 ∷ [])
+        (RouteResult (pos 1) first_imsi at_a.msc None ∷ [])) }
 {}
 
 /// A subscriber whose subscription has ended is unknown; this is checked before the services.
 pub fn withdrawn_is_unknown()
-    ensures { sm_route first_imsi (Some (record first_record { codes = []; register = None; withdrawn = true })) ≡ NoRoute 1 }
+    ensures { sm_route first_imsi
+        (Some (record first_record { codes = []; register = None; withdrawn = true }))
+        ≡ NoRoute 1 }
 {}
 
 // Updates (TS 29.002, 8.1.2, MAP_UPDATE_LOCATION; TS 23.012, Location updating)
@@ -52,7 +66,8 @@ pub fn withdrawn_is_unknown()
 /// Nine codes go in two inserts. The result of the second alone sends nothing; that of the first then completes the update.
 /// There was no old register, so none is cancelled.
 pub fn two_inserts()
-    ensures { let begun = receives start vlr_b (begin_in NetworkLocUp (update_of second_imsi at_b ∷ [])) id_d in
+    ensures { let begun = receives start vlr_b
+        (begin_in NetworkLocUp (update_of second_imsi at_b ∷ [])) id_d in
         let half = receives begun.state vlr_b (continue_to id_d (result_of (pos 2) ∷ [])) id_a in
         let done = receives half.state vlr_b (continue_to id_d (result_of (pos 1) ∷ [])) id_a in
         (begun.answer.sent ≡ one vlr_b (SentContinue id_d theirs (Some NetworkLocUp) [] (
@@ -69,15 +84,18 @@ pub fn three_inserts()
     ensures { let seventeen = 1 ∷ 2 ∷ 3 ∷ 4 ∷ 5 ∷ 6 ∷ 7 ∷ 8 ∷ 9 ∷ 10 ∷ 11 ∷ 12 ∷ 13 ∷ 14 ∷ 15 ∷ 16 ∷ 17 ∷ [] in
         let eight = 1 ∷ 2 ∷ 3 ∷ 4 ∷ 5 ∷ 6 ∷ 7 ∷ 8 ∷ [] in
         let next_eight = 9 ∷ 10 ∷ 11 ∷ 12 ∷ 13 ∷ 14 ∷ 15 ∷ 16 ∷ [] in
-        (inserts (Some first_imsi) first_msisdn seventeen ≡ Insert (pos 1) (Some first_imsi) (Some first_msisdn) eight
+        (inserts (Some first_imsi) first_msisdn seventeen
+        ≡ Insert (pos 1) (Some first_imsi) (Some first_msisdn) eight
         ∷ Insert (pos 2) (Some first_imsi) None next_eight ∷ Insert (pos 3) (Some first_imsi) None (17 ∷ []) ∷ [])
-        × (inserts_invoked 0 seventeen ≡ invoked 0 (pos 1) ∷ invoked 0 (pos 2) ∷ invoked 0 (pos 3) ∷ [])
+        × (inserts_invoked 0 seventeen ≡ invoked 0 (pos 1) ∷ invoked 0 (pos 2) ∷ invoked 0
+        (pos 3) ∷ [])
         × (inserts None first_msisdn eight ≡ Insert (pos 1) None (Some first_msisdn) eight ∷ []) }
 {}
 
 /// One insert of two fails: the update fails at once, while the other still waits for its answer.
 pub fn one_insert_of_two_fails()
-    ensures { let begun = receives start vlr_b (begin_in NetworkLocUp (update_of second_imsi at_b ∷ [])) id_d in
+    ensures { let begun = receives start vlr_b
+        (begin_in NetworkLocUp (update_of second_imsi at_b ∷ [])) id_d in
         let failed = receives begun.state vlr_b (continue_to id_d (ReturnError (pos 1) (Number 34) ∷ [])) id_a in
         (failed.answer.sent ≡ one vlr_b (SentEnd theirs None [] (SentError (pos 1) 34 ∷ [])))
         × (failed.state.dialogues id_d ≡ None) }
@@ -86,27 +104,40 @@ pub fn one_insert_of_two_fails()
 /// An update completes: the result goes to its register, then a cancel to the old one, which is answered by an End. Short
 /// messages go to the new register.
 pub fn whole_update()
-    ensures { let begun = receives start vlr_b (begin_in NetworkLocUp (update_of first_imsi at_b ∷ [])) id_a in
+    ensures { let begun = receives start vlr_b
+        (begin_in NetworkLocUp (update_of first_imsi at_b ∷ [])) id_a in
         let done = receives begun.state vlr_b (continue_to id_a (result_of (pos 1) ∷ [])) id_b in
         let over = receives done.state vlr_a (End id_b None (result_of (pos 1) ∷ [])) id_c in
-        (begun.answer.sent ≡ one vlr_b (SentContinue id_a theirs (Some NetworkLocUp) [] (Insert (pos 1) None (Some first_msisdn) first_record.codes ∷ [])))
-        × (done.answer.sent ≡ record { to = vlr_b; message = SentEnd theirs None [] (UpdateResult (pos 1) hlr ∷ []) }
+        (begun.answer.sent ≡ one vlr_b (SentContinue id_a theirs (Some NetworkLocUp) []
+        (Insert (pos 1) None (Some first_msisdn) first_record.codes ∷ [])))
+        × (done.answer.sent ≡ record {
+          to = vlr_b;
+          message = SentEnd theirs None []
+              (UpdateResult (pos 1) hlr ∷ []);
+        }
         ∷ record { to = vlr_a; message = SentBegin id_b LocationCancellation (Cancel (pos 1) first_imsi UpdateProcedure ∷ []) } ∷ [])
         × (over.answer.sent ≡ [])
         × (over.state.dialogues id_a ≡ None)
         × (over.state.dialogues id_b ≡ None)
         × (over.state.records first_imsi ≡ Some (record first_record { register = Some at_b }))
-        × ((receives over.state gateway (begin_in ShortMsgGateway (route_of first_msisdn ∷ [])) id_c).answer.sent
-        ≡ one gateway (SentEnd theirs (Some ShortMsgGateway) [] (RouteResult (pos 1) first_imsi at_b.msc None ∷ []))) }
+        × ((receives over.state gateway (begin_in ShortMsgGateway
+        (route_of first_msisdn ∷ [])) id_c).answer.sent
+        ≡ one gateway (SentEnd theirs (Some ShortMsgGateway) []
+        (RouteResult (pos 1) first_imsi at_b.msc None ∷ []))) }
 {}
 
 /// An update that another one overtook ends with systemFailure, and the record stays with the other.
 pub fn overtaken_update()
-    ensures { let first = receives start vlr_b (begin_in NetworkLocUp (update_of first_imsi at_b ∷ [])) id_a in
+    ensures { let first = receives start vlr_b
+        (begin_in NetworkLocUp (update_of first_imsi at_b ∷ [])) id_a in
         let second = receives first.state vlr_c (begin_in NetworkLocUp (update_of first_imsi at_c ∷ [])) id_b in
         let done = receives second.state vlr_c (continue_to id_b (result_of (pos 1) ∷ [])) id_c in
         let late = receives done.state vlr_b (continue_to id_a (result_of (pos 1) ∷ [])) id_b in
-        (done.answer.sent ≡ record { to = vlr_c; message = SentEnd theirs None [] (UpdateResult (pos 1) hlr ∷ []) }
+        (done.answer.sent ≡ record {
+          to = vlr_c;
+          message = SentEnd theirs None []
+              (UpdateResult (pos 1) hlr ∷ []);
+        }
         ∷ record { to = vlr_a; message = SentBegin id_c LocationCancellation (Cancel (pos 1) first_imsi UpdateProcedure ∷ []) } ∷ [])
         × (late.answer.sent ≡ one vlr_b (SentEnd theirs None [] (SentError (pos 1) 34 ∷ [])))
         × (late.state.records first_imsi ≡ Some (record first_record { register = Some at_c })) }
@@ -114,22 +145,33 @@ pub fn overtaken_update()
 
 /// The same update twice: the first ends with systemFailure, the second completes.
 pub fn same_update_twice()
-    ensures { let first = receives start vlr_b (begin_in NetworkLocUp (update_of first_imsi at_b ∷ [])) id_a in
+    ensures { let first = receives start vlr_b
+        (begin_in NetworkLocUp (update_of first_imsi at_b ∷ [])) id_a in
         let second = receives first.state vlr_b (begin_in NetworkLocUp (update_of first_imsi at_b ∷ [])) id_b in
         let late = receives second.state vlr_b (continue_to id_a (result_of (pos 1) ∷ [])) id_c in
         let done = receives late.state vlr_b (continue_to id_b (result_of (pos 1) ∷ [])) id_c in
-        (second.answer.sent ≡ one vlr_b (SentContinue id_b theirs (Some NetworkLocUp) [] (Insert (pos 1) None (Some first_msisdn) first_record.codes ∷ [])))
+        (second.answer.sent ≡ one vlr_b (SentContinue id_b theirs (Some NetworkLocUp) []
+        (Insert (pos 1) None (Some first_msisdn) first_record.codes ∷ [])))
         × (late.answer.sent ≡ one vlr_b (SentEnd theirs None [] (SentError (pos 1) 34 ∷ [])))
-        × (done.answer.sent ≡ record { to = vlr_b; message = SentEnd theirs None [] (UpdateResult (pos 1) hlr ∷ []) }
+        × (done.answer.sent ≡ record {
+          to = vlr_b;
+          message = SentEnd theirs None []
+              (UpdateResult (pos 1) hlr ∷ []);
+        }
         ∷ record { to = vlr_a; message = SentBegin id_c LocationCancellation (Cancel (pos 1) first_imsi UpdateProcedure ∷ []) } ∷ []) }
 {}
 
 /// An update of a purged record completes with a cancel to the purged register all the same.
 pub fn purged_register_cancelled()
-    ensures { let purged = receives start vlr_a (begin_in MsPurging (purge_of first_imsi (Some vlr_a) ∷ [])) id_a in
+    ensures { let purged = receives start vlr_a
+        (begin_in MsPurging (purge_of first_imsi (Some vlr_a) ∷ [])) id_a in
         let begun = receives purged.state vlr_b (begin_in NetworkLocUp (update_of first_imsi at_b ∷ [])) id_a in
         let done = receives begun.state vlr_b (continue_to id_a (result_of (pos 1) ∷ [])) id_b in
-        (done.answer.sent ≡ record { to = vlr_b; message = SentEnd theirs None [] (UpdateResult (pos 1) hlr ∷ []) }
+        (done.answer.sent ≡ record {
+          to = vlr_b;
+          message = SentEnd theirs None []
+              (UpdateResult (pos 1) hlr ∷ []);
+        }
         ∷ record { to = vlr_a; message = SentBegin id_b LocationCancellation (Cancel (pos 1) first_imsi UpdateProcedure ∷ []) } ∷ [])
         × (done.state.records first_imsi ≡ Some (record first_record { register = Some at_b })) }
 {}
@@ -137,7 +179,8 @@ pub fn purged_register_cancelled()
 /// An update from the register that serves already: its End, and no cancel. The MSC number is the new one, and the purged flag
 /// is cleared.
 pub fn update_from_the_serving_register()
-    ensures { let purged = receives start vlr_a (begin_in MsPurging (purge_of first_imsi (Some vlr_a) ∷ [])) id_a in
+    ensures { let purged = receives start vlr_a
+        (begin_in MsPurging (purge_of first_imsi (Some vlr_a) ∷ [])) id_a in
         let register = record at_a { msc = at_b.msc } in
         let begun = receives purged.state vlr_a (begin_in NetworkLocUp (update_of first_imsi register ∷ [])) id_a in
         let done = receives begun.state vlr_a (continue_to id_a (result_of (pos 1) ∷ [])) id_b in
@@ -150,35 +193,51 @@ pub fn update_from_the_serving_register()
 /// id, but its VLR number serves, and the cancel of the next update goes there. An update from the VLR that already serves
 /// stores the new LMSI, which an SM route returns and the next update drops.
 pub fn update_from_another_address()
-    ensures { let asks = λ (register : Register). begin_in NetworkLocUp (Invoke (pos 7) None (Number 2) (Some (Typed (Update first_imsi register))) ∷ []) in
-        let completes = λ (S : State) (new : List ℕ). receives S gateway (continue_to id_a (result_of (pos 1) ∷ [])) new in
+    ensures { let asks = λ (register : Register). begin_in NetworkLocUp
+        (Invoke (pos 7) None (Number 2) (Some (Typed (Update first_imsi register))) ∷ []) in
+        let completes = λ (S : State) (new : List ℕ). receives S gateway
+        (continue_to id_a (result_of (pos 1) ∷ [])) new in
         let begun = receives start gateway (asks at_b) id_a in
         let done = completes begun.state id_b in
         let lmsi = Some (1 ∷ 2 ∷ 3 ∷ 4 ∷ []) in
         let with_lmsi = record at_b { lmsi = lmsi } in
         let again = completes (receives done.state gateway (asks with_lmsi) id_a).state id_c in
         let back = completes (receives again.state gateway (asks at_b) id_a).state id_c in
-        (begun.answer.sent ≡ one gateway (SentContinue id_a theirs (Some NetworkLocUp) [] (Insert (pos 1) None (Some first_msisdn) first_record.codes ∷ [])))
-        × (done.answer.sent ≡ record { to = gateway; message = SentEnd theirs None [] (UpdateResult (pos 7) hlr ∷ []) }
+        (begun.answer.sent ≡ one gateway
+        (SentContinue id_a theirs (Some NetworkLocUp) []
+        (Insert (pos 1) None (Some first_msisdn) first_record.codes ∷ [])))
+        × (done.answer.sent ≡ record {
+          to = gateway;
+          message = SentEnd theirs None []
+              (UpdateResult (pos 7) hlr ∷ []);
+        }
         ∷ record { to = vlr_a; message = SentBegin id_b LocationCancellation (Cancel (pos 1) first_imsi UpdateProcedure ∷ []) } ∷ [])
         × (again.answer.sent ≡ one gateway (SentEnd theirs None [] (UpdateResult (pos 7) hlr ∷ [])))
         × (again.state.records first_imsi ≡ Some (record first_record { register = Some with_lmsi }))
-        × ((receives again.state gateway (begin_in ShortMsgGateway (Invoke (pos 7) None (Number 45) (Some (Typed (Route first_msisdn))) ∷ [])) id_c).answer.sent
-        ≡ one gateway (SentEnd theirs (Some ShortMsgGateway) [] (RouteResult (pos 7) first_imsi at_b.msc lmsi ∷ [])))
+        × ((receives again.state gateway
+        (begin_in ShortMsgGateway (Invoke (pos 7) None (Number 45)
+        (Some (Typed (Route first_msisdn))) ∷ [])) id_c).answer.sent
+        ≡ one gateway (SentEnd theirs (Some ShortMsgGateway) []
+        (RouteResult (pos 7) first_imsi at_b.msc lmsi ∷ [])))
         × (back.state.records first_imsi ≡ Some (record first_record { register = Some at_b })) }
 {}
 
 /// Where a subscriber may roam: one matching prefix is enough, a number shorter than the prefix does not match, and the VLR
 /// number must match, not the source address of the update.
 pub fn roaming()
-    ensures prefixes { (is_allowed (Some ((4 ∷ 4 ∷ 7 ∷ 8 ∷ []) ∷ (4 ∷ 4 ∷ 7 ∷ 7 ∷ []) ∷ [])) vlr_b ≡ true)
+    ensures prefixes { (is_allowed (Some ((4 ∷ 4 ∷ 7 ∷ 8 ∷ []) ∷ (4 ∷ 4 ∷ 7 ∷ 7 ∷ []) ∷ [])) vlr_b
+        ≡ true)
         × (is_allowed (Some ((4 ∷ 4 ∷ 7 ∷ 7 ∷ []) ∷ [])) (4 ∷ 4 ∷ []) ≡ false)
         × (is_allowed (Some []) vlr_b ≡ false) }
     ensures updates { let allowed = record at_b { vlr = 4 ∷ 4 ∷ 7 ∷ 8 ∷ 1 ∷ [] } in
-        let asks = λ (from : List ℕ) (register : Register). receives start from (begin_in NetworkLocUp (update_of third_imsi register ∷ [])) id_e in
-        ((asks vlr_b allowed).answer.sent ≡ one vlr_b (SentContinue id_e theirs (Some NetworkLocUp) [] (Insert (pos 1) None (Some third_msisdn) third_record.codes ∷ [])))
+        let asks = λ (from : List ℕ) (register : Register). receives start from
+        (begin_in NetworkLocUp (update_of third_imsi register ∷ [])) id_e in
+        ((asks vlr_b allowed).answer.sent
+        ≡ one vlr_b (SentContinue id_e theirs (Some NetworkLocUp) []
+        (Insert (pos 1) None (Some third_msisdn) third_record.codes ∷ [])))
         × ((asks vlr_b allowed).answer.id ≡ Some id_e)
-        × ((asks allowed.vlr at_b).answer.sent ≡ one allowed.vlr (SentEnd theirs (Some NetworkLocUp) [] (SentError (pos 1) 8 ∷ []))) }
+        × ((asks allowed.vlr at_b).answer.sent
+        ≡ one allowed.vlr (SentEnd theirs (Some NetworkLocUp) [] (SentError (pos 1) 8 ∷ []))) }
     ensures withdrawn { let gone = is_changed start third_imsi Withdraw id_e in
         (receives gone.state vlr_b (begin_in NetworkLocUp (update_of third_imsi at_b ∷ [])) id_e).answer.sent
         ≡ one vlr_b (SentEnd theirs (Some NetworkLocUp) [] (SentError (pos 1) 1 ∷ [])) }
@@ -186,7 +245,8 @@ pub fn roaming()
 
 /// The error of an insert ends the update with systemFailure, and the register stays. So does its expiry.
 pub fn insert_error()
-    ensures { let begun = receives start vlr_b (begin_in NetworkLocUp (update_of first_imsi at_b ∷ [])) id_a in
+    ensures { let begun = receives start vlr_b
+        (begin_in NetworkLocUp (update_of first_imsi at_b ∷ [])) id_a in
         let failed = receives begun.state vlr_b (continue_to id_a (ReturnError (pos 1) (Number 34) ∷ [])) id_b in
         let expired = expires_at (waits begun.state 1 20) id_a (pos 1) id_b in
         (failed.answer.sent ≡ one vlr_b (SentEnd theirs None [] (SentError (pos 1) 34 ∷ [])))
@@ -200,16 +260,27 @@ pub fn insert_error()
 /// Two subscribers of one shard. When the timers of both are due, one expiry ends the update of the first alone, and the next
 /// that of the other.
 pub fn one_subscriber_alone()
-    ensures { let first = receives start vlr_b (begin_in NetworkLocUp (update_of first_imsi at_b ∷ [])) id_a in
+    ensures { let first = receives start vlr_b
+        (begin_in NetworkLocUp (update_of first_imsi at_b ∷ [])) id_a in
         let other = receives (waits first.state 1 5) vlr_b (begin_in NetworkLocUp (update_of fifth_imsi at_b ∷ [])) id_b in
         let expired = expires_at (waits other.state 1 25) id_a (pos 1) id_c in
         let again = expires_at expired.state id_b (pos 1) id_c in
         (first.answer.subject ≡ Some first_imsi)
         × (other.answer.subject ≡ Some fifth_imsi)
-        × (expired.answer ≡ record { id = None; subject = Some first_imsi; sent = one vlr_b (SentEnd theirs None [] (SentError (pos 1) 34 ∷ [])) })
+        × (expired.answer ≡ record {
+          id = None;
+          subject = Some first_imsi;
+          sent = one vlr_b
+              (SentEnd theirs None [] (SentError (pos 1) 34 ∷ []));
+        })
         × (expired.state.dialogues id_a ≡ None)
         × (expired.state.dialogues id_b ≡ other.state.dialogues id_b)
-        × (again.answer ≡ record { id = None; subject = Some fifth_imsi; sent = one vlr_b (SentEnd theirs None [] (SentError (pos 1) 34 ∷ [])) })
+        × (again.answer ≡ record {
+          id = None;
+          subject = Some fifth_imsi;
+          sent = one vlr_b
+              (SentEnd theirs None [] (SentError (pos 1) 34 ∷ []));
+        })
         × (again.state.dialogues id_b ≡ None) }
 {}
 
@@ -217,13 +288,18 @@ pub fn one_subscriber_alone()
 /// unrecognizedLinkedID. A bad value, a VLR where the subscriber may not roam, and an unknown subscriber are answered with
 /// errors.
 pub fn refused_updates()
-    ensures { let asks = λ (component : Component). (receives start vlr_b (begin_in NetworkLocUp (component ∷ [])) id_a).answer.sent in
-        let rejected = λ (problem : ℕ). one vlr_b (SentEnd theirs (Some NetworkLocUp) (rejection (Some (pos 1)) OfInvoke problem ∷ []) []) in
-        let error = λ (code : ℕ). one vlr_b (SentEnd theirs (Some NetworkLocUp) [] (SentError (pos 1) code ∷ [])) in
+    ensures { let asks = λ (component : Component).
+        (receives start vlr_b (begin_in NetworkLocUp (component ∷ [])) id_a).answer.sent in
+        let rejected = λ (problem : ℕ). one vlr_b
+        (SentEnd theirs (Some NetworkLocUp)
+        (rejection (Some (pos 1)) OfInvoke problem ∷ []) []) in
+        let error = λ (code : ℕ). one vlr_b
+        (SentEnd theirs (Some NetworkLocUp) [] (SentError (pos 1) code ∷ [])) in
         (asks (Invoke (pos 1) None (Number 2) None) ≡ rejected 2)
         × (asks (Invoke (pos 1) None (Number 2) (Some Mistyped)) ≡ rejected 2)
         × (asks (Invoke (pos 1) None (Number 3) (Some Mistyped)) ≡ rejected 1)
-        × (asks (Invoke (pos 1) (Some (pos 9)) (Number 2) (Some (Typed (Update first_imsi at_b)))) ≡ rejected 5)
+        × (asks (Invoke (pos 1) (Some (pos 9)) (Number 2) (Some (Typed (Update first_imsi at_b))))
+        ≡ rejected 5)
         × (asks (Invoke (pos 1) None (Number 2) (Some (Typed BadValue))) ≡ error 36)
         × (asks (update_of third_imsi at_b) ≡ error 8)
         × (asks (update_of hlr at_b) ≡ error 1) }
@@ -233,14 +309,17 @@ pub fn refused_updates()
 
 /// A cancel that is not answered is sent again twice, each time with a new id; then no dialogue is open.
 pub fn repeated_cancel()
-    ensures { let begun = receives start vlr_b (begin_in NetworkLocUp (update_of first_imsi at_b ∷ [])) id_a in
+    ensures { let begun = receives start vlr_b
+        (begin_in NetworkLocUp (update_of first_imsi at_b ∷ [])) id_a in
         let done = receives begun.state vlr_b (continue_to id_a (result_of (pos 1) ∷ [])) id_b in
         let second = expires_at (waits done.state 1 20) id_b (pos 1) id_c in
         let third = expires_at (waits second.state 1 40) id_c (pos 1) id_a in
         let last = expires_at (waits third.state 1 60) id_a (pos 1) id_b in
-        (second.answer.sent ≡ one vlr_a (SentBegin id_c LocationCancellation (Cancel (pos 1) first_imsi UpdateProcedure ∷ [])))
+        (second.answer.sent ≡ one vlr_a (SentBegin id_c LocationCancellation
+        (Cancel (pos 1) first_imsi UpdateProcedure ∷ [])))
         × (second.state.dialogues id_b ≡ None)
-        × (third.answer.sent ≡ one vlr_a (SentBegin id_a LocationCancellation (Cancel (pos 1) first_imsi UpdateProcedure ∷ [])))
+        × (third.answer.sent ≡ one vlr_a
+        (SentBegin id_a LocationCancellation (Cancel (pos 1) first_imsi UpdateProcedure ∷ [])))
         × (last.answer.sent ≡ [])
         × (last.state.dialogues id_a ≡ None)
         × (last.state.dialogues id_b ≡ None) }
@@ -248,7 +327,8 @@ pub fn repeated_cancel()
 
 /// A cancel is not repeated to the register of an update that has begun meanwhile, nor to one that serves again.
 pub fn cancel_not_repeated()
-    ensures { let begun = receives start vlr_b (begin_in NetworkLocUp (update_of first_imsi at_b ∷ [])) id_a in
+    ensures { let begun = receives start vlr_b
+        (begin_in NetworkLocUp (update_of first_imsi at_b ∷ [])) id_a in
         let done = receives begun.state vlr_b (continue_to id_a (result_of (pos 1) ∷ [])) id_b in
         let back = receives (waits done.state 1 10) vlr_a (begin_in NetworkLocUp (update_of first_imsi at_a ∷ [])) id_c in
         let home = receives back.state vlr_a (continue_to id_c (result_of (pos 1) ∷ [])) id_d in
@@ -262,7 +342,8 @@ pub fn cancel_not_repeated()
 
 /// The first Continue of a cancel sets the peer's id and address; a result that is not the last one changes nothing more.
 pub fn peer_of_a_cancel()
-    ensures { let begun = receives start vlr_b (begin_in NetworkLocUp (update_of first_imsi at_b ∷ [])) id_a in
+    ensures { let begun = receives start vlr_b
+        (begin_in NetworkLocUp (update_of first_imsi at_b ∷ [])) id_a in
         let done = receives begun.state vlr_b (continue_to id_a (result_of (pos 1) ∷ [])) id_b in
         let met = receives done.state gateway (continue_to id_b (ResultNotLast (pos 1) ∷ [])) id_c in
         let over = receives met.state vlr_a (continue_to id_b (result_of (pos 1) ∷ [])) id_c in
@@ -304,12 +385,19 @@ pub fn holders_of_journals()
         (holders start (message_entry vlr_a purges purged ∷ []) first_imsi vlr_a ≡ true)
         × (holders start journal first_imsi vlr_a ≡ false)
         × (holders start journal first_imsi vlr_b ≡ true) }
-    ensures in_order { let result : Out = record { to = vlr_b; message = SentEnd theirs None [] (UpdateResult (pos 1) hlr ∷ []) } in
+    ensures in_order { let result : Out = record {
+      to = vlr_b;
+      message = SentEnd theirs None []
+          (UpdateResult (pos 1) hlr ∷ []);
+    } in
         let cancel : Out = record { to = vlr_b; message = SentBegin id_b LocationCancellation (Cancel (pos 1) first_imsi UpdateProcedure ∷ []) } in
         let of_another : Out = record { to = vlr_b; message = SentBegin id_b LocationCancellation (Cancel (pos 1) fifth_imsi UpdateProcedure ∷ []) } in
-        (held_after first_imsi true (Some vlr_b) (result ∷ of_another ∷ []) held_by_none vlr_b ≡ true)
-        × (held_after first_imsi true (Some vlr_b) (result ∷ cancel ∷ []) held_by_none vlr_b ≡ false)
-        × (held_after first_imsi true (Some vlr_b) (cancel ∷ result ∷ []) held_by_none vlr_b ≡ true) }
+        (held_after first_imsi true (Some vlr_b) (result ∷ of_another ∷ []) held_by_none vlr_b
+        ≡ true)
+        × (held_after first_imsi true (Some vlr_b) (result ∷ cancel ∷ []) held_by_none vlr_b
+        ≡ false)
+        × (held_after first_imsi true (Some vlr_b) (cancel ∷ result ∷ []) held_by_none vlr_b
+        ≡ true) }
 {}
 
 // Purges (TS 29.002, 8.1.6, MAP_PURGE_MS; TS 23.012, Purge MS)
@@ -317,13 +405,17 @@ pub fn holders_of_journals()
 /// A purge by the serving register sets the purged flag, and short messages find the subscriber absent; one by another register
 /// changes nothing. Without a VLR number: dataMissing. Of an unknown subscriber: unknownSubscriber.
 pub fn purge()
-    ensures { let asks = λ (component : Component). receives start vlr_a (begin_in MsPurging (component ∷ [])) id_a in
-        let answer = λ (component : SentComponent). one vlr_a (SentEnd theirs (Some MsPurging) [] (component ∷ [])) in
+    ensures { let asks = λ (component : Component). receives start vlr_a
+        (begin_in MsPurging (component ∷ [])) id_a in
+        let answer = λ (component : SentComponent). one vlr_a
+        (SentEnd theirs (Some MsPurging) [] (component ∷ [])) in
         ((asks (purge_of first_imsi (Some vlr_a))).answer.sent ≡ answer (PurgeResult (pos 1) true))
         × ((asks (purge_of first_imsi (Some vlr_a))).state.records first_imsi ≡ Some (record first_record { purged = true }))
-        × ((receives (asks (purge_of first_imsi (Some vlr_a))).state gateway (begin_in ShortMsgGateway (route_of first_msisdn ∷ [])) id_a).answer.sent
+        × ((receives (asks (purge_of first_imsi (Some vlr_a))).state gateway
+        (begin_in ShortMsgGateway (route_of first_msisdn ∷ [])) id_a).answer.sent
         ≡ one gateway (SentEnd theirs (Some ShortMsgGateway) [] (SentError (pos 1) 6 ∷ [])))
-        × ((asks (purge_of first_imsi (Some vlr_b))).answer.sent ≡ answer (PurgeResult (pos 1) false))
+        × ((asks (purge_of first_imsi (Some vlr_b))).answer.sent
+        ≡ answer (PurgeResult (pos 1) false))
         × ((asks (purge_of first_imsi (Some vlr_b))).state.records first_imsi ≡ Some first_record)
         × ((asks (purge_of first_imsi None)).answer.sent ≡ answer (SentError (pos 1) 35))
         × ((asks (purge_of hlr (Some vlr_a))).answer.sent ≡ answer (SentError (pos 1) 1)) }
@@ -333,16 +425,20 @@ pub fn purge()
 /// register that is already purged is answered freezeTMSI again. A purge during an update does not affect the update. A
 /// withdrawal clears the purged flag.
 pub fn purges_at_other_times()
-    ensures without_number { (receives start vlr_a (begin_in MsPurging (purge_of hlr None ∷ [])) id_a).answer.sent
+    ensures without_number { (receives start vlr_a
+        (begin_in MsPurging (purge_of hlr None ∷ [])) id_a).answer.sent
         ≡ one vlr_a (SentEnd theirs (Some MsPurging) [] (SentError (pos 1) 35 ∷ [])) }
-    ensures without_register { (receives start vlr_a (begin_in MsPurging (purge_of second_imsi (Some vlr_a) ∷ [])) id_d).answer.sent
+    ensures without_register { (receives start vlr_a
+        (begin_in MsPurging (purge_of second_imsi (Some vlr_a) ∷ [])) id_d).answer.sent
         ≡ one vlr_a (SentEnd theirs (Some MsPurging) [] (PurgeResult (pos 1) false ∷ [])) }
     ensures twice { let by_a = begin_in MsPurging (purge_of first_imsi (Some vlr_a) ∷ []) in
         (receives (receives start vlr_a by_a id_a).state vlr_a by_a id_a).answer.sent
         ≡ one vlr_a (SentEnd theirs (Some MsPurging) [] (PurgeResult (pos 1) true ∷ [])) }
-    ensures withdrawn { let purged = receives start vlr_a (begin_in MsPurging (purge_of first_imsi (Some vlr_a) ∷ [])) id_a in
+    ensures withdrawn { let purged = receives start vlr_a
+        (begin_in MsPurging (purge_of first_imsi (Some vlr_a) ∷ [])) id_a in
         (is_changed purged.state first_imsi Withdraw id_a).state.records first_imsi ≡ Some (record first_record { register = None; withdrawn = true }) }
-    ensures during_update { let begun = receives start vlr_b (begin_in NetworkLocUp (update_of first_imsi at_b ∷ [])) id_a in
+    ensures during_update { let begun = receives start vlr_b
+        (begin_in NetworkLocUp (update_of first_imsi at_b ∷ [])) id_a in
         let purged = receives begun.state vlr_a (begin_in MsPurging (purge_of first_imsi (Some vlr_a) ∷ [])) id_b in
         let done = receives purged.state vlr_b (continue_to id_a (result_of (pos 1) ∷ [])) id_b in
         (purged.state.records first_imsi ≡ Some (record first_record { purged = true; current = Some id_a }))
@@ -356,16 +452,24 @@ pub fn purges_at_other_times()
 pub fn codes_changed()
     ensures { let changed = is_changed start first_imsi (Codes (0x11 ∷ 0x22 ∷ [])) id_a in
         let over = receives changed.state vlr_a (End id_a None (result_of (pos 1) ∷ [])) id_b in
-        (changed.answer.sent ≡ one vlr_a (SentBegin id_a SubscriberDataMngt (Insert (pos 1) (Some first_imsi) (Some first_msisdn) (0x11 ∷ 0x22 ∷ []) ∷ [])))
+        (changed.answer.sent ≡ one vlr_a
+        (SentBegin id_a SubscriberDataMngt
+        (Insert (pos 1) (Some first_imsi) (Some first_msisdn) (0x11 ∷ 0x22 ∷ []) ∷ [])))
         × (over.answer.sent ≡ [])
         × (over.state.dialogues id_a ≡ None)
-        × ((receives over.state gateway (begin_in ShortMsgGateway (route_of first_msisdn ∷ [])) id_b).answer.sent
+        × ((receives over.state gateway (begin_in ShortMsgGateway
+        (route_of first_msisdn ∷ [])) id_b).answer.sent
         ≡ one gateway (SentEnd theirs (Some ShortMsgGateway) [] (SentError (pos 1) 11 ∷ [])))
-        × ((receives changed.state vlr_a (continue_to id_a (result_of (pos 1) ∷ [])) id_b).answer.sent ≡ one vlr_a (SentEnd theirs None [] []))
-        × ((receives changed.state vlr_a (continue_to id_a (result_of (pos 1) ∷ [])) id_b).state.dialogues id_a ≡ None)
+        × ((receives changed.state vlr_a
+        (continue_to id_a (result_of (pos 1) ∷ [])) id_b).answer.sent
+        ≡ one vlr_a (SentEnd theirs None [] []))
+        × ((receives changed.state vlr_a
+        (continue_to id_a (result_of (pos 1) ∷ [])) id_b).state.dialogues id_a ≡ None)
         × ((expires_at (waits changed.state 1 20) id_a (pos 1) id_b).answer.sent ≡ [])
         × ((expires_at (waits changed.state 1 20) id_a (pos 1) id_b).state.dialogues id_a ≡ None)
-        × ((expires_at (waits (receives changed.state vlr_a (continue_to id_a (ResultNotLast (pos 1) ∷ [])) id_b).state 1 20) id_a (pos 1) id_b).answer.sent
+        × ((expires_at (waits (receives changed.state vlr_a
+        (continue_to id_a (ResultNotLast (pos 1) ∷ [])) id_b).state 1 20) id_a
+        (pos 1) id_b).answer.sent
         ≡ one vlr_a (SentEnd theirs None [] []))
         × ((is_changed start second_imsi (Codes []) id_d).answer.sent ≡ [])
         × ((is_changed start hlr (Codes []) id_d).answer ≡ record { id = None; subject = None; sent = [] }) }
@@ -373,12 +477,14 @@ pub fn codes_changed()
 
 /// New codes during an update: the update fails when it would complete, whether or not a register served.
 pub fn codes_during_update()
-    ensures served { let begun = receives start vlr_b (begin_in NetworkLocUp (update_of first_imsi at_b ∷ [])) id_a in
+    ensures served { let begun = receives start vlr_b
+        (begin_in NetworkLocUp (update_of first_imsi at_b ∷ [])) id_a in
         let changed = is_changed begun.state first_imsi (Codes (0x11 ∷ [])) id_b in
         let late = receives changed.state vlr_b (continue_to id_a (result_of (pos 1) ∷ [])) id_c in
         (changed.state.records first_imsi ≡ Some (record first_record { codes = 0x11 ∷ [] }))
         × (late.answer.sent ≡ one vlr_b (SentEnd theirs None [] (SentError (pos 1) 34 ∷ []))) }
-    ensures unserved { let begun = receives start vlr_b (begin_in NetworkLocUp (update_of second_imsi at_b ∷ [])) id_d in
+    ensures unserved { let begun = receives start vlr_b
+        (begin_in NetworkLocUp (update_of second_imsi at_b ∷ [])) id_d in
         let changed = is_changed begun.state second_imsi (Codes (0x11 ∷ [])) id_a in
         let late = receives changed.state vlr_b (continue_to id_d (result_of (pos 1) ∷ result_of (pos 2) ∷ [])) id_a in
         (changed.state.records second_imsi ≡ Some (record second_record { codes = 0x11 ∷ [] }))
@@ -387,7 +493,8 @@ pub fn codes_during_update()
 
 /// New codes are not sent to a purged register, but the record keeps them. Nothing of a withdrawn subscriber changes.
 pub fn codes_not_told()
-    ensures purged { let purged = receives start vlr_a (begin_in MsPurging (purge_of first_imsi (Some vlr_a) ∷ [])) id_a in
+    ensures purged { let purged = receives start vlr_a
+        (begin_in MsPurging (purge_of first_imsi (Some vlr_a) ∷ [])) id_a in
         let changed = is_changed purged.state first_imsi (Codes (0x11 ∷ [])) id_b in
         (changed.answer ≡ record { id = None; subject = Some first_imsi; sent = [] })
         × (changed.state.records first_imsi ≡ Some (record first_record { codes = 0x11 ∷ []; purged = true })) }
@@ -399,7 +506,9 @@ pub fn codes_not_told()
 
 /// Each repeat of a withdrawal's cancel says subscriptionWithdraw.
 pub fn repeated_withdrawal()
-    ensures { let cancels = λ (id : List ℕ). one vlr_a (SentBegin id LocationCancellation (Cancel (pos 1) first_imsi SubscriptionWithdraw ∷ [])) in
+    ensures { let cancels = λ (id : List ℕ). one vlr_a
+        (SentBegin id LocationCancellation
+        (Cancel (pos 1) first_imsi SubscriptionWithdraw ∷ [])) in
         let gone = is_changed start first_imsi Withdraw id_a in
         let second = expires_at (waits gone.state 1 20) id_a (pos 1) id_b in
         let third = expires_at (waits second.state 1 40) id_b (pos 1) id_c in
@@ -409,21 +518,27 @@ pub fn repeated_withdrawal()
 /// A withdrawal cancels the register; then updates, purges and SM routes find no subscriber.
 pub fn withdrawn()
     ensures { let gone = is_changed start first_imsi Withdraw id_a in
-        (gone.answer.sent ≡ one vlr_a (SentBegin id_a LocationCancellation (Cancel (pos 1) first_imsi SubscriptionWithdraw ∷ [])))
+        (gone.answer.sent ≡ one vlr_a (SentBegin id_a LocationCancellation
+        (Cancel (pos 1) first_imsi SubscriptionWithdraw ∷ [])))
         × (gone.state.records first_imsi ≡ Some (record first_record { register = None; withdrawn = true }))
-        × ((receives gone.state vlr_b (begin_in NetworkLocUp (update_of first_imsi at_b ∷ [])) id_b).answer.sent
+        × ((receives gone.state vlr_b (begin_in NetworkLocUp
+        (update_of first_imsi at_b ∷ [])) id_b).answer.sent
         ≡ one vlr_b (SentEnd theirs (Some NetworkLocUp) [] (SentError (pos 1) 1 ∷ [])))
-        × ((receives gone.state vlr_b (begin_in MsPurging (purge_of first_imsi (Some vlr_a) ∷ [])) id_b).answer.sent
+        × ((receives gone.state vlr_b (begin_in MsPurging
+        (purge_of first_imsi (Some vlr_a) ∷ [])) id_b).answer.sent
         ≡ one vlr_b (SentEnd theirs (Some MsPurging) [] (SentError (pos 1) 1 ∷ [])))
-        × ((receives gone.state gateway (begin_in ShortMsgGateway (route_of first_msisdn ∷ [])) id_b).answer.sent
+        × ((receives gone.state gateway (begin_in ShortMsgGateway
+        (route_of first_msisdn ∷ [])) id_b).answer.sent
         ≡ one gateway (SentEnd theirs (Some ShortMsgGateway) [] (SentError (pos 1) 1 ∷ [])))
         × ((expires_at (waits gone.state 1 20) id_a (pos 1) id_b).answer.sent
-        ≡ one vlr_a (SentBegin id_b LocationCancellation (Cancel (pos 1) first_imsi SubscriptionWithdraw ∷ []))) }
+        ≡ one vlr_a (SentBegin id_b LocationCancellation
+        (Cancel (pos 1) first_imsi SubscriptionWithdraw ∷ []))) }
 {}
 
 /// An update in progress when the subscription is withdrawn ends with systemFailure.
 pub fn withdrawn_during_update()
-    ensures { let begun = receives start vlr_b (begin_in NetworkLocUp (update_of first_imsi at_b ∷ [])) id_a in
+    ensures { let begun = receives start vlr_b
+        (begin_in NetworkLocUp (update_of first_imsi at_b ∷ [])) id_a in
         let gone = is_changed begun.state first_imsi Withdraw id_b in
         let late = receives gone.state vlr_b (continue_to id_a (result_of (pos 1) ∷ [])) id_c in
         (late.answer.sent ≡ one vlr_b (SentEnd theirs None [] (SentError (pos 1) 34 ∷ [])))
@@ -437,12 +552,16 @@ pub fn full_shard()
     ensures update { (S : State) → IsFull S 1 → S.records first_imsi ≡ Some first_record
         → Step S (Frame vlr_b (Read (begin_in NetworkLocUp (update_of first_imsi at_b ∷ [])))) S
         (record { id = None; subject = Some first_imsi; sent = one vlr_b (SentAbort theirs (Cause 4)) }) }
-    ensures route_asked { (S : State) → IsFull S 1 → S.records first_imsi ≡ Some first_record → S.directory first_msisdn ≡ Some first_imsi
-        → (T : State) × (a : Answer) × Step S (Frame gateway (Read (begin_in ShortMsgGateway (route_of first_msisdn ∷ [])))) T a
-        × (a.sent ≡ one gateway (SentEnd theirs (Some ShortMsgGateway) [] (RouteResult (pos 1) first_imsi at_a.msc None ∷ []))) }
+    ensures route_asked { (S : State) → IsFull S 1 → S.records first_imsi ≡ Some first_record
+        → S.directory first_msisdn ≡ Some first_imsi
+        → (T : State) × (a : Answer) × Step S
+        (Frame gateway (Read (begin_in ShortMsgGateway (route_of first_msisdn ∷ [])))) T a
+        × (a.sent ≡ one gateway (SentEnd theirs (Some ShortMsgGateway) []
+        (RouteResult (pos 1) first_imsi at_a.msc None ∷ []))) }
 {}
 
 /// In a full shard there is no room for the withdrawal of a subscriber whom a register serves.
 pub fn change_in_full_shard()
-    ensures { (S : State) → IsFull S 1 → S.records first_imsi ≡ Some first_record → HasNoRoom S (Operator first_imsi Withdraw) }
+    ensures { (S : State) → IsFull S 1 → S.records first_imsi ≡ Some first_record
+        → HasNoRoom S (Operator first_imsi Withdraw) }
 {}

@@ -27,7 +27,7 @@ ghost use Rattle.machine.specs.Merges.{Merges};
 ghost use Rattle.machine.specs.Rows.{MovesByRow, happening, standing_of};
 ghost use Rattle.machine.specs.Run.{Run};
 ghost use Rattle.machine.specs.Sound.{Sound};
-ghost use Rattle.machine.specs.Numbers.{most_dialogues, shards};
+ghost use Rattle.machine.specs.declared.numbers.TheConstants.{MAX_DIALOGUES, SHARDS};
 ghost use Rattle.machine.specs.Begins.{first_argument, offer_in};
 ghost use Rattle.machine_laws.specs.FirstTimer.{HasFirstTimer};
 ghost use Rattle.machine_laws.specs.Play.{play};
@@ -43,11 +43,14 @@ pub fn steps_keep_sound()
 /// The state with the loaded records, no dialogue and clocks at 0 is sound, and each shard begins with its part of it and an
 /// empty journal.
 pub fn openings_are_sound()
-    ensures whole { (records : List ℕ → Option Subscriber) (directory : List ℕ → Option (List ℕ)) (hlr : List ℕ)
+    ensures whole { (records : List ℕ → Option Subscriber) (directory : List ℕ → Option (List ℕ))
+        (hlr : List ℕ)
         → AreLoaded records → Sound (opening records directory hlr) }
-    ensures of_shard { (records : List ℕ → Option Subscriber) (directory : List ℕ → Option (List ℕ)) (hlr : List ℕ) (n : ℕ)
-        → AreLoaded records → n < shards
-        → Legal n (part (opening records directory hlr) n) [] (part (opening records directory hlr) n) }
+    ensures of_shard { (records : List ℕ → Option Subscriber) (directory : List ℕ → Option (List ℕ))
+        (hlr : List ℕ) (n : ℕ)
+        → AreLoaded records → n < SHARDS
+        → Legal n (part (opening records directory hlr) n) []
+        (part (opening records directory hlr) n) }
 {}
 
 /// A state with no dialogue is sound if each record is one that may be loaded.
@@ -59,7 +62,7 @@ pub fn fresh_states_are_sound()
 pub fn tables_tell_full_shards()
     ensures { (S : State) (n : ℕ) (table : List (List ℕ))
         → ((i : List ℕ) → shard_of_id i ≡ n → (S.dialogues i ≡ None → ⊥) → IsIn i table)
-        → length table < most_dialogues → IsFull S n → ⊥ }
+        → length table < MAX_DIALOGUES → IsFull S n → ⊥ }
 {}
 
 // One step
@@ -87,7 +90,8 @@ pub fn dialogues_have_subjects()
 
 /// In a sound state each event has a step, except an operator's change that would overflow its shard.
 pub fn events_have_steps()
-    ensures { (S : State) (e : Event) → Sound S → ((T : State) × (a : Answer) × Step S e T a) ⊎ HasNoRoom S e }
+    ensures { (S : State) (e : Event) → Sound S
+        → ((T : State) × (a : Answer) × Step S e T a) ⊎ HasNoRoom S e }
 {}
 
 /// The id that is taken is a step's only free choice.
@@ -99,8 +103,10 @@ pub fn ids_are_the_only_choice()
 /// What the worked examples compute is a step, if there is room and the new id is a new one.
 pub fn played_turns_are_steps()
     ensures { (S : State) (e : Event) (turn : Turn) (new : List ℕ)
-        → TurnsTo S e turn → IsNewId S (route S.directory e) new → (IsFull S (route S.directory e) → ⊥)
-        → Step S e (play S (route S.directory e) turn new).state (play S (route S.directory e) turn new).answer }
+        → TurnsTo S e turn → IsNewId S (route S.directory e) new
+        → (IsFull S (route S.directory e) → ⊥)
+        → Step S e (play S (route S.directory e) turn new).state
+        (play S (route S.directory e) turn new).answer }
 {}
 
 /// An operator's change that would overflow its shard has no step.
@@ -112,18 +118,22 @@ pub fn changes_without_room_have_no_step()
 /// nothing changed.
 pub fn turned_away_is_exact()
     ensures told { (S : State) (e : Event) (T : State) (a : Answer) (x : List ℕ)
-        → Step S e T a → is_subject x a.subject && is_turned_away a.sent ≡ true → MetFullShard S e T a x }
+        → Step S e T a → is_subject x a.subject && is_turned_away a.sent ≡ true
+        → MetFullShard S e T a x }
     ensures tells { (S : State) (e : Event) (turn : Turn) (new : List ℕ) (T : State) (a : Answer)
-        → TurnsTo S e turn → TurnedAway S (route S.directory e) turn (outcome_in S (route S.directory e) turn new) T a
+        → TurnsTo S e turn → TurnedAway S (route S.directory e) turn
+        (outcome_in S (route S.directory e) turn new) T a
         → (x : List ℕ) × MetFullShard S e T a x × (is_turned_away a.sent ≡ true) }
 {}
 
 /// A purge that names no register, or another than the serving one, changes nothing: no record, no dialogue, no clock (TS 23.012,
 /// Purge MS).
 pub fn foreign_purges_change_nothing()
-    ensures { (S : State) (from origin : List ℕ) (name : Option (List ℕ)) (components : List Component) (imsi : List ℕ)
+    ensures { (S : State) (from origin : List ℕ) (name : Option (List ℕ))
+        (components : List Component) (imsi : List ℕ)
         (vlr : Option (List ℕ)) (T : State) (a : Answer)
-        → Step S (Frame from (Read (Begin origin name components))) T a → first_argument components ≡ Some (Purge imsi vlr)
+        → Step S (Frame from (Read (Begin origin name components))) T a
+        → first_argument components ≡ Some (Purge imsi vlr)
         → ((v : List ℕ) → vlr ≡ Some v → serving (S.records imsi) v ≡ false)
         → (T ≡ S) × (a.id ≡ None) }
 {}
@@ -135,19 +145,26 @@ pub fn foreign_purges_change_nothing()
 /// each operation under the id of its invocation. The dialogues that an event does not name stay, by `unnamed_dialogues_stay`.
 pub fn steps_follow_the_tables()
     // a Begin, whether it opens a dialogue or not
-    ensures begins { (S : State) (from origin : List ℕ) (name : Option (List ℕ)) (components : List Component) (T : State) (a : Answer)
-        → Step S (Frame from (Read (Begin origin name components))) T a → BeginMoves from origin name components a }
+    ensures begins { (S : State) (from origin : List ℕ) (name : Option (List ℕ))
+        (components : List Component) (T : State) (a : Answer)
+        → Step S (Frame from (Read (Begin origin name components))) T a
+        → BeginMoves from origin name components a }
     // a Continue, whether it is for a dialogue or for none
-    ensures continues { (S : State) (from origin i : List ℕ) (portion : Option Response) (components : List Component) (T : State) (a : Answer)
-        → Step S (Frame from (Read (Continue origin i portion components))) T a → ContinueMoves S from origin i components T a }
+    ensures continues { (S : State) (from origin i : List ℕ) (portion : Option Response)
+        (components : List Component) (T : State) (a : Answer)
+        → Step S (Frame from (Read (Continue origin i portion components))) T a
+        → ContinueMoves S from origin i components T a }
     // an End and an Abort
-    ensures ends { (S : State) (from i : List ℕ) (portion : Option Response) (components : List Component) (T : State) (a : Answer)
+    ensures ends { (S : State) (from i : List ℕ) (portion : Option Response)
+        (components : List Component) (T : State) (a : Answer)
         → Step S (Frame from (Read (End i portion components))) T a → CloseMoves S i T a }
     ensures aborts { (S : State) (from i : List ℕ) (T : State) (a : Answer)
         → Step S (Frame from (Read (Abort i))) T a → CloseMoves S i T a }
     // the expiry of the least timer that is due
-    ensures expires { (S : State) (n : ℕ) (i : List ℕ) (d : Dialogue) (j : ℤ) (v : Invocation) (T : State) (a : Answer)
-        → Sound S → IsDue S n i d j v → IsLeast S n v.deadline i j → Step S (Expire n) T a → ExpiryMoves S n i d j T a }
+    ensures expires { (S : State) (n : ℕ) (i : List ℕ) (d : Dialogue) (j : ℤ) (v : Invocation)
+        (T : State) (a : Answer)
+        → Sound S → IsDue S n i d j v → IsLeast S n v.deadline i j → Step S (Expire n) T a
+        → ExpiryMoves S n i d j T a }
     // a dialogue that opens
     ensures opens { (S : State) (e : Event) (T : State) (a : Answer) (i : List ℕ)
         → Step S e T a → a.id ≡ Some i → OpeningMoves S e (route S.directory e) i T a }
@@ -155,7 +172,8 @@ pub fn steps_follow_the_tables()
 
 /// An expiry names at most one dialogue: an open one with a due timer, and no due timer has an earlier deadline.
 pub fn expiries_name_one()
-    ensures one { (S : State) (n : ℕ) (i k : List ℕ) → IsNamed S (Expire n) i → IsNamed S (Expire n) k → i ≡ k }
+    ensures one { (S : State) (n : ℕ) (i k : List ℕ) → IsNamed S (Expire n) i
+        → IsNamed S (Expire n) k → i ≡ k }
     ensures which { (S : State) (n : ℕ) (i k : List ℕ) (d : Dialogue) (j : ℤ) (v : Invocation)
         → IsNamed S (Expire n) i → IsDue S n k d j v → HasFirstTimer S n i v.deadline }
 {}
@@ -163,29 +181,39 @@ pub fn expiries_name_one()
 /// A timer is due once the clock has reached its deadline.
 pub fn timers_are_due_at_their_deadline()
     ensures { (S : State) (n : ℕ) (i : List ℕ) (d : Dialogue) (j : ℤ) (v : Invocation)
-        → shard_of_id i ≡ n → S.dialogues i ≡ Some d → invocation_of j d.invocations ≡ Some v → v.deadline ≡ S.clocks n
+        → shard_of_id i ≡ n → S.dialogues i ≡ Some d → invocation_of j d.invocations ≡ Some v
+        → v.deadline ≡ S.clocks n
         → IsDue S n i d j v }
 {}
 
 /// A component moves the invocation with its id by a row of the invocation table, and is rejected as the row says; it moves
 /// no other.
 pub fn components_follow_the_table<P>()
-    ensures concerned { (now : ℕ) (offer : Offer) (vs : List Invocation) (c : ComponentOf P) (j : ℤ) (x : Happening)
+    ensures concerned { (now : ℕ) (offer : Offer) (vs : List Invocation) (c : ComponentOf P) (j : ℤ)
+        (x : Happening)
         → AreRising vs → happening j c ≡ Some x → MovesByRow now offer vs c j x }
     ensures others { (now : ℕ) (vs : List Invocation) (c : ComponentOf P) (j : ℤ)
-        → happening j c ≡ None → standing_of j (invocations_after now (c ∷ []) vs) ≡ standing_of j vs }
+        → happening j c ≡ None → standing_of j (invocations_after now (c ∷ []) vs)
+        ≡ standing_of j vs }
 {}
 
 /// The effect of a list of components is that of its components one by one, each on the invocations that the earlier ones
 /// leave.
 pub fn components_come_one_by_one<P>()
-    ensures rejects { (offer : Offer) (vs : List Invocation) (cs : List (ComponentOf P)) (c : ComponentOf P)
-        → rejects_after offer vs [] (cs ++ c ∷ []) ≡ rejects_after offer vs [] cs ++ reject_of offer vs cs c }
-    ensures invocations { (now : ℕ) (cs : List (ComponentOf P)) (c : ComponentOf P) (vs : List Invocation)
-        → invocations_after now (cs ++ c ∷ []) vs ≡ invocations_after now (c ∷ []) (invocations_after now cs vs) }
-    ensures failed { (now : ℕ) (cs : List (ComponentOf P)) (c : ComponentOf P) (vs : List Invocation)
-        → any_failed (cs ++ c ∷ []) vs ≡ any_failed cs vs || any_failed (c ∷ []) (invocations_after now cs vs) }
-    ensures starts { (offer : Offer) (vs : List Invocation) (c : ComponentOf P) (cs : List (ComponentOf P))
+    ensures rejects { (offer : Offer) (vs : List Invocation) (cs : List (ComponentOf P))
+        (c : ComponentOf P)
+        → rejects_after offer vs [] (cs ++ c ∷ [])
+        ≡ rejects_after offer vs [] cs ++ reject_of offer vs cs c }
+    ensures invocations { (now : ℕ) (cs : List (ComponentOf P)) (c : ComponentOf P)
+        (vs : List Invocation)
+        → invocations_after now (cs ++ c ∷ []) vs
+        ≡ invocations_after now (c ∷ []) (invocations_after now cs vs) }
+    ensures failed { (now : ℕ) (cs : List (ComponentOf P)) (c : ComponentOf P)
+        (vs : List Invocation)
+        → any_failed (cs ++ c ∷ []) vs ≡ any_failed cs vs || any_failed (c ∷ [])
+        (invocations_after now cs vs) }
+    ensures starts { (offer : Offer) (vs : List Invocation) (c : ComponentOf P)
+        (cs : List (ComponentOf P))
         → starts offer vs (c ∷ cs) ≡ starts offer vs (c ∷ []) }
     ensures open { (now : ℕ) (vs : List Invocation) (cs : List (ComponentOf P)) (j : ℤ)
         → AreRising vs → open_at vs cs j ≡ in_sent j (invocations_after now cs vs) }
@@ -201,17 +229,22 @@ pub fn steps_stay_in_bounds()
     ensures step { (S : State) (e : Event) (T : State) (a : Answer)
         → StateInBounds S → EventInBounds e → Step S e T a → StateInBounds T × AnswerInBounds a }
     ensures run { (S : State) (events : List Event) (T : State) (answers : List Answer)
-        → StateInBounds S → Every EventInBounds events → Run S events T answers → StateInBounds T × Every AnswerInBounds answers }
-    ensures opening_state { (records : List ℕ → Option Subscriber) (directory : List ℕ → Option (List ℕ)) (hlr : List ℕ)
-        → ((x : List ℕ) (s : Subscriber) → records x ≡ Some s → AreDigits x × RecordInBounds s) → AreDigits hlr
+        → StateInBounds S → Every EventInBounds events → Run S events T answers
+        → StateInBounds T × Every AnswerInBounds answers }
+    ensures opening_state { (records : List ℕ → Option Subscriber)
+        (directory : List ℕ → Option (List ℕ)) (hlr : List ℕ)
+        → ((x : List ℕ) (s : Subscriber) → records x ≡ Some s → AreDigits x × RecordInBounds s)
+        → AreDigits hlr
         → StateInBounds (opening records directory hlr) }
     ensures parts { (S : State) (n : ℕ) → StateInBounds S → StateInBounds (part S n) }
-    ensures unions { (states : ℕ → State) → ((n : ℕ) → n < shards → StateInBounds (states n)) → StateInBounds (union states) }
+    ensures unions { (states : ℕ → State) → ((n : ℕ) → n < SHARDS → StateInBounds (states n))
+        → StateInBounds (union states) }
 {}
 
 /// What a Begin starts in a context has an argument, and it is one of the operation that a peer may invoke there.
 pub fn what_starts_is_of_its_context()
-    ensures { (now : ℕ) (context : Context) (vs : List Invocation) (components : List Component) (invoke : ℤ)
+    ensures { (now : ℕ) (context : Context) (vs : List Invocation) (components : List Component)
+        (invoke : ℤ)
         → ComponentsInBounds components
         → (effect now (offer_in context components) vs components).started ≡ Some invoke
         → StartsOfOperation context components }
@@ -221,7 +254,8 @@ pub fn what_starts_is_of_its_context()
 
 /// Along every run from a sound state, the register of an open update dialogue has the VLR digits with which its id began.
 pub fn updates_have_their_digits()
-    ensures { (base S : State) (entries : List Entry) (i : List ℕ) (d : Dialogue) (register : Register) (invoke : ℤ)
+    ensures { (base S : State) (entries : List Entry) (i : List ℕ) (d : Dialogue)
+        (register : Register) (invoke : ℤ)
         → Sound base → Run base (events_of entries) S (answers_of entries)
         → S.dialogues i ≡ Some d → d.kind ≡ Updates register invoke
         → began_from (began_in base) entries i ≡ Some register.vlr }
@@ -239,7 +273,8 @@ pub fn holders_are_registers()
 /// A step of a shard reads and changes the part of that shard alone.
 pub fn steps_stay_in_their_part()
     ensures within { (S : State) (e : Event) (T : State) (a : Answer) → Sound S → Step S e T a
-        → Step (part S (route S.directory e)) e (part T (route S.directory e)) a × Leaves S T (route S.directory e) }
+        → Step (part S (route S.directory e)) e (part T (route S.directory e)) a
+        × Leaves S T (route S.directory e) }
     ensures of_whole { (S P : State) (e : Event) (a : Answer) (n : ℕ)
         → Sound S → route S.directory e ≡ n → Step (part S n) e P a
         → (T : State) × Step S e T a × (part T n ≡ P) × Leaves S T n }
@@ -248,35 +283,36 @@ pub fn steps_stay_in_their_part()
 /// The union of parts is one whole state: of the parts of a sound state it is that state, and of sixteen sound states of
 /// shards, under one directory and one number of the register, each is its part.
 pub fn unions_have_parts()
-    ensures whole { (S : State) → Sound S → ((n : ℕ) → shards ≤ n → S.clocks n ≡ 0) → union (part S) ≡ S }
+    ensures whole { (S : State) → Sound S → ((n : ℕ) → SHARDS ≤ n → S.clocks n ≡ 0)
+        → union (part S) ≡ S }
     ensures parts { (states : ℕ → State) (n : ℕ)
-        → ((m : ℕ) → m < shards → Sound (states m))
-        → ((m : ℕ) → m < shards → (states m).directory ≡ (states 0).directory)
-        → ((m : ℕ) → m < shards → (states m).hlr ≡ (states 0).hlr)
-        → n < shards → states n ≡ part (states n) n → part (union states) n ≡ states n }
+        → ((m : ℕ) → m < SHARDS → Sound (states m))
+        → ((m : ℕ) → m < SHARDS → (states m).directory ≡ (states 0).directory)
+        → ((m : ℕ) → m < SHARDS → (states m).hlr ≡ (states 0).hlr)
+        → n < SHARDS → states n ≡ part (states n) n → part (union states) n ≡ states n }
     ensures sound { (states : ℕ → State)
-        → ((m : ℕ) → m < shards → Sound (states m))
-        → ((m : ℕ) → m < shards → (states m).directory ≡ (states 0).directory)
-        → ((m : ℕ) → m < shards → (states m).hlr ≡ (states 0).hlr)
+        → ((m : ℕ) → m < SHARDS → Sound (states m))
+        → ((m : ℕ) → m < SHARDS → (states m).directory ≡ (states 0).directory)
+        → ((m : ℕ) → m < SHARDS → (states m).hlr ≡ (states 0).hlr)
         → Sound (union states) }
 {}
 
 /// A step of one shard is a step of the union of the sixteen.
 pub fn steps_are_steps_of_the_union()
     ensures { (states : ℕ → State) (n : ℕ) (T : State) (e : Event) (a : Answer)
-        → ((m : ℕ) → m < shards → Sound (states m))
-        → ((m : ℕ) → m < shards → (states m).directory ≡ (states 0).directory)
-        → ((m : ℕ) → m < shards → (states m).hlr ≡ (states 0).hlr)
-        → n < shards → route (states n).directory e ≡ n → Step (states n) e T a
+        → ((m : ℕ) → m < SHARDS → Sound (states m))
+        → ((m : ℕ) → m < SHARDS → (states m).directory ≡ (states 0).directory)
+        → ((m : ℕ) → m < SHARDS → (states m).hlr ≡ (states 0).hlr)
+        → n < SHARDS → route (states n).directory e ≡ n → Step (states n) e T a
         → Step (union states) e (union (put_at states n T)) a }
 {}
 
 /// Every merge of sixteen legal journals is a run from the union of the bases to the union of the states.
 pub fn merges_are_runs()
     ensures { (bases states : ℕ → State) (journals : ℕ → List Entry) (merge : List Entry)
-        → ((n : ℕ) → n < shards → Legal n (bases n) (journals n) (states n))
-        → ((n : ℕ) → n < shards → (bases n).directory ≡ (bases 0).directory)
-        → ((n : ℕ) → n < shards → (bases n).hlr ≡ (bases 0).hlr)
+        → ((n : ℕ) → n < SHARDS → Legal n (bases n) (journals n) (states n))
+        → ((n : ℕ) → n < SHARDS → (bases n).directory ≡ (bases 0).directory)
+        → ((n : ℕ) → n < SHARDS → (bases n).hlr ≡ (bases 0).hlr)
         → Merges journals merge
         → Run (union bases) (events_of merge) (union states) (answers_of merge) }
 {}
@@ -285,7 +321,7 @@ pub fn merges_are_runs()
 
 /// A journal begins empty, and a step of its shard appends its entry.
 pub fn journals_grow_by_steps()
-    ensures empty { (n : ℕ) (S : State) → n < shards → Sound S → S ≡ part S n → Legal n S [] S }
+    ensures empty { (n : ℕ) (S : State) → n < SHARDS → Sound S → S ≡ part S n → Legal n S [] S }
     ensures push { (n : ℕ) (base S T : State) (journal : List Entry) (e : Event) (a : Answer)
         → Legal n base journal S → route S.directory e ≡ n → Step S e T a
         → Legal n base (journal ++ record { event = e; answer = a } ∷ []) T }
@@ -300,12 +336,17 @@ pub fn chains_are_journals()
     ensures whole { (n : ℕ) (epochs : List Epoch) (base state : State) (entries : List Entry)
         → Chain n epochs base → Legal n base entries state
         → Legal n (first_base epochs base) (joined epochs ++ entries) state }
-    ensures holders_of { (n : ℕ) (epochs : List Epoch) (base state : State) (entries : List Entry) (x : List ℕ)
+    ensures holders_of { (n : ℕ) (epochs : List Epoch) (base state : State) (entries : List Entry)
+        (x : List ℕ)
         → Chain n epochs base → Legal n base entries state
-        → holders (first_base epochs base) (joined epochs ++ entries) x ≡ serving (state.records x) }
-    ensures isolation { (n : ℕ) (epochs : List Epoch) (base state : State) (entries : List Entry) (x : List ℕ)
-        → Chain n epochs base → Legal n base entries state → NoneTurnedAway (joined epochs ++ entries) x
-        → (T : State) × Legal n (own (first_base epochs base) x) (only_of (joined epochs ++ entries) x) T × SameOf x state T }
+        → holders (first_base epochs base) (joined epochs ++ entries) x
+        ≡ serving (state.records x) }
+    ensures isolation { (n : ℕ) (epochs : List Epoch) (base state : State) (entries : List Entry)
+        (x : List ℕ)
+        → Chain n epochs base → Legal n base entries state
+        → NoneTurnedAway (joined epochs ++ entries) x
+        → (T : State) × Legal n (own (first_base epochs base) x)
+        (only_of (joined epochs ++ entries) x) T × SameOf x state T }
 {}
 
 // One subscriber alone
@@ -313,7 +354,8 @@ pub fn chains_are_journals()
 /// An entry that is neither of x nor of the clock leaves the record of x, the dialogues of x and the clocks unchanged.
 pub fn others_leave_a_subscriber()
     ensures { (x : List ℕ) (S : State) (e : Event) (T : State) (a : Answer)
-        → Sound S → Step S e T a → is_of x (record { event = e; answer = a }) ≡ false → SameAfter x S T }
+        → Sound S → Step S e T a → is_of x (record { event = e; answer = a }) ≡ false
+        → SameAfter x S T }
 {}
 
 /// An entry of x or of the clock, unless it is an update that was turned away, is a step with the same answer in any sound

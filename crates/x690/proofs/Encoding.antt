@@ -48,7 +48,8 @@ length_octets-octets n = grind (arith, nat_tests)
 
 definite-octets : (tag : Tag) (contents : List ℕ) → AreOctets contents → AreOctets (definite tag contents)
 definite-octets tag contents p =
-    AreOctets-append (identifier tag) _ (identifier-octets tag) (AreOctets-append (length_octets (length contents)) contents (length_octets-octets (length contents)) p)
+    AreOctets-append (identifier tag) _ (identifier-octets tag) (AreOctets-append (length_octets (length contents)) contents
+    (length_octets-octets (length contents)) p)
 
 mutual
   enc-octets : (t : Tree) → HasOctets t → AreOctets (enc t)

@@ -94,7 +94,8 @@ one_reading = record {
 
 -- ---- several
 
-pub first-some : {A : Type 0} (read : Tree → Option A) (ts : List Tree) (x : A × List Tree) → first read ts ≡ Some x → (t : Tree) × (ts ≡ t ∷ x.1) × (read t ≡ Some x.0)
+pub first-some : {A : Type 0} (read : Tree → Option A) (ts : List Tree) (x : A × List Tree) → first read ts ≡ Some x
+    → (t : Tree) × (ts ≡ t ∷ x.1) × (read t ≡ Some x.0)
 first-some {A} read [] x e = absurd cc
 first-some {A} read (t ∷ ts) x e = go (read t) refl e
   where

@@ -152,7 +152,8 @@ pub record Headed (octets : List ℕ) : Type 0 where
       ((size : List ℕ) × (contents : List ℕ) × (after : List ℕ) × IsLength size (length contents) × (octets ≡ identifier tag ++ (size ++ (contents ++ after))))
       ⊎ ((constructed ≡ true) × (after : List ℕ) × (octets ≡ identifier tag ++ (128 ∷ after)))
 
-Definite-headed : (c : Bool) (tag : Tag) (octets front contents rest : List ℕ) → IsTag c tag → Definite front tag contents → octets ≡ front ++ rest → Headed octets
+Definite-headed : (c : Bool) (tag : Tag) (octets front contents rest : List ℕ) → IsTag c tag → Definite front tag contents → octets ≡ front ++ rest
+    → Headed octets
 Definite-headed c tag octets front contents rest h d e = record {
   constructed = c;
   tag = tag;

@@ -1,10 +1,11 @@
 //! The basic encoding rules of ITU-T X.690 as definitions (in `specs/`), and the laws that hold of them.
 //!
-//! There is no code here but the type of a tag: each law is the contract of a public function that does nothing, so that
+//! There is no code here but the type of a tag and two limits: each law is the contract of a public function that does nothing, so that
 //! the proofs of other crates may rest on it.
 #![tactic(auto)]
 
 pub mod examples;
+pub mod limits;
 
 ghost use Rattle.x690.specs.Laws.{OneTree, EncSpells, EncIsOctets, FewestLengthOctets, FewestOctets, OneReading};
 

@@ -15,16 +15,18 @@ use Rattle.frames.specs.declared.tags.TheConstants.{UNIDIRECTIONAL, BEGIN, END, 
 use Rattle.frames.specs.declared.numbers.TheConstants.{BADLY_FORMATTED_TRANSACTION_PORTION, INCORRECT_TRANSACTION_PORTION}
 use Rattle.frames.specs.Choices.{if_under}
 use Rattle.frames.specs.Messages.{Portions, TcMessage, Begin, Continue, End, Abort, Unread, Discarded, Refused, ◌>>=◌, transaction_id_under, portions_of, begin_of, continue_of, end_of, may_end_abort, abort_of, unrecognized, message_of}
-use Rattle.octets.specs.Octets.{HasIdLength}
+use Rattle.machine.specs.Octets.{HasIdLength}
 use Rattle.frames.specs.MessageForms.{AreDialogue, AreComponents, ArePortions, AreReason, IsMessage}
 
 -- an element that is an id
-between : (octets id : List ℕ) (low high : Bool) → leb 1 (length octets) ≡ low → leb (length octets) 4 ≡ high → cond (low && high) (Some octets) None ≡ Some id → HasIdLength octets × (octets ≡ id)
+between : (octets id : List ℕ) (low high : Bool) → leb 1 (length octets) ≡ low → leb (length octets) 4 ≡ high → cond (low && high) (Some octets) None ≡ Some id
+    → HasIdLength octets × (octets ≡ id)
 between octets id true true l h e = (record { some = leb-true _ _ l; most = leb-true _ _ h }, some_is e)
 between octets id true false l h e = absurd cc
 between octets id false high l h e = absurd cc
 
-pub id_found : (tag : Tag) (ts : List Tree) (x : List ℕ × List Tree) → first (transaction_id_under tag) ts ≡ Some x → HasIdLength x.0 × (ts ≡ Primitive tag x.0 ∷ x.1)
+pub id_found : (tag : Tag) (ts : List Tree) (x : List ℕ × List Tree) → first (transaction_id_under tag) ts ≡ Some x
+    → HasIdLength x.0 × (ts ≡ Primitive tag x.0 ∷ x.1)
 id_found tag ts x e =
     let (t, is, read) = first-some (transaction_id_under tag) ts x e in
     let (octets, is_octets, id) = bind_some (octets_of tag t) remote_id_of x.0 read in
@@ -36,14 +38,16 @@ tagged-in : (tag : Tag) (t u : Tree) (b : Bool) → same_tag (tag_of t) tag ≡ 
 tagged-in tag t u true s e = let same = some_is e in (same, ap tag_of (sym same) ∙ same_tag-is _ _ s)
 tagged-in tag t u false s e = absurd cc
 
-dialogue_found : (ts : List Tree) (o : Option (Tree × List Tree)) → first (tagged DIALOGUE_PORTION) ts ≡ o → (ds : List Tree) × AreDialogue ds (or_all ts o).0 × (ts ≡ ds ++ (or_all ts o).1)
+dialogue_found : (ts : List Tree) (o : Option (Tree × List Tree)) → first (tagged DIALOGUE_PORTION) ts ≡ o
+    → (ds : List Tree) × AreDialogue ds (or_all ts o).0 × (ts ≡ ds ++ (or_all ts o).1)
 dialogue_found ts None e = ([], refl, refl)
 dialogue_found ts (Some x) e =
     let (t, is, read) = first-some (tagged DIALOGUE_PORTION) ts x e in
     let (same, has) = tagged-in DIALOGUE_PORTION t x.0 (same_tag (tag_of t) DIALOGUE_PORTION) refl read in
     (x.0 ∷ [], (refl, has), is ∙ ap (λ u. u ∷ x.1) same)
 
-components_found : (ts : List Tree) (o : Option (List Tree × List Tree)) → first (children_of COMPONENT_PORTION) ts ≡ o → (cs : List Tree) × AreComponents cs (unwrap_or (or_all ts o).0 []) × (ts ≡ cs ++ (or_all ts o).1)
+components_found : (ts : List Tree) (o : Option (List Tree × List Tree)) → first (children_of COMPONENT_PORTION) ts ≡ o
+    → (cs : List Tree) × AreComponents cs (unwrap_or (or_all ts o).0 []) × (ts ≡ cs ++ (or_all ts o).1)
 components_found ts None e = ([], inl (refl, refl), refl)
 components_found ts (Some x) e =
     let (t, is, read) = first-some (children_of COMPONENT_PORTION) ts x e in
@@ -60,7 +64,14 @@ portions_found ts p e =
     let (d, dialogue, split) = dialogue_found ts (first (tagged DIALOGUE_PORTION) ts) refl in
     let (c, components, split') = components_found ds.1 (first (children_of COMPONENT_PORTION) ds.1) refl in
     let (empty, same) = no_more-some (record { dialogue = ds.0; components = unwrap_or cs.0 [] }) p cs.1 e in
-    subst (ArePortions ts) same (record { ds = d; cs = c; whole = split ∙ ap (λ r. d ++ r) (split' ∙ ap (λ r. c ++ r) empty ∙ append-nil c); dialogue = dialogue; components = components })
+    subst (ArePortions ts) same (record {
+      ds = d;
+      cs = c;
+      whole = split
+          ∙ ap (λ r. d ++ r) (split' ∙ ap (λ r. c ++ r) empty ∙ append-nil c);
+      dialogue = dialogue;
+      components = components;
+    })
 
 -- ---- any message
 
@@ -127,7 +138,8 @@ abort_found ts m e =
 
 -- one kind, or the others
 kind_found : (tag : Tag) (t : Tree) (m : TcMessage) (read : List Tree → Result TcMessage Unread) (others : Result TcMessage Unread) (o : Option (List Tree)) →
-    ((ts : List Tree) → read ts ≡ Ok m → IsMessage (element tag ts) m) → (others ≡ Ok m → IsMessage t m) → children_of tag t ≡ o → if_under o read others ≡ Ok m → IsMessage t m
+    ((ts : List Tree) → read ts ≡ Ok m → IsMessage (element tag ts) m) → (others ≡ Ok m → IsMessage t m) → children_of tag t ≡ o → if_under o read others ≡ Ok m
+    → IsMessage t m
 kind_found tag t m read others None here there e f = there f
 kind_found tag t m read others (Some ts) here there e f = subst (λ u. IsMessage u m) (sym (children_of-some tag t ts e)) (here ts f)
 
@@ -159,7 +171,8 @@ next o ts i = option_map (λ a. (a, ts)) i
 pub next_again : (o : List ℕ) (ts : List Tree) → HasIdLength o → next o ts (remote_id_of o) ≡ Some (o, ts)
 next_again o ts fits = ap (next o ts) (remote_again o fits)
 
-dialogue_again : (ds cs : List Tree) (d : Option Tree) → AreDialogue ds d → first (tagged DIALOGUE_PORTION) cs ≡ None → optional (tagged DIALOGUE_PORTION) (ds ++ cs) ≡ (d, cs)
+dialogue_again : (ds cs : List Tree) (d : Option Tree) → AreDialogue ds d → first (tagged DIALOGUE_PORTION) cs ≡ None
+    → optional (tagged DIALOGUE_PORTION) (ds ++ cs) ≡ (d, cs)
 dialogue_again ds cs None e none = ap (λ l. optional (tagged DIALOGUE_PORTION) (l ++ cs)) e ∙ ap (or_all cs) none
 dialogue_again ds cs (Some t) (e, has) none =
     ap (λ l. optional (tagged DIALOGUE_PORTION) (l ++ cs)) e
@@ -172,45 +185,58 @@ no_dialogue cs comps (inr e) = ap (first (tagged DIALOGUE_PORTION)) e
 abbrev finish : Option Tree → Option (List Tree) × List Tree → Option Portions
 finish d cs = no_more (record { dialogue = d; components = unwrap_or cs.0 [] }) cs.1
 
-components_again : (cs comps : List Tree) (d : Option Tree) → AreComponents cs comps → finish d (optional (children_of COMPONENT_PORTION) cs) ≡ Some (record { dialogue = d; components = comps })
-components_again cs comps d (inl (e, f)) = ap (λ l. finish d (optional (children_of COMPONENT_PORTION) l)) e ∙ ap (λ l. Some (record { dialogue = d; components = l })) (sym f)
+components_again : (cs comps : List Tree) (d : Option Tree) → AreComponents cs comps
+    → finish d (optional (children_of COMPONENT_PORTION) cs) ≡ Some (record { dialogue = d; components = comps })
+components_again cs comps d (inl (e, f)) = ap (λ l. finish d (optional (children_of COMPONENT_PORTION) l)) e
+    ∙ ap (λ l. Some (record { dialogue = d; components = l })) (sym f)
 components_again cs comps d (inr e) =
     ap (λ l. finish d (optional (children_of COMPONENT_PORTION) l)) e ∙ ap (λ l. Some (record { dialogue = d; components = l })) (list_of-trees comps)
 
 pub portions_again : (ts : List Tree) (p : Portions) → ArePortions ts p → portions_of ts ≡ Some p
 portions_again ts p is =
     ap portions_of is.whole
-    ∙ ap (λ d. finish d.0 (optional (children_of COMPONENT_PORTION) d.1)) (dialogue_again is.ds is.cs p.dialogue is.dialogue (no_dialogue is.cs p.components is.components))
+    ∙ ap (λ d. finish d.0 (optional (children_of COMPONENT_PORTION) d.1))
+    (dialogue_again is.ds is.cs p.dialogue is.dialogue (no_dialogue is.cs p.components is.components))
     ∙ components_again is.cs p.components p.dialogue is.components
 
 begin_again : (o : List ℕ) (ts : List Tree) (p : Portions) → HasIdLength o → ArePortions ts p → begin_of (Primitive ORIGIN o ∷ ts) ≡ Ok (Begin o p)
 unfolding begin_of
 begin_again o ts p fits is =
-    ap (λ (i : Option (List ℕ × List Tree)). ok_or i Discarded >>= λ origin. ok_or (portions_of origin.1) (Refused origin.0 INCORRECT_TRANSACTION_PORTION) >>= λ parts. Ok (Begin origin.0 parts)) (next_again o ts fits)
+    ap (λ (i : Option (List ℕ × List Tree)). ok_or i Discarded >>= λ origin. ok_or (portions_of origin.1)
+    (Refused origin.0 INCORRECT_TRANSACTION_PORTION) >>= λ parts. Ok (Begin origin.0 parts)) (next_again o ts fits)
     ∙ ap (λ q. ok_or q (Refused o INCORRECT_TRANSACTION_PORTION) >>= λ parts. Ok (Begin o parts)) (portions_again ts p is)
 
 end_again : (o : List ℕ) (ts : List Tree) (p : Portions) → HasIdLength o → ArePortions ts p → end_of (Primitive DESTINATION o ∷ ts) ≡ Ok (End o p)
 unfolding end_of
 end_again o ts p fits is =
-    ap (λ (i : Option (List ℕ × List Tree)). ok_or i Discarded >>= λ destination. ok_or (portions_of destination.1) Discarded >>= λ parts. Ok (End destination.0 parts)) (next_again o ts fits)
+    ap (λ (i : Option (List ℕ × List Tree)). ok_or i Discarded >>= λ destination. ok_or (portions_of destination.1) Discarded >>= λ parts. Ok
+    (End destination.0 parts)) (next_again o ts fits)
     ∙ ap (λ q. ok_or q Discarded >>= λ parts. Ok (End o parts)) (portions_again ts p is)
 
-continue_again : (o d : List ℕ) (ts : List Tree) (p : Portions) → HasIdLength o → HasIdLength d → ArePortions ts p → continue_of (Primitive ORIGIN o ∷ Primitive DESTINATION d ∷ ts) ≡ Ok (Continue o d p)
+continue_again : (o d : List ℕ) (ts : List Tree) (p : Portions) → HasIdLength o → HasIdLength d → ArePortions ts p
+    → continue_of (Primitive ORIGIN o ∷ Primitive DESTINATION d ∷ ts) ≡ Ok (Continue o d p)
 unfolding continue_of
 continue_again o d ts p fits fits' is =
-    ap (λ (i : Option (List ℕ × List Tree)). ok_or i Discarded >>= λ origin. ok_or (first (transaction_id_under DESTINATION) origin.1) (Refused origin.0 BADLY_FORMATTED_TRANSACTION_PORTION) >>= λ destination. ok_or (portions_of destination.1) (Refused origin.0 INCORRECT_TRANSACTION_PORTION) >>= λ parts. Ok (Continue origin.0 destination.0 parts)) (next_again o (Primitive DESTINATION d ∷ ts) fits)
-    ∙ ap (λ (i : Option (List ℕ × List Tree)). ok_or i (Refused o BADLY_FORMATTED_TRANSACTION_PORTION) >>= λ destination. ok_or (portions_of destination.1) (Refused o INCORRECT_TRANSACTION_PORTION) >>= λ parts. Ok (Continue o destination.0 parts)) (next_again d ts fits')
+    ap (λ (i : Option (List ℕ × List Tree)). ok_or i Discarded >>= λ origin. ok_or (first (transaction_id_under DESTINATION) origin.1)
+    (Refused origin.0 BADLY_FORMATTED_TRANSACTION_PORTION) >>= λ destination. ok_or (portions_of destination.1)
+    (Refused origin.0 INCORRECT_TRANSACTION_PORTION) >>= λ parts. Ok (Continue origin.0 destination.0 parts))
+    (next_again o (Primitive DESTINATION d ∷ ts) fits)
+    ∙ ap (λ (i : Option (List ℕ × List Tree)). ok_or i (Refused o BADLY_FORMATTED_TRANSACTION_PORTION) >>= λ destination. ok_or (portions_of destination.1)
+    (Refused o INCORRECT_TRANSACTION_PORTION) >>= λ parts. Ok (Continue o destination.0 parts)) (next_again d ts fits')
     ∙ ap (λ q. ok_or q (Refused o INCORRECT_TRANSACTION_PORTION) >>= λ parts. Ok (Continue o d parts)) (portions_again ts p is)
 
 reason_again : (ts : List Tree) → AreReason ts → may_end_abort ts ≡ true
 reason_again ts (inl e) = ap may_end_abort e
-reason_again ts (inr (t, e, inl has)) = ap may_end_abort e ∙ ap (λ g. is_some (cond (same_tag g ABORT_CAUSE) (Some t) None) || is_some (cond (same_tag g DIALOGUE_PORTION) (Some t) None)) has
-reason_again ts (inr (t, e, inr has)) = ap may_end_abort e ∙ ap (λ g. is_some (cond (same_tag g ABORT_CAUSE) (Some t) None) || is_some (cond (same_tag g DIALOGUE_PORTION) (Some t) None)) has
+reason_again ts (inr (t, e, inl has)) = ap may_end_abort e ∙ ap (λ g. is_some (cond (same_tag g ABORT_CAUSE) (Some t) None) || is_some
+    (cond (same_tag g DIALOGUE_PORTION) (Some t) None)) has
+reason_again ts (inr (t, e, inr has)) = ap may_end_abort e ∙ ap (λ g. is_some (cond (same_tag g ABORT_CAUSE) (Some t) None) || is_some
+    (cond (same_tag g DIALOGUE_PORTION) (Some t) None)) has
 
 abort_again : (o : List ℕ) (ts : List Tree) → HasIdLength o → AreReason ts → abort_of (Primitive DESTINATION o ∷ ts) ≡ Ok (Abort o)
 unfolding abort_of
 abort_again o ts fits is =
-    ap (λ (i : Option (List ℕ × List Tree)). ok_or i Discarded >>= λ destination. cond (may_end_abort destination.1) (Ok (Abort destination.0)) (Err Discarded)) (next_again o ts fits)
+    ap (λ (i : Option (List ℕ × List Tree)). ok_or i Discarded >>= λ destination. cond (may_end_abort destination.1) (Ok (Abort destination.0)) (Err Discarded))
+    (next_again o ts fits)
     ∙ ap (λ b. cond b (Ok (Abort o)) (Err Discarded)) (reason_again ts is)
 
 begin_tree : (ts : List Tree) → message_of (element BEGIN ts) ≡ begin_of ts

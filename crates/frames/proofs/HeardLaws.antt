@@ -6,8 +6,8 @@ use Rattle.machine.specs.Received.{ComponentOf, Component, Invoke, ResultLast, R
 use Rattle.frames.specs.Components.{component_of}
 use Rattle.frames.specs.ComponentForms.{IsComponent}
 use Rattle.frames.specs.Heard.{heard, heard_of, all_heard, IsHeard, AreHeard}
-use Rattle.frames_laws.proofs.ComponentLaws.{component_found, component_again}
-use Rattle.frames_laws.proofs.ArgumentLaws.{parameter_found, parameter_again}
+use Rattle.frames.proofs.ComponentLaws.{component_found, component_again}
+use Rattle.frames.proofs.ArgumentLaws.{parameter_found, parameter_again}
 
 heard_is : (t : Tree) (c : ComponentOf Tree) → IsComponent t c → IsHeard t (heard c)
 heard_is t (Invoke id linked code None) h = h
@@ -24,7 +24,8 @@ heard_found t = heard_is t (component_of t) (component_found t)
 
 pub heard_again : (t : Tree) (c : Component) → IsHeard t c → heard_of t ≡ c
 heard_again t (Invoke id linked code None) h = ap heard (component_again t (Invoke id linked code None) h)
-heard_again t (Invoke id linked code (Some parameter)) (p, is, reads) = ap heard (component_again t (Invoke id linked code (Some p)) is) ∙ ap (λ q. Invoke id linked code (Some q)) (parameter_again code p parameter reads)
+heard_again t (Invoke id linked code (Some parameter)) (p, is, reads) = ap heard (component_again t (Invoke id linked code (Some p)) is)
+    ∙ ap (λ q. Invoke id linked code (Some q)) (parameter_again code p parameter reads)
 heard_again t (ResultLast id) h = ap heard (component_again t (ResultLast id) h)
 heard_again t (ResultNotLast id) h = ap heard (component_again t (ResultNotLast id) h)
 heard_again t (ReturnError id code) h = ap heard (component_again t (ReturnError id code) h)

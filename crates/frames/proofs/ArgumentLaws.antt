@@ -12,7 +12,7 @@ use Rattle.hlr_types.specs.Identities.{imsi_of, address_of, lmsi_of, IsImsi, IsA
 use Rattle.hlr_types.proofs.IdentityLaws.{imsi_found, imsi_again, address_found, address_again, lmsi_found, lmsi_again}
 use Rattle.machine.specs.Received.{Register, Argument, BadValue, Update, Purge, Route, Parameter, Mistyped, Typed, Code, Number, Other}
 use Rattle.frames.specs.declared.tags.TheConstants.{SEQUENCE, OCTET_STRING, UPDATE_MSC_NUMBER, UPDATE_LMSI, PURGE_ARGUMENT, PURGE_VLR_NUMBER, PURGE_SGSN_NUMBER, ROUTE_MSISDN, SM_RP_PRI, SERVICE_CENTRE}
-use Rattle.frames.specs.declared.numbers.TheConstants.{UPDATE_LOCATION, PURGE_MS, SEND_ROUTING_INFO_FOR_SM}
+use Rattle.machine.specs.declared.numbers.TheConstants.{UPDATE_LOCATION, PURGE_MS, SEND_ROUTING_INFO_FOR_SM}
 use Rattle.frames.specs.Choices.{◌>>=◌}
 use Rattle.frames.specs.Arguments.{UpdateContents, PurgeContents, update_typed, purge_typed, route_typed, update_value, purge_value, route_value, if_there, in_value, update_of, purge_of, route_of, parameter_of}
 use Rattle.frames.specs.ArgumentForms.{optional_element, BeginsWith, HasUpdate, HasPurge, HasRoute, IsTyped, AreIfThere, Arg, IsParameter}
@@ -62,21 +62,25 @@ update_typed_found t c e =
     let got : HasUpdate t (record { imsi = imsi.0; msc = msc.0; vlr = vlr.0; lmsi = lmsi.0 }) =
     record {
       further = lmsi.1;
-      spelled = s0 ∙ ap (element SEQUENCE) (s1 ∙ ap (λ x. Primitive OCTET_STRING imsi.0 ∷ x) (s2 ∙ ap (λ x. Primitive UPDATE_MSC_NUMBER msc.0 ∷ x) (s3 ∙ ap (λ x. Primitive OCTET_STRING vlr.0 ∷ x) s4)));
+      spelled = s0 ∙ ap (element SEQUENCE) (s1 ∙ ap (λ x. Primitive OCTET_STRING imsi.0 ∷ x)
+          (s2 ∙ ap (λ x. Primitive UPDATE_MSC_NUMBER msc.0 ∷ x) (s3 ∙ ap (λ x. Primitive OCTET_STRING vlr.0 ∷ x) s4)));
       no_lmsi = other;
     }
     in
     let same : record { imsi = imsi.0; msc = msc.0; vlr = vlr.0; lmsi = lmsi.0 } ≡ c = some_is e4 in
     subst (HasUpdate t) same got
 
-optional_back : (tag : Tag) (o : Option (List ℕ)) (further : List Tree) → (o ≡ None → BeginsWith tag further → ⊥) → (optional (octets_of tag) (optional_element tag o ++ further)).0 ≡ o
+optional_back : (tag : Tag) (o : Option (List ℕ)) (further : List Tree) → (o ≡ None → BeginsWith tag further → ⊥)
+    → (optional (octets_of tag) (optional_element tag o ++ further)).0 ≡ o
 optional_back tag None further h = ap (λ x. (or_all further x).0) (first_none tag further (h refl))
-optional_back tag (Some octets) further h = ap (λ (i : Option (List ℕ)). (or_all (Primitive tag octets ∷ further) (option_map (λ a. (a, further)) i)).0) (octets_of-Primitive tag octets)
+optional_back tag (Some octets) further h = ap (λ (i : Option (List ℕ)). (or_all (Primitive tag octets ∷ further) (option_map (λ a. (a, further)) i)).0)
+    (octets_of-Primitive tag octets)
 
 pub update_typed_again : (t : Tree) (c : UpdateContents) → HasUpdate t c → update_typed t ≡ Some c
 unfolding update_typed
 update_typed_again t c is =
-    let inner = Primitive OCTET_STRING c.imsi ∷ Primitive UPDATE_MSC_NUMBER c.msc ∷ Primitive OCTET_STRING c.vlr ∷ optional_element UPDATE_LMSI c.lmsi ++ is.further in
+    let inner = Primitive OCTET_STRING c.imsi ∷ Primitive UPDATE_MSC_NUMBER c.msc ∷ Primitive OCTET_STRING c.vlr ∷ optional_element UPDATE_LMSI c.lmsi
+    ++ is.further in
     ap update_typed is.spelled ∙ ap (λ ts. option_and_then update_rest (Some ts)) (list_of-trees inner)
     ∙ ap (λ l. Some (record { imsi = c.imsi; msc = c.msc; vlr = c.vlr; lmsi = l })) (optional_back UPDATE_LMSI c.lmsi is.further is.no_lmsi)
 
@@ -132,7 +136,13 @@ route_typed_found t m e =
     let (u, s2, read) = first-some (octet_of SM_RP_PRI) msisdn.1 priority is_priority in
     let s3 = first_octets _ _ _ is_centre in
     let s2' = s2 ∙ ap (λ (v : Tree). v ∷ priority.1) (octet_of-some SM_RP_PRI u priority.0 read) in
-    let got : HasRoute t msisdn.0 = record { priority = priority.0; centre = centre.0; further = centre.1; spelled = s0 ∙ ap (element SEQUENCE) (s1 ∙ ap (λ x. Primitive ROUTE_MSISDN msisdn.0 ∷ x) (s2' ∙ ap (λ x. Primitive SM_RP_PRI (priority.0 ∷ []) ∷ x) s3)) } in
+    let got : HasRoute t msisdn.0 = record {
+      priority = priority.0;
+      centre = centre.0;
+      further = centre.1;
+      spelled = s0
+          ∙ ap (element SEQUENCE) (s1 ∙ ap (λ x. Primitive ROUTE_MSISDN msisdn.0 ∷ x) (s2' ∙ ap (λ x. Primitive SM_RP_PRI (priority.0 ∷ []) ∷ x) s3));
+    } in
     let same : msisdn.0 ≡ m = some_is e4 in
     subst (HasRoute t) same got
 
@@ -144,16 +154,19 @@ route_typed_again t m is =
 
 -- ---- values
 
-there_again : (P : List ℕ → List ℕ → Type 0) (read : List ℕ → Option (List ℕ)) → ((octets v : List ℕ) → P octets v → read octets ≡ Some v) → (o v : Option (List ℕ)) → AreIfThere P o v → if_there read o ≡ Some v
+there_again : (P : List ℕ → List ℕ → Type 0) (read : List ℕ → Option (List ℕ)) → ((octets v : List ℕ) → P octets v → read octets ≡ Some v)
+    → (o v : Option (List ℕ)) → AreIfThere P o v → if_there read o ≡ Some v
 there_again P read again None None h = refl
 there_again P read again None (Some v) h = absurd h
 there_again P read again (Some octets) None h = absurd h
 there_again P read again (Some octets) (Some v) h = ap (option_map Some) (again octets v h)
 
-there_found : (P : List ℕ → List ℕ → Type 0) (read : List ℕ → Option (List ℕ)) → ((octets v : List ℕ) → read octets ≡ Some v → P octets v) → (o v : Option (List ℕ)) → if_there read o ≡ Some v → AreIfThere P o v
+there_found : (P : List ℕ → List ℕ → Type 0) (read : List ℕ → Option (List ℕ)) → ((octets v : List ℕ) → read octets ≡ Some v → P octets v)
+    → (o v : Option (List ℕ)) → if_there read o ≡ Some v → AreIfThere P o v
 there_found P read found None None e = tt
 there_found P read found None (Some v) e = absurd cc
-there_found P read found (Some octets) v e = let (x, got, same) = map_some (read octets) Some v e in subst (AreIfThere P (Some octets)) same (found octets x got)
+there_found P read found (Some octets) v e = let (x, got, same) = map_some (read octets) Some v e in subst (AreIfThere P (Some octets)) same
+    (found octets x got)
 
 -- the value of contents of this type, as the form says it
 abbrev IsUpdateValue : UpdateContents → List ℕ → Register → Type 0
@@ -165,22 +178,29 @@ update_value_again c imsi r (i, m, v, l) =
     let e = there_again IsLmsi lmsi_of lmsi_again c.lmsi r.lmsi l in
     rw (imsi_again _ _ i, address_again _ _ m, address_again _ _ v, e) refl
 
-update_value_found : (c : UpdateContents) (a : Argument) → update_value c ≡ Some a → (imsi : List ℕ) × (r : Register) × IsUpdateValue c imsi r × (Update imsi r ≡ a)
+update_value_found : (c : UpdateContents) (a : Argument) → update_value c ≡ Some a → (imsi : List ℕ) ×
+    (r : Register) × IsUpdateValue c imsi r × (Update imsi r ≡ a)
 unfolding update_value
 update_value_found c a e =
     let (imsi, is_imsi, e1) = bind_some (imsi_of c.imsi) _ a e in
     let (msc, is_msc, e2) = bind_some (address_of c.msc) _ a e1 in
     let (vlr, is_vlr, e3) = bind_some (address_of c.vlr) _ a e2 in
-    let (lmsi, is_lmsi, e4) = bind_some (if_there lmsi_of c.lmsi) _ a e3 in
-    (imsi, record { vlr = vlr; msc = msc; lmsi = lmsi }, (imsi_found _ _ is_imsi, address_found _ _ is_msc, address_found _ _ is_vlr, there_found IsLmsi lmsi_of lmsi_found c.lmsi lmsi is_lmsi), some_is e4)
+    let (lmsi, is_lmsi, e4) = bind_some (if_there lmsi_of c.lmsi) _ a e3 in (
+      imsi,
+      record { vlr = vlr; msc = msc; lmsi = lmsi },
+      (imsi_found _ _ is_imsi, address_found _ _ is_msc, address_found _ _ is_vlr, there_found IsLmsi lmsi_of lmsi_found c.lmsi lmsi is_lmsi),
+      some_is e4,
+    )
 
-purge_value_again : (c : PurgeContents) (imsi : List ℕ) (vlr : Option (List ℕ)) → IsImsi c.imsi imsi → AreIfThere IsAddress c.vlr vlr → purge_value c ≡ Some (Purge imsi vlr)
+purge_value_again : (c : PurgeContents) (imsi : List ℕ) (vlr : Option (List ℕ)) → IsImsi c.imsi imsi → AreIfThere IsAddress c.vlr vlr
+    → purge_value c ≡ Some (Purge imsi vlr)
 unfolding purge_value
 purge_value_again c imsi vlr i v =
     let e = there_again IsAddress address_of address_again c.vlr vlr v in
     rw (imsi_again _ _ i, e) refl
 
-purge_value_found : (c : PurgeContents) (a : Argument) → purge_value c ≡ Some a → (imsi : List ℕ) × (vlr : Option (List ℕ)) × IsImsi c.imsi imsi × AreIfThere IsAddress c.vlr vlr × (Purge imsi vlr ≡ a)
+purge_value_found : (c : PurgeContents) (a : Argument) → purge_value c ≡ Some a → (imsi : List ℕ) ×
+    (vlr : Option (List ℕ)) × IsImsi c.imsi imsi × AreIfThere IsAddress c.vlr vlr × (Purge imsi vlr ≡ a)
 unfolding purge_value
 purge_value_found c a e =
     let (imsi, is_imsi, e1) = bind_some (imsi_of c.imsi) _ a e in
@@ -212,10 +232,12 @@ is_argument operation t (Purge imsi vlr) h = h
 is_argument operation t (Route msisdn) h = h
 is_argument operation t BadValue h = absurd h
 
-value_of_some : {C : Type 0} (value : C → Option Argument) (contents : Option C) (c : C) (a : Argument) → contents ≡ Some c → value c ≡ Some a → in_value value contents ≡ Typed a
+value_of_some : {C : Type 0} (value : C → Option Argument) (contents : Option C) (c : C) (a : Argument) → contents ≡ Some c → value c ≡ Some a
+    → in_value value contents ≡ Typed a
 value_of_some value contents c a e f = ap (in_value value) e ∙ ap (λ o. Typed (unwrap_or o BadValue)) f
 
-tied_found : (operation : ℕ) (t : Tree) (C : Type 0) (contents : Option C) (value : C → Option Argument) → Tied operation t C contents value → IsParameter (Number operation) t (in_value value contents)
+tied_found : (operation : ℕ) (t : Tree) (C : Type 0) (contents : Option C) (value : C → Option Argument) → Tied operation t C contents value
+    → IsParameter (Number operation) t (in_value value contents)
 tied_found operation t C contents value tied = go contents refl
   where
     -- contents of this type, and their value
@@ -247,7 +269,8 @@ tied_again operation t C contents value tied (Typed BadValue) (typed, no_value) 
     go : (c : C) → contents ≡ Some c → (o : Option Argument) → value c ≡ o → Typed (unwrap_or o BadValue) ≡ Typed BadValue
     go c e None f = refl
     go c e (Some a) f = absurd (no_value a (tied.made c a e f))
-tied_again operation t C contents value tied (Typed (Update imsi register)) h = let (c, e, f) = tied.back (Update imsi register) h in value_of_some value contents c _ e f
+tied_again operation t C contents value tied (Typed (Update imsi register)) h = let (c, e, f) = tied.back
+    (Update imsi register) h in value_of_some value contents c _ e f
 tied_again operation t C contents value tied (Typed (Purge imsi vlr)) h = let (c, e, f) = tied.back (Purge imsi vlr) h in value_of_some value contents c _ e f
 tied_again operation t C contents value tied (Typed (Route msisdn)) h = let (c, e, f) = tied.back (Route msisdn) h in value_of_some value contents c _ e f
 
@@ -268,7 +291,8 @@ update_tied t = record {
     typed_is (inr (inr h)) = absurd (different UPDATE_LOCATION SEND_ROUTING_INFO_FOR_SM refl h.0)
 
     made : (c : UpdateContents) (a : Argument) → update_typed t ≡ Some c → update_value c ≡ Some a → Arg UPDATE_LOCATION t a
-    made c a e f = let (imsi, r, (i, m, v, l), same) = update_value_found c a f in subst (Arg UPDATE_LOCATION t) same (refl, c, update_typed_found t c e, i, m, v, l)
+    made c a e f = let (imsi, r, (i, m, v, l), same) = update_value_found c a f in subst (Arg UPDATE_LOCATION t) same
+        (refl, c, update_typed_found t c e, i, m, v, l)
 
     back : (a : Argument) → Arg UPDATE_LOCATION t a → (c : UpdateContents) × (update_typed t ≡ Some c) × (update_value c ≡ Some a)
     back (Update imsi r) (e, c, has, i, m, v, l) = (c, update_typed_again t c has, update_value_again c imsi r (i, m, v, l))
@@ -324,12 +348,14 @@ route_tied t = record {
 abbrev no_value : List ℕ → Option Argument
 no_value octets = None
 
-not_typed : (operation : ℕ) (t : Tree) → (operation ≡ UPDATE_LOCATION → ⊥) → (operation ≡ PURGE_MS → ⊥) → (operation ≡ SEND_ROUTING_INFO_FOR_SM → ⊥) → IsTyped operation t → ⊥
+not_typed : (operation : ℕ) (t : Tree) → (operation ≡ UPDATE_LOCATION → ⊥) → (operation ≡ PURGE_MS → ⊥) → (operation ≡ SEND_ROUTING_INFO_FOR_SM → ⊥)
+    → IsTyped operation t → ⊥
 not_typed operation t u p r (inl h) = u h.0
 not_typed operation t u p r (inr (inl h)) = p h.0
 not_typed operation t u p r (inr (inr h)) = r h.0
 
-other_tied : (operation : ℕ) (t : Tree) → (operation ≡ UPDATE_LOCATION → ⊥) → (operation ≡ PURGE_MS → ⊥) → (operation ≡ SEND_ROUTING_INFO_FOR_SM → ⊥) → Tied operation t (List ℕ) None no_value
+other_tied : (operation : ℕ) (t : Tree) → (operation ≡ UPDATE_LOCATION → ⊥) → (operation ≡ PURGE_MS → ⊥) → (operation ≡ SEND_ROUTING_INFO_FOR_SM → ⊥)
+    → Tied operation t (List ℕ) None no_value
 other_tied operation t u p r = record {
   is_typed = λ c e. absurd cc;
   typed_is = λ typed. absurd (not_typed operation t u p r typed);
@@ -365,7 +391,8 @@ route_again t p h = tied_again SEND_ROUTING_INFO_FOR_SM t (List ℕ) (route_type
 abbrev by_tests : Tree → (update purge route : Bool) → Parameter
 by_tests t a b c = cond a (update_of t) (cond b (purge_of t) (cond c (route_of t) Mistyped))
 
-parameter_tests : (operation : ℕ) (t : Tree) → parameter_of (Number operation) t ≡ by_tests t (eqb operation UPDATE_LOCATION) (eqb operation PURGE_MS) (eqb operation SEND_ROUTING_INFO_FOR_SM)
+parameter_tests : (operation : ℕ) (t : Tree) → parameter_of (Number operation) t
+    ≡ by_tests t (eqb operation UPDATE_LOCATION) (eqb operation PURGE_MS) (eqb operation SEND_ROUTING_INFO_FOR_SM)
 unfolding parameter_of
 parameter_tests operation t = refl
 
@@ -375,17 +402,21 @@ IsTied operation t q = IsParameter (Number operation) t q × ((p : Parameter) �
 abbrev IsTiedAt : Tree → Parameter → ℕ → Type 0
 IsTiedAt t q operation = IsTied operation t q
 
-in_tests : (operation : ℕ) (t : Tree) (a b c : Bool) → eqb operation UPDATE_LOCATION ≡ a → eqb operation PURGE_MS ≡ b → eqb operation SEND_ROUTING_INFO_FOR_SM ≡ c → IsTied operation t (by_tests t a b c)
+in_tests : (operation : ℕ) (t : Tree) (a b c : Bool) → eqb operation UPDATE_LOCATION ≡ a → eqb operation PURGE_MS ≡ b
+    → eqb operation SEND_ROUTING_INFO_FOR_SM ≡ c → IsTied operation t (by_tests t a b c)
 in_tests operation t true b c ea eb ec = subst (IsTiedAt t (update_of t)) (sym (eqb-true operation UPDATE_LOCATION ea)) (update_found t, update_again t)
 in_tests operation t false true c ea eb ec = subst (IsTiedAt t (purge_of t)) (sym (eqb-true operation PURGE_MS eb)) (purge_found t, purge_again t)
-in_tests operation t false false true ea eb ec = subst (IsTiedAt t (route_of t)) (sym (eqb-true operation SEND_ROUTING_INFO_FOR_SM ec)) (route_found t, route_again t)
+in_tests operation t false false true ea eb ec = subst (IsTiedAt t (route_of t)) (sym (eqb-true operation SEND_ROUTING_INFO_FOR_SM ec))
+    (route_found t, route_again t)
 in_tests operation t false false false ea eb ec =
-    let tied = other_tied operation t (different operation UPDATE_LOCATION ea) (different operation PURGE_MS eb) (different operation SEND_ROUTING_INFO_FOR_SM ec) in
+    let tied = other_tied operation t (different operation UPDATE_LOCATION ea) (different operation PURGE_MS eb)
+    (different operation SEND_ROUTING_INFO_FOR_SM ec) in
     (tied_found operation t (List ℕ) None no_value tied, tied_again operation t (List ℕ) None no_value tied)
 
 number_tied : (operation : ℕ) (t : Tree) → IsTied operation t (parameter_of (Number operation) t)
 number_tied operation t =
-    subst (IsTied operation t) (sym (parameter_tests operation t)) (in_tests operation t (eqb operation UPDATE_LOCATION) (eqb operation PURGE_MS) (eqb operation SEND_ROUTING_INFO_FOR_SM) refl refl refl)
+    subst (IsTied operation t) (sym (parameter_tests operation t))
+    (in_tests operation t (eqb operation UPDATE_LOCATION) (eqb operation PURGE_MS) (eqb operation SEND_ROUTING_INFO_FOR_SM) refl refl refl)
 
 pub parameter_found : (code : Code) (t : Tree) → IsParameter code t (parameter_of code t)
 unfolding parameter_of

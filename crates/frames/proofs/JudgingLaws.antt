@@ -7,16 +7,17 @@ use Rattle.x690.specs.Reading.{tag_of}
 use Rattle.x690.proofs.Spellings.{Spells-unique}
 use Rattle.machine.specs.Received.{Message, Verdict, Read}
 use Rattle.frames.specs.declared.tags.TheConstants.{BEGIN, CONTINUE, DESTINATION}
-use Rattle.frames.specs.declared.numbers.TheConstants.{MAX_COMPONENTS, INCORRECT_TRANSACTION_PORTION, RESOURCE_LIMITATION}
+use Rattle.machine.specs.declared.numbers.TheConstants.{MAX_COMPONENTS, RESOURCE_LIMITATION}
+use Rattle.frames.specs.declared.numbers.TheConstants.{INCORRECT_TRANSACTION_PORTION}
 use Rattle.frames.specs.Messages as tc
 use Rattle.frames.specs.Messages.{TcMessage, Unread, Discarded, Refused, message_of, components_in}
 use Rattle.frames.specs.MessageForms.{IsMessage}
 use Rattle.frames.specs.Points.{Point, HasUnreadablePortion, HasTooManyComponents, Fits, message_points, points, IsAnswer, IsSaidFirst}
 use Rattle.frames.specs.Verdicts.{read_in, refusal, checked, verdict_on, verdict_in, verdict_of}
 use Rattle.frames.specs.Frames.{Reads, IsJudged, IsVerdict}
-use Rattle.frames_laws.proofs.MessageLaws.{message_found}
-use Rattle.frames_laws.proofs.ReadLaws.{reads_found, one_tc, one_message, unreadable, readable}
-use Rattle.frames_laws.proofs.PointLaws.{one_said, said_or_none, said_more, said_later, none_more, message_passes, message_or_not_found, may_be, children_are}
+use Rattle.frames.proofs.MessageLaws.{message_found}
+use Rattle.frames.proofs.ReadLaws.{reads_found, one_tc, one_message, unreadable, readable}
+use Rattle.frames.proofs.PointLaws.{one_said, said_or_none, said_more, said_later, none_more, message_passes, message_or_not_found, may_be, children_are}
 
 -- ---- one
 
@@ -49,7 +50,8 @@ answered t (tc.Abort d) cause (ts, are, fits, e) = (Discarded, inr ((λ o may. m
 abbrev portion_points : List Point
 portion_points = HasUnreadablePortion ∷ HasTooManyComponents ∷ []
 
-judged_later : (t : Tree) (m : TcMessage) (cause : ℕ) → IsMessage t m → ((u : Unread) → IsAnswer t (Some cause) u → IsSaidFirst portion_points t u) → IsJudged t (refusal m cause)
+judged_later : (t : Tree) (m : TcMessage) (cause : ℕ) → IsMessage t m → ((u : Unread) → IsAnswer t (Some cause) u → IsSaidFirst portion_points t u)
+    → IsJudged t (refusal m cause)
 judged_later t m cause is says =
     let (u, answer, same) = answered t m cause is in
     inl (u, said_later message_points portion_points t u (message_passes t m is) (says u answer), sym same)
@@ -71,7 +73,8 @@ judged_read : (t : Tree) (m : TcMessage) (r : Message) → IsMessage t m → Rea
 judged_read t m r is reads few =
     inr (none_more message_points portion_points t (message_passes t m is) (readable_portion t r reads, (few_components t m is few, tt)), (r, reads, refl))
 
-judged_many : (t : Tree) (m : TcMessage) (r : Message) → IsMessage t m → Reads t r → MAX_COMPONENTS < length (components_in m) → IsJudged t (refusal m RESOURCE_LIMITATION)
+judged_many : (t : Tree) (m : TcMessage) (r : Message) → IsMessage t m → Reads t r → MAX_COMPONENTS < length (components_in m)
+    → IsJudged t (refusal m RESOURCE_LIMITATION)
 judged_many t m r is reads many = judged_later t m RESOURCE_LIMITATION is (λ u answer. inr (readable_portion t r reads, inl ((m, is, many), answer)))
 
 judged_checked : (t : Tree) (m : TcMessage) → IsMessage t m → (o : Option Message) → read_in m ≡ o → IsJudged t (checked m o)
@@ -81,7 +84,9 @@ judged_checked t m is (Some r) e = go (leb (length (components_in m)) MAX_COMPON
     reads : Reads t r
     reads = reads_found t m r is e
 
-    go : (b : Bool) → leb (length (components_in m)) MAX_COMPONENTS ≡ b → (MAX_COMPONENTS < length (components_in m)) ⊎ (length (components_in m) ≤ MAX_COMPONENTS) → IsJudged t (cond b (Read r) (refusal m RESOURCE_LIMITATION))
+    go : (b : Bool) → leb (length (components_in m)) MAX_COMPONENTS ≡ b
+        → (MAX_COMPONENTS < length (components_in m)) ⊎ (length (components_in m) ≤ MAX_COMPONENTS)
+        → IsJudged t (cond b (Read r) (refusal m RESOURCE_LIMITATION))
     go true f c = judged_read t m r is reads (leb-true _ _ f)
     go false f (inl many) = judged_many t m r is reads many
     go false f (inr few) = let g : leb (length (components_in m)) MAX_COMPONENTS ≡ true = le-leb _ _ few in absurd cc

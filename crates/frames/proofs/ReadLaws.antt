@@ -5,7 +5,7 @@ use Rattle.x690.specs.Tree.{Tree}
 use Rattle.x690.proofs.Readings.{bind_some, map_some, some_is, none_not}
 use Rattle.machine.specs.Received.{Response, Apdu, Aarq, Aare, Abrt, Message, Begin, Continue, End, Abort}
 use Rattle.frames.specs.Messages as tc
-use Rattle.frames.specs.Messages.{Portions, TcMessage, Unread, message_of, dialogue_in, components_in}
+use Rattle.frames.specs.Messages.{TcMessage, Unread, dialogue_in}
 use Rattle.frames.specs.MessageForms.{IsMessage}
 use Rattle.frames.specs.Dialogues.{dialogue_of}
 use Rattle.frames.specs.DialogueForms.{IsDialogue}
@@ -13,9 +13,9 @@ use Rattle.frames.specs.Heard.{all_heard}
 use Rattle.frames.specs.Points.{IsWanted}
 use Rattle.frames.specs.Verdicts.{request_in, response_in, portion_of, read_in}
 use Rattle.frames.specs.Frames.{IsPortion, Reads}
-use Rattle.frames_laws.proofs.MessageLaws.{message_again}
-use Rattle.frames_laws.proofs.DialogueLaws.{dialogue_found, dialogue_again}
-use Rattle.frames_laws.proofs.HeardLaws.{all_found, all_again}
+use Rattle.frames.proofs.MessageLaws.{message_again}
+use Rattle.frames.proofs.DialogueLaws.{dialogue_found, dialogue_again}
+use Rattle.frames.proofs.HeardLaws.{all_found, all_again}
 
 -- ---- portions
 
@@ -32,7 +32,8 @@ response_finds (Aarq context) a e = absurd cc
 response_finds (Aare response) a e = ap (λ r. Aare r) (some_is e)
 response_finds (Abrt source) a e = absurd cc
 
-portion_found : (A : Type 0) (wanted : Apdu → Option A) (apdu : A → Apdu) → Finds A wanted apdu → (d : Option Tree) (a : Option A) → portion_of wanted d ≡ Some a → IsPortion apdu d a
+portion_found : (A : Type 0) (wanted : Apdu → Option A) (apdu : A → Apdu) → Finds A wanted apdu → (d : Option Tree) (a : Option A)
+    → portion_of wanted d ≡ Some a → IsPortion apdu d a
 portion_found A wanted apdu finds None None e = tt
 portion_found A wanted apdu finds None (Some a) e = absurd cc
 portion_found A wanted apdu finds (Some t) None e = let (x, is, same) = map_some (option_and_then wanted (dialogue_of t)) Some None e in absurd cc
@@ -41,7 +42,8 @@ portion_found A wanted apdu finds (Some t) (Some a) e =
     let (held, is_held, gives) = bind_some (dialogue_of t) wanted x is in
     dialogue_found t (apdu a) (is_held ∙ ap Some (finds held x gives ∙ ap apdu (some_is same)))
 
-portion_again : (A : Type 0) (wanted : Apdu → Option A) (apdu : A → Apdu) → ((a : A) → wanted (apdu a) ≡ Some a) → (d : Option Tree) (a : Option A) → IsPortion apdu d a → portion_of wanted d ≡ Some a
+portion_again : (A : Type 0) (wanted : Apdu → Option A) (apdu : A → Apdu) → ((a : A) → wanted (apdu a) ≡ Some a) → (d : Option Tree) (a : Option A)
+    → IsPortion apdu d a → portion_of wanted d ≡ Some a
 portion_again A wanted apdu gives None None h = refl
 portion_again A wanted apdu gives None (Some a) h = absurd h
 portion_again A wanted apdu gives (Some t) None h = absurd h
@@ -72,7 +74,8 @@ reads_again t (Begin origin context components) (p, is, holds, are) = (
 reads_again t (Continue origin destination response components) (p, is, holds, are) = (
   tc.Continue origin destination p,
   is,
-  ap (option_map (λ c. Continue origin destination c (all_heard p.components))) (portion_again Response response_in (λ r. Aare r) (λ a. refl) p.dialogue response holds)
+  ap (option_map (λ c. Continue origin destination c (all_heard p.components)))
+      (portion_again Response response_in (λ r. Aare r) (λ a. refl) p.dialogue response holds)
       ∙ ap (λ cs. Some (Continue origin destination response cs)) (all_again p.components components are),
 )
 reads_again t (End destination response components) (p, is, holds, are) = (
@@ -103,23 +106,27 @@ one_message t r s h k =
 wanted_read : (m : TcMessage) (portion : Tree) (apdu : Apdu) → dialogue_in m ≡ Some portion → IsWanted m apdu → IsDialogue portion apdu → read_in m ≡ None → ⊥
 wanted_read (tc.Begin origin p) portion (Aarq context) e w is f =
     let g = portion_again (List ℕ) request_in (λ name. Aarq name) (λ a. refl) (Some portion) (Some context) is in
-    none_not f (ap (λ d. option_map (λ c. Begin origin c (all_heard p.components)) (portion_of request_in d)) e ∙ ap (option_map (λ c. Begin origin c (all_heard p.components))) g)
+    none_not f (ap (λ d. option_map (λ c. Begin origin c (all_heard p.components)) (portion_of request_in d)) e
+    ∙ ap (option_map (λ c. Begin origin c (all_heard p.components))) g)
 wanted_read (tc.Begin origin p) portion (Aare response) e w is f = absurd w
 wanted_read (tc.Begin origin p) portion (Abrt source) e w is f = absurd w
 wanted_read (tc.Continue origin destination p) portion (Aarq context) e w is f = absurd w
 wanted_read (tc.Continue origin destination p) portion (Aare response) e w is f =
     let g = portion_again Response response_in (λ r. Aare r) (λ a. refl) (Some portion) (Some response) is in
-    none_not f (ap (λ d. option_map (λ c. Continue origin destination c (all_heard p.components)) (portion_of response_in d)) e ∙ ap (option_map (λ c. Continue origin destination c (all_heard p.components))) g)
+    none_not f (ap (λ d. option_map (λ c. Continue origin destination c (all_heard p.components)) (portion_of response_in d)) e
+    ∙ ap (option_map (λ c. Continue origin destination c (all_heard p.components))) g)
 wanted_read (tc.Continue origin destination p) portion (Abrt source) e w is f = absurd w
 wanted_read (tc.End destination p) portion (Aarq context) e w is f = absurd w
 wanted_read (tc.End destination p) portion (Aare response) e w is f =
     let g = portion_again Response response_in (λ r. Aare r) (λ a. refl) (Some portion) (Some response) is in
-    none_not f (ap (λ d. option_map (λ c. End destination c (all_heard p.components)) (portion_of response_in d)) e ∙ ap (option_map (λ c. End destination c (all_heard p.components))) g)
+    none_not f (ap (λ d. option_map (λ c. End destination c (all_heard p.components)) (portion_of response_in d)) e
+    ∙ ap (option_map (λ c. End destination c (all_heard p.components))) g)
 wanted_read (tc.End destination p) portion (Abrt source) e w is f = absurd w
 wanted_read (tc.Abort destination) portion apdu e w is f = absurd cc
 
 -- a message that is not read has a portion
-portion_there : {A : Type 0} (wanted : Apdu → Option A) (make : Option A → Message) (d : Option Tree) → option_map make (portion_of wanted d) ≡ None → (portion : Tree) × (d ≡ Some portion)
+portion_there : {A : Type 0} (wanted : Apdu → Option A) (make : Option A → Message) (d : Option Tree) → option_map make (portion_of wanted d) ≡ None
+    → (portion : Tree) × (d ≡ Some portion)
 portion_there wanted make None e = absurd cc
 portion_there wanted make (Some t) e = (t, refl)
 
@@ -129,16 +136,19 @@ has_portion (tc.Continue origin destination p) e = portion_there response_in (λ
 has_portion (tc.End destination p) e = portion_there response_in (λ c. End destination c (all_heard p.components)) p.dialogue e
 has_portion (tc.Abort destination) e = absurd cc
 
-pub unreadable : (m : TcMessage) → read_in m ≡ None → (portion : Tree) × (dialogue_in m ≡ Some portion) × ((apdu : Apdu) → IsWanted m apdu → IsDialogue portion apdu → ⊥)
+pub unreadable : (m : TcMessage) → read_in m ≡ None → (portion : Tree) × (dialogue_in m ≡ Some portion)
+    × ((apdu : Apdu) → IsWanted m apdu → IsDialogue portion apdu → ⊥)
 unreadable m e = let (portion, is) = has_portion m e in (portion, is, λ apdu w h. wanted_read m portion apdu is w h e)
 
 -- and if one is read, what its portion holds is wanted
-held : {A : Type 0} (apdu : A → Apdu) (portion : Tree) (d : Option Tree) (a : Option A) → d ≡ Some portion → IsPortion apdu d a → (b : A) × IsDialogue portion (apdu b)
+held : {A : Type 0} (apdu : A → Apdu) (portion : Tree) (d : Option Tree) (a : Option A) → d ≡ Some portion → IsPortion apdu d a
+    → (b : A) × IsDialogue portion (apdu b)
 held apdu portion None a e h = absurd cc
 held apdu portion (Some t) None e h = absurd h
 held apdu portion (Some t) (Some a) e h = (a, subst (λ u. IsDialogue u (apdu a)) (some_is e) h)
 
-pub readable : (t : Tree) (m : TcMessage) (portion : Tree) (r : Message) → IsMessage t m → Reads t r → dialogue_in m ≡ Some portion → ((apdu : Apdu) → IsWanted m apdu → IsDialogue portion apdu → ⊥) → ⊥
+pub readable : (t : Tree) (m : TcMessage) (portion : Tree) (r : Message) → IsMessage t m → Reads t r → dialogue_in m ≡ Some portion
+    → ((apdu : Apdu) → IsWanted m apdu → IsDialogue portion apdu → ⊥) → ⊥
 readable t m portion (Begin origin context components) is (p, is', holds, are) e none =
     let same = one_tc t m (tc.Begin origin p) is is' in
     let (name, h) = held (λ name. Aarq name) portion p.dialogue context (sym (ap dialogue_in same) ∙ e) holds in

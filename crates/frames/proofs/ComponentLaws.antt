@@ -52,7 +52,8 @@ code_found t code e =
           global_found t octets code (octets_of-some OBJECT_IDENTIFIER t octets is) global
     ]
 
-coded_found : (ts : List Tree) (x : Code × List Tree) (parameter : Option Tree) → first code_of ts ≡ Some x → at_most_one x.1 ≡ Some parameter → AreCoded ts x.0 parameter
+coded_found : (ts : List Tree) (x : Code × List Tree) (parameter : Option Tree) → first code_of ts ≡ Some x → at_most_one x.1 ≡ Some parameter
+    → AreCoded ts x.0 parameter
 coded_found ts x parameter e f =
     let (t, is, read) = first-some code_of ts x e in
     (t, code_found t x.0 read, is ∙ ap (λ r. t ∷ r) (at_most_one-some x.1 parameter f))
@@ -66,7 +67,8 @@ body_found ts x e =
     subst (λ y. AreCoded ts y.0 y.1) same (coded_found ts code parameter is_code is_parameter)
 
 -- what was read as a component after its id i is one
-invoke_found : (i : Tree) (id : ℤ) (ts : List Tree) (c : ComponentOf Tree) → IsId INTEGER i id → invoke id ts ≡ Some c → IsWellFormed (element INVOKE (i ∷ ts)) c
+invoke_found : (i : Tree) (id : ℤ) (ts : List Tree) (c : ComponentOf Tree) → IsId INTEGER i id → invoke id ts ≡ Some c
+    → IsWellFormed (element INVOKE (i ∷ ts)) c
 unfolding invoke
 invoke_found i id ts c is_id e =
     let (ls, linked, parts) = linked_found ts (first (id_under LINKED_ID) ts) refl in
@@ -86,23 +88,27 @@ outcome_found made c (t ∷ []) e =
     (inr (ts, body.0, body.1, body_found ts body is_body, ap (λ u. u ∷ []) (children_of-some SEQUENCE t ts is_ts)), some_is e2)
 outcome_found made c (t ∷ u ∷ ts) e = absurd cc
 
-last_found : (i : Tree) (id : ℤ) (ts : List Tree) (c : ComponentOf Tree) → IsId INTEGER i id → outcome (ResultLast id) ts ≡ Some c → IsWellFormed (element RESULT_LAST (i ∷ ts)) c
+last_found : (i : Tree) (id : ℤ) (ts : List Tree) (c : ComponentOf Tree) → IsId INTEGER i id → outcome (ResultLast id) ts ≡ Some c
+    → IsWellFormed (element RESULT_LAST (i ∷ ts)) c
 last_found i id ts c is_id e =
     let (are, same) = outcome_found (ResultLast id) c ts e in
     subst (IsWellFormed (element RESULT_LAST (i ∷ ts))) same (i, is_id, ts, are, refl)
 
-not_last_found : (i : Tree) (id : ℤ) (ts : List Tree) (c : ComponentOf Tree) → IsId INTEGER i id → outcome (ResultNotLast id) ts ≡ Some c → IsWellFormed (element RESULT_NOT_LAST (i ∷ ts)) c
+not_last_found : (i : Tree) (id : ℤ) (ts : List Tree) (c : ComponentOf Tree) → IsId INTEGER i id → outcome (ResultNotLast id) ts ≡ Some c
+    → IsWellFormed (element RESULT_NOT_LAST (i ∷ ts)) c
 not_last_found i id ts c is_id e =
     let (are, same) = outcome_found (ResultNotLast id) c ts e in
     subst (IsWellFormed (element RESULT_NOT_LAST (i ∷ ts))) same (i, is_id, ts, are, refl)
 
-error_found : (i : Tree) (id : ℤ) (ts : List Tree) (c : ComponentOf Tree) → IsId INTEGER i id → error id ts ≡ Some c → IsWellFormed (element RETURN_ERROR (i ∷ ts)) c
+error_found : (i : Tree) (id : ℤ) (ts : List Tree) (c : ComponentOf Tree) → IsId INTEGER i id → error id ts ≡ Some c
+    → IsWellFormed (element RETURN_ERROR (i ∷ ts)) c
 unfolding error
 error_found i id ts c is_id e =
     let (body, is_body, e1) = bind_some (coded ts) _ c e in
     subst (IsWellFormed (element RETURN_ERROR (i ∷ ts))) (some_is e1) (i, is_id, ts, body.1, body_found ts body is_body, refl)
 
-under_found : (tag : Tag) (side : Side) (t : Tree) (x : Side × ℕ) → problem_tag side ≡ tag → problem_under tag side t ≡ Some x → t ≡ Primitive (problem_tag x.0) (x.1 ∷ [])
+under_found : (tag : Tag) (side : Side) (t : Tree) (x : Side × ℕ) → problem_tag side ≡ tag → problem_under tag side t ≡ Some x
+    → t ≡ Primitive (problem_tag x.0) (x.1 ∷ [])
 under_found tag side t x is e =
     let (n, is_n, same) = map_some (octet_of tag t) (λ octet. (side, octet)) x e in
     octet_of-some tag t n is_n ∙ ap (λ g. Primitive g (n ∷ [])) (sym is) ∙ ap (λ y. Primitive (problem_tag y.0) (y.1 ∷ [])) same
@@ -170,14 +176,16 @@ unlinked t (Number n) h = ap (id_under LINKED_ID) h
 unlinked t Other (octets, inl h) = ap (id_under LINKED_ID) h.0
 unlinked t Other (octets, inr h) = ap (id_under LINKED_ID) h.0
 
-linked_again : (ls : List Tree) (linked : Option ℤ) (cs : List Tree) (code : Code) (p : Option Tree) → AreLinked ls linked → AreCoded cs code p → optional (id_under LINKED_ID) (ls ++ cs) ≡ (linked, cs)
+linked_again : (ls : List Tree) (linked : Option ℤ) (cs : List Tree) (code : Code) (p : Option Tree) → AreLinked ls linked → AreCoded cs code p
+    → optional (id_under LINKED_ID) (ls ++ cs) ≡ (linked, cs)
 linked_again ls None cs code p h (t, is_code, is) =
     ap (λ l. optional (id_under LINKED_ID) (l ++ cs)) h ∙ ap (optional (id_under LINKED_ID)) is
     ∙ ap (λ o. or_all (t ∷ option_to_list p) (option_map (λ a. (a, option_to_list p)) o)) (unlinked t code is_code) ∙ ap (λ us. (None, us)) (sym is)
 linked_again ls (Some id) cs code p (t, l_is, (n, t_is, id_is)) are_coded =
     ap (λ l. optional (id_under LINKED_ID) (l ++ cs)) (l_is ∙ ap (λ u. u ∷ []) t_is) ∙ ap (λ i. (Some i, cs)) id_is
 
-invoke_again : (id : ℤ) (ls : List Tree) (linked : Option ℤ) (cs : List Tree) (code : Code) (p : Option Tree) → AreLinked ls linked → AreCoded cs code p → invoke id (ls ++ cs) ≡ Some (Invoke id linked code p)
+invoke_again : (id : ℤ) (ls : List Tree) (linked : Option ℤ) (cs : List Tree) (code : Code) (p : Option Tree) → AreLinked ls linked → AreCoded cs code p
+    → invoke id (ls ++ cs) ≡ Some (Invoke id linked code p)
 unfolding invoke
 invoke_again id ls linked cs code p are_linked are_coded =
     ap (λ l. option_and_then (λ body. Some (Invoke id l.0 body.0 body.1)) (coded l.1)) (linked_again ls linked cs code p are_linked are_coded)
@@ -195,7 +203,8 @@ unfolding error
 error_again id cs code p h = ap (option_and_then (λ body. Some (ReturnError id body.0))) (coded_again cs code p h)
 
 -- a body after an id
-body_again : (body : ℤ → List Tree → Option (ComponentOf Tree)) (i : Tree) (id : ℤ) (ts : List Tree) (c : ComponentOf Tree) → IsId INTEGER i id → body id ts ≡ Some c → identified body (i ∷ ts) ≡ c
+body_again : (body : ℤ → List Tree → Option (ComponentOf Tree)) (i : Tree) (id : ℤ) (ts : List Tree) (c : ComponentOf Tree) → IsId INTEGER i id
+    → body id ts ≡ Some c → identified body (i ∷ ts) ≡ c
 body_again body i id ts c (n, is, same) e =
     ap (λ u. identified body (u ∷ ts)) is ∙ ap (λ j. behind_id body (Some (j, ts))) same ∙ ap (λ o. unwrap_or o (Bad (Some id) MISTYPED_COMPONENT)) e
 
@@ -220,16 +229,21 @@ at_REJECT : (ts : List Tree) → component_of (element REJECT ts) ≡ reject_or_
 unfolding component_of
 at_REJECT ts = ap reject_or_ignored (list_of-trees ts)
 
-reject_again : (r : Tree) (id : Option ℤ) (side : Side) (problem : ℕ) → IsRejected r id → reject (r ∷ Primitive (problem_tag side) (problem ∷ []) ∷ []) ≡ Some (Reject id side problem)
+reject_again : (r : Tree) (id : Option ℤ) (side : Side) (problem : ℕ) → IsRejected r id
+    → reject (r ∷ Primitive (problem_tag side) (problem ∷ []) ∷ []) ≡ Some (Reject id side problem)
 unfolding reject
 reject_again r None General problem h = ap (λ u. reject (u ∷ Primitive GENERAL_PROBLEM (problem ∷ []) ∷ [])) h
 reject_again r None OfInvoke problem h = ap (λ u. reject (u ∷ Primitive INVOKE_PROBLEM (problem ∷ []) ∷ [])) h
 reject_again r None OfResult problem h = ap (λ u. reject (u ∷ Primitive RESULT_PROBLEM (problem ∷ []) ∷ [])) h
 reject_again r None OfError problem h = ap (λ u. reject (u ∷ Primitive ERROR_PROBLEM (problem ∷ []) ∷ [])) h
-reject_again r (Some id) General problem (n, is, same) = ap (λ u. reject (u ∷ Primitive GENERAL_PROBLEM (problem ∷ []) ∷ [])) is ∙ ap (λ j. Some (Reject (Some j) General problem)) same
-reject_again r (Some id) OfInvoke problem (n, is, same) = ap (λ u. reject (u ∷ Primitive INVOKE_PROBLEM (problem ∷ []) ∷ [])) is ∙ ap (λ j. Some (Reject (Some j) OfInvoke problem)) same
-reject_again r (Some id) OfResult problem (n, is, same) = ap (λ u. reject (u ∷ Primitive RESULT_PROBLEM (problem ∷ []) ∷ [])) is ∙ ap (λ j. Some (Reject (Some j) OfResult problem)) same
-reject_again r (Some id) OfError problem (n, is, same) = ap (λ u. reject (u ∷ Primitive ERROR_PROBLEM (problem ∷ []) ∷ [])) is ∙ ap (λ j. Some (Reject (Some j) OfError problem)) same
+reject_again r (Some id) General problem (n, is, same) = ap (λ u. reject (u ∷ Primitive GENERAL_PROBLEM (problem ∷ []) ∷ [])) is
+    ∙ ap (λ j. Some (Reject (Some j) General problem)) same
+reject_again r (Some id) OfInvoke problem (n, is, same) = ap (λ u. reject (u ∷ Primitive INVOKE_PROBLEM (problem ∷ []) ∷ [])) is
+    ∙ ap (λ j. Some (Reject (Some j) OfInvoke problem)) same
+reject_again r (Some id) OfResult problem (n, is, same) = ap (λ u. reject (u ∷ Primitive RESULT_PROBLEM (problem ∷ []) ∷ [])) is
+    ∙ ap (λ j. Some (Reject (Some j) OfResult problem)) same
+reject_again r (Some id) OfError problem (n, is, same) = ap (λ u. reject (u ∷ Primitive ERROR_PROBLEM (problem ∷ []) ∷ [])) is
+    ∙ ap (λ j. Some (Reject (Some j) OfError problem)) same
 
 pub well_formed_again : (t : Tree) (c : ComponentOf Tree) → IsWellFormed t c → component_of t ≡ c
 well_formed_again t (Invoke id linked code p) (i, is_id, ls, are_linked, cs, are_coded, is) =
@@ -273,19 +287,23 @@ front_read ts id (i, rest, (n, is, same), e) = (rest, ap (first (id_under INTEGE
 no_front : (ts : List Tree) → first (id_under INTEGER) ts ≡ None → (id : ℤ) → BeginsWithId ts id → ⊥
 no_front ts e id h = let (rest, f) = front_read ts id h in cc
 
-body_is : (t : Tree) (tag : Tag) (body : ℤ → List Tree → Option (ComponentOf Tree)) → Finds tag body → (i : Tree) (id : ℤ) (ts : List Tree) → t ≡ element tag (i ∷ ts) → HasIdTag t (i ∷ ts) → IsId INTEGER i id →
-    (o : Option (ComponentOf Tree)) → body id ts ≡ o → component_of t ≡ unwrap_or o (Bad (Some id) MISTYPED_COMPONENT) → IsComponent t (unwrap_or o (Bad (Some id) MISTYPED_COMPONENT))
+body_is : (t : Tree) (tag : Tag) (body : ℤ → List Tree → Option (ComponentOf Tree)) → Finds tag body → (i : Tree) (id : ℤ) (ts : List Tree)
+    → t ≡ element tag (i ∷ ts) → HasIdTag t (i ∷ ts) → IsId INTEGER i id →
+    (o : Option (ComponentOf Tree)) → body id ts ≡ o → component_of t ≡ unwrap_or o (Bad (Some id) MISTYPED_COMPONENT)
+    → IsComponent t (unwrap_or o (Bad (Some id) MISTYPED_COMPONENT))
 body_is t tag body finds i id ts is has is_id None e f = (refl, i ∷ ts, has, (i, ts, is_id, refl), ill_if_bad t _ _ f)
 body_is t tag body finds i id ts is has is_id (Some c) e f = well_formed t c (subst (λ u. IsWellFormed u c) (sym is) (finds i id ts c is_id e))
 
-identified_is : (t : Tree) (tag : Tag) (body : ℤ → List Tree → Option (ComponentOf Tree)) → Finds tag body → (ts : List Tree) → t ≡ element tag ts → HasIdTag t ts →
+identified_is : (t : Tree) (tag : Tag) (body : ℤ → List Tree → Option (ComponentOf Tree)) → Finds tag body → (ts : List Tree) → t ≡ element tag ts
+    → HasIdTag t ts →
     (o : Option (ℤ × List Tree)) → first (id_under INTEGER) ts ≡ o → component_of t ≡ behind_id body o → IsComponent t (behind_id body o)
 identified_is t tag body finds ts is has None e f = inr (refl, ts, has, no_front ts e)
 identified_is t tag body finds ts is has (Some x) e f =
     let (i, parts, read) = first-some (id_under INTEGER) ts x e in
     body_is t tag body finds i x.0 x.1 (is ∙ ap (element tag) parts) (subst (HasIdTag t) parts has) (id_found INTEGER i x.0 read) (body x.0 x.1) refl f
 
-reject_is : (t : Tree) (ts : List Tree) → t ≡ element REJECT ts → (o : Option (ComponentOf Tree)) → reject ts ≡ o → component_of t ≡ unwrap_or o Ignored → IsComponent t (unwrap_or o Ignored)
+reject_is : (t : Tree) (ts : List Tree) → t ≡ element REJECT ts → (o : Option (ComponentOf Tree)) → reject ts ≡ o → component_of t ≡ unwrap_or o Ignored
+    → IsComponent t (unwrap_or o Ignored)
 reject_is t ts is None e f = (ts, is, ill_if_ignored t f)
 reject_is t ts is (Some c) e f = well_formed t c (subst (λ u. IsWellFormed u c) (sym is) (reject_found ts c e))
 
@@ -300,7 +318,8 @@ by_tags a b c d e =
 none_under : (tag : Tag) (t : Tree) → children_of tag t ≡ None → (ts : List Tree) → t ≡ element tag ts → ⊥
 none_under tag t e ts is = let f : children_of tag t ≡ Some ts = ap (children_of tag) is ∙ children_of-element tag ts in cc
 
-tag_is : (t : Tree) (a b c d e : Option (List Tree)) → children_of INVOKE t ≡ a → children_of RESULT_LAST t ≡ b → children_of RESULT_NOT_LAST t ≡ c → children_of RETURN_ERROR t ≡ d → children_of REJECT t ≡ e →
+tag_is : (t : Tree) (a b c d e : Option (List Tree)) → children_of INVOKE t ≡ a → children_of RESULT_LAST t ≡ b → children_of RESULT_NOT_LAST t ≡ c
+    → children_of RETURN_ERROR t ≡ d → children_of REJECT t ≡ e →
     component_of t ≡ by_tags a b c d e → IsComponent t (by_tags a b c d e)
 tag_is t (Some ts) b c d e ea eb ec ed ee f =
     let is = children_of-some INVOKE t ts ea in
@@ -326,7 +345,8 @@ tag_is t None None None None None ea eb ec ed ee f = inl (refl, no_id_tag, none_
 -- each tree is the component that it is read as
 pub component_found : (t : Tree) → IsComponent t (component_of t)
 unfolding component_of
-component_found t = tag_is t (children_of INVOKE t) (children_of RESULT_LAST t) (children_of RESULT_NOT_LAST t) (children_of RETURN_ERROR t) (children_of REJECT t) refl refl refl refl refl refl
+component_found t = tag_is t (children_of INVOKE t) (children_of RESULT_LAST t) (children_of RESULT_NOT_LAST t) (children_of RETURN_ERROR t)
+    (children_of REJECT t) refl refl refl refl refl refl
 
 -- ---- and no other
 
@@ -340,14 +360,36 @@ record Under (t : Tree) (ts : List Tree) : Type 0 where
 
 under_tag : (t : Tree) (ts : List Tree) → HasIdTag t ts → Under t ts
 under_tag t ts (inl is) = record { tag = INVOKE; body = invoke; finds = invoke_found; spelled = is; read = ap component_of is ∙ at_INVOKE ts }
-under_tag t ts (inr (inl is)) = record { tag = RESULT_LAST; body = λ id. outcome (ResultLast id); finds = last_found; spelled = is; read = ap component_of is ∙ at_RESULT_LAST ts }
-under_tag t ts (inr (inr (inl is))) = record { tag = RESULT_NOT_LAST; body = λ id. outcome (ResultNotLast id); finds = not_last_found; spelled = is; read = ap component_of is ∙ at_RESULT_NOT_LAST ts }
-under_tag t ts (inr (inr (inr is))) = record { tag = RETURN_ERROR; body = error; finds = error_found; spelled = is; read = ap component_of is ∙ at_RETURN_ERROR ts }
+under_tag t ts (inr (inl is)) = record {
+  tag = RESULT_LAST;
+  body = λ id. outcome (ResultLast id);
+  finds = last_found;
+  spelled = is;
+  read = ap component_of is
+      ∙ at_RESULT_LAST ts;
+}
+under_tag t ts (inr (inr (inl is))) = record {
+  tag = RESULT_NOT_LAST;
+  body = λ id. outcome
+      (ResultNotLast id);
+  finds = not_last_found;
+  spelled = is;
+  read = ap component_of is ∙ at_RESULT_NOT_LAST ts;
+}
+under_tag t ts (inr (inr (inr is))) = record {
+  tag = RETURN_ERROR;
+  body = error;
+  finds = error_found;
+  spelled = is;
+  read = ap component_of is
+      ∙ at_RETURN_ERROR ts;
+}
 
 no_id_again : (t : Tree) (ts : List Tree) → HasIdTag t ts → ((id : ℤ) → BeginsWithId ts id → ⊥) → component_of t ≡ Bad None MISTYPED_COMPONENT
 no_id_again t ts has none = let u = under_tag t ts has in u.read ∙ go u.body (first (id_under INTEGER) ts) refl
   where
-    go : (body : ℤ → List Tree → Option (ComponentOf Tree)) (o : Option (ℤ × List Tree)) → first (id_under INTEGER) ts ≡ o → behind_id body o ≡ Bad None MISTYPED_COMPONENT
+    go : (body : ℤ → List Tree → Option (ComponentOf Tree)) (o : Option (ℤ × List Tree)) → first (id_under INTEGER) ts ≡ o
+        → behind_id body o ≡ Bad None MISTYPED_COMPONENT
     go body None e = refl
     go body (Some x) e = let (i, parts, read) = first-some (id_under INTEGER) ts x e in absurd (none x.0 (i, x.1, id_found INTEGER i x.0 read, parts))
 
@@ -357,10 +399,12 @@ bad_again t ts id has (i, rest, is_id, parts) ill =
     let u = under_tag t ts has in
     u.read ∙ ap (identified u.body) parts ∙ front i rest is_id u.body ∙ behind u (u.body id rest) refl
   where
-    front : (i : Tree) (rest : List Tree) → IsId INTEGER i id → (body : ℤ → List Tree → Option (ComponentOf Tree)) → identified body (i ∷ rest) ≡ behind_id body (Some (id, rest))
+    front : (i : Tree) (rest : List Tree) → IsId INTEGER i id → (body : ℤ → List Tree → Option (ComponentOf Tree))
+        → identified body (i ∷ rest) ≡ behind_id body (Some (id, rest))
     front i rest (n, is, same) body = ap (λ v. identified body (v ∷ rest)) is ∙ ap (λ j. behind_id body (Some (j, rest))) same
 
-    behind : (u : Under t ts) (o : Option (ComponentOf Tree)) → u.body id rest ≡ o → unwrap_or (u.body id rest) (Bad (Some id) MISTYPED_COMPONENT) ≡ Bad (Some id) MISTYPED_COMPONENT
+    behind : (u : Under t ts) (o : Option (ComponentOf Tree)) → u.body id rest ≡ o
+        → unwrap_or (u.body id rest) (Bad (Some id) MISTYPED_COMPONENT) ≡ Bad (Some id) MISTYPED_COMPONENT
     behind u None e = ap (λ o. unwrap_or o (Bad (Some id) MISTYPED_COMPONENT)) e
     behind u (Some c) e = absurd (ill c (subst (λ v. IsWellFormed v c) (sym (u.spelled ∙ ap (element u.tag) parts)) (u.finds i id rest c is_id e)))
 
@@ -371,11 +415,14 @@ ignored_again t ts is ill = ap component_of is ∙ at_REJECT ts ∙ go (reject t
     go None e = refl
     go (Some c) e = absurd (ill c (subst (λ v. IsWellFormed v c) (sym is) (reject_found ts c e)))
 
-unrecognized_again : (t : Tree) → ((ts : List Tree) → HasIdTag t ts → ⊥) → ((ts : List Tree) → t ≡ element REJECT ts → ⊥) → component_of t ≡ Bad None UNRECOGNIZED_COMPONENT
+unrecognized_again : (t : Tree) → ((ts : List Tree) → HasIdTag t ts → ⊥) → ((ts : List Tree) → t ≡ element REJECT ts → ⊥)
+    → component_of t ≡ Bad None UNRECOGNIZED_COMPONENT
 unfolding component_of
-unrecognized_again t no_id no_reject = go (children_of INVOKE t) (children_of RESULT_LAST t) (children_of RESULT_NOT_LAST t) (children_of RETURN_ERROR t) (children_of REJECT t) refl refl refl refl refl
+unrecognized_again t no_id no_reject = go (children_of INVOKE t) (children_of RESULT_LAST t) (children_of RESULT_NOT_LAST t) (children_of RETURN_ERROR t)
+    (children_of REJECT t) refl refl refl refl refl
   where
-    go : (a b c d e : Option (List Tree)) → children_of INVOKE t ≡ a → children_of RESULT_LAST t ≡ b → children_of RESULT_NOT_LAST t ≡ c → children_of RETURN_ERROR t ≡ d → children_of REJECT t ≡ e →
+    go : (a b c d e : Option (List Tree)) → children_of INVOKE t ≡ a → children_of RESULT_LAST t ≡ b → children_of RESULT_NOT_LAST t ≡ c
+        → children_of RETURN_ERROR t ≡ d → children_of REJECT t ≡ e →
         by_tags a b c d e ≡ Bad None UNRECOGNIZED_COMPONENT
     go (Some ts) b c d e ea eb ec ed ee = absurd (no_id ts (inl (children_of-some INVOKE t ts ea)))
     go None (Some ts) c d e ea eb ec ed ee = absurd (no_id ts (inr (inl (children_of-some RESULT_LAST t ts eb))))

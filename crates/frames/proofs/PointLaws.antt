@@ -16,10 +16,10 @@ use Rattle.frames.specs.declared.numbers.TheConstants.{BADLY_FORMATTED_TRANSACTI
 use Rattle.frames.specs.Choices.{if_under}
 use Rattle.frames.specs.Messages as tc
 use Rattle.frames.specs.Messages.{Portions, TcMessage, Unread, Discarded, Refused, ◌>>=◌, transaction_id_under, portions_of, begin_of, continue_of, end_of, may_end_abort, abort_of, unrecognized, message_of}
-use Rattle.octets.specs.Octets.{HasIdLength}
+use Rattle.machine.specs.Octets.{HasIdLength}
 use Rattle.frames.specs.MessageForms.{IsMessage}
 use Rattle.frames.specs.Points.{HasOrigin, HasOriginAndDestination, IsBeginOrContinue, Point, cause_of, message_points, MayBeAnswered, IsAnswer, IsSaidFirst, NoneFits, IsMessageOrNot}
-use Rattle.frames_laws.proofs.MessageLaws.{id_found, next_again, message_found, message_again}
+use Rattle.frames.proofs.MessageLaws.{id_found, next_again, message_found, message_again}
 
 -- ---- one
 
@@ -112,13 +112,16 @@ message_passes t (tc.Begin o p) (ts, are, fits, e) =
 message_passes t (tc.Continue o d p) (ts, are, fits, fits', e) =
     let tag : tag_of t ≡ CONTINUE = ap tag_of e in
     passes t (λ f. other t CONTINUE UNIDIRECTIONAL refl tag f) (λ h. h.1 tag) (λ h. h.1 o (record { rest = Primitive DESTINATION d ∷ ts; fits = fits; spelled = children_are t CONTINUE _ e }))
-    (λ h. h.1 o d (record { rest = ts; origin_fits = fits; destination_fits = fits'; spelled = children_are t CONTINUE _ e })) (tc.Continue o d p) (ts, are, fits, fits', e)
+    (λ h. h.1 o d (record { rest = ts; origin_fits = fits; destination_fits = fits'; spelled = children_are t CONTINUE _ e })) (tc.Continue o d p)
+    (ts, are, fits, fits', e)
 message_passes t (tc.End d p) (ts, are, fits, e) =
     let tag : tag_of t ≡ END = ap tag_of e in
-    passes t (λ f. other t END UNIDIRECTIONAL refl tag f) (λ h. h.2 tag) (λ h. neither t END refl refl tag h.0) (λ h. other t END CONTINUE refl tag h.0) (tc.End d p) (ts, are, fits, e)
+    passes t (λ f. other t END UNIDIRECTIONAL refl tag f) (λ h. h.2 tag) (λ h. neither t END refl refl tag h.0) (λ h. other t END CONTINUE refl tag h.0)
+    (tc.End d p) (ts, are, fits, e)
 message_passes t (tc.Abort d) (ts, are, fits, e) =
     let tag : tag_of t ≡ ABORT = ap tag_of e in
-    passes t (λ f. other t ABORT UNIDIRECTIONAL refl tag f) (λ h. h.3 tag) (λ h. neither t ABORT refl refl tag h.0) (λ h. other t ABORT CONTINUE refl tag h.0) (tc.Abort d) (ts, are, fits, e)
+    passes t (λ f. other t ABORT UNIDIRECTIONAL refl tag f) (λ h. h.3 tag) (λ h. neither t ABORT refl refl tag h.0) (λ h. other t ABORT CONTINUE refl tag h.0)
+    (tc.Abort d) (ts, are, fits, e)
 
 -- ---- if no message is read, a point says what becomes of the tree
 
@@ -138,20 +141,36 @@ no_message t u e m is = err_ok (sym e ∙ message_again t m is)
 closed_said : (t : Tree) → NoMessage t → (tag_of t ≡ END) ⊎ (tag_of t ≡ ABORT) → Said t Discarded
 closed_said t n (inl e) =
     let one : IsBeginOrContinue t → ⊥ = neither t END refl refl e in
-    inr (λ f. other t END UNIDIRECTIONAL refl e f, inr (λ h. h.2 e, inr (λ h. one h.0, inr (λ h. other t END CONTINUE refl e h.0, inl (n, inr ((λ o may. may.1 e), refl))))))
+    inr (
+      λ f. other t END UNIDIRECTIONAL refl e f,
+      inr (
+        λ h. h.2 e,
+        inr
+            (λ h. one h.0, inr (λ h. other t END CONTINUE refl e h.0, inl (n, inr ((λ o may. may.1 e), refl)))),
+      ),
+    )
 closed_said t n (inr e) =
     let one : IsBeginOrContinue t → ⊥ = neither t ABORT refl refl e in
-    inr (λ f. other t ABORT UNIDIRECTIONAL refl e f, inr (λ h. h.3 e, inr (λ h. one h.0, inr (λ h. other t ABORT CONTINUE refl e h.0, inl (n, inr ((λ o may. may.2 e), refl))))))
+    inr (
+      λ f. other t ABORT UNIDIRECTIONAL refl e f,
+      inr (
+        λ h. h.3 e,
+        inr
+            (λ h. one h.0, inr (λ h. other t ABORT CONTINUE refl e h.0, inl (n, inr ((λ o may. may.2 e), refl)))),
+      ),
+    )
 
 -- without an origin, and no message
 originless_said : (t : Tree) → NoMessage t → ((o : List ℕ) → HasOrigin t o → ⊥) → Said t Discarded
 originless_said t n lacking =
-    go (either_tag (tag_of t) UNIDIRECTIONAL) (either_tag (tag_of t) BEGIN) (either_tag (tag_of t) CONTINUE) (either_tag (tag_of t) END) (either_tag (tag_of t) ABORT)
+    go (either_tag (tag_of t) UNIDIRECTIONAL) (either_tag (tag_of t) BEGIN) (either_tag (tag_of t) CONTINUE) (either_tag (tag_of t) END)
+    (either_tag (tag_of t) ABORT)
   where
     one_said : IsBeginOrContinue t → Said t Discarded
     one_said one = inr (not_uni t one, inr (not_unknown t one, inl ((one, lacking), refl)))
 
-    go : Either (tag_of t ≡ UNIDIRECTIONAL) → Either (tag_of t ≡ BEGIN) → Either (tag_of t ≡ CONTINUE) → Either (tag_of t ≡ END) → Either (tag_of t ≡ ABORT) → Said t Discarded
+    go : Either (tag_of t ≡ UNIDIRECTIONAL) → Either (tag_of t ≡ BEGIN) → Either (tag_of t ≡ CONTINUE) → Either (tag_of t ≡ END) → Either (tag_of t ≡ ABORT)
+        → Said t Discarded
     go (inl u) b c e a = inl (u, refl)
     go (inr u) (inl b) c e a = one_said (inl b)
     go (inr u) (inr b) (inl c) e a = one_said (inr c)
@@ -190,16 +209,27 @@ begin_err : (us : List Tree) (u : Unread) → begin_of us ≡ Err u → FaultyBe
 unfolding begin_of
 begin_err us u e = go (first (transaction_id_under ORIGIN) us) refl e
   where
-    portions : (x : List ℕ × List Tree) → first (transaction_id_under ORIGIN) us ≡ Some x → (p : Option Portions) → (ok_or p (Refused x.0 INCORRECT_TRANSACTION_PORTION) >>= λ q. Ok (tc.Begin x.0 q)) ≡ Err u → FaultyBegin us u
+    portions : (x : List ℕ × List Tree) → first (transaction_id_under ORIGIN) us ≡ Some x → (p : Option Portions)
+        → (ok_or p (Refused x.0 INCORRECT_TRANSACTION_PORTION) >>= λ q. Ok (tc.Begin x.0 q)) ≡ Err u → FaultyBegin us u
     portions x f None g = inr (x, f, sym (err_is g))
     portions x f (Some p) g = absurd (ok_err g)
 
-    go : (o : Option (List ℕ × List Tree)) → first (transaction_id_under ORIGIN) us ≡ o → (ok_or o Discarded >>= λ origin. ok_or (portions_of origin.1) (Refused origin.0 INCORRECT_TRANSACTION_PORTION) >>= λ q. Ok (tc.Begin origin.0 q)) ≡ Err u → FaultyBegin us u
+    go : (o : Option (List ℕ × List Tree)) → first (transaction_id_under ORIGIN) us ≡ o
+        → (ok_or o Discarded >>= λ origin. ok_or (portions_of origin.1) (Refused origin.0 INCORRECT_TRANSACTION_PORTION) >>= λ q. Ok (tc.Begin origin.0 q))
+        ≡ Err u → FaultyBegin us u
     go None f g = inl (f, sym (err_is g))
     go (Some x) f g = portions x f (portions_of x.1) g
 
-incorrect_said : (t : Tree) (o : List ℕ) → NoMessage t → IsBeginOrContinue t → HasOrigin t o → ((tag_of t ≡ CONTINUE) × ((a b : List ℕ) → HasOriginAndDestination t a b → ⊥) → ⊥) → Said t (Refused o INCORRECT_TRANSACTION_PORTION)
-incorrect_said t o n one origin lacks = inr (not_uni t one, inr (not_unknown t one, inr (λ h. h.1 o origin, inr (lacks, inl (n, inl (o, may_be t o one origin, refl))))))
+incorrect_said : (t : Tree) (o : List ℕ) → NoMessage t → IsBeginOrContinue t → HasOrigin t o
+    → ((tag_of t ≡ CONTINUE) × ((a b : List ℕ) → HasOriginAndDestination t a b → ⊥) → ⊥) → Said t (Refused o INCORRECT_TRANSACTION_PORTION)
+incorrect_said t o n one origin lacks = inr (
+  not_uni t one,
+  inr (
+    not_unknown t one,
+    inr
+        (λ h. h.1 o origin, inr (lacks, inl (n, inl (o, may_be t o one origin, refl)))),
+  ),
+)
 
 begin_said : (ts : Trees) (u : Unread) → message_of (Constructed BEGIN ts) ≡ Err u → Said (Constructed BEGIN ts) u
 unfolding message_of
@@ -215,22 +245,29 @@ begin_said ts u e =
 abbrev Faulty : List Tree → Unread → Type 0
 Faulty us u =
     ((first (transaction_id_under ORIGIN) us ≡ None) × (u ≡ Discarded))
-    ⊎ ((x : List ℕ × List Tree) × (first (transaction_id_under ORIGIN) us ≡ Some x) × (((first (transaction_id_under DESTINATION) x.1 ≡ None) × (u ≡ Refused x.0 BADLY_FORMATTED_TRANSACTION_PORTION))
+    ⊎ ((x : List ℕ × List Tree) × (first (transaction_id_under ORIGIN) us ≡ Some x)
+    × (((first (transaction_id_under DESTINATION) x.1 ≡ None) × (u ≡ Refused x.0 BADLY_FORMATTED_TRANSACTION_PORTION))
     ⊎ ((y : List ℕ × List Tree) × (first (transaction_id_under DESTINATION) x.1 ≡ Some y) × (u ≡ Refused x.0 INCORRECT_TRANSACTION_PORTION))))
 
 continue_err : (us : List Tree) (u : Unread) → continue_of us ≡ Err u → Faulty us u
 unfolding continue_of
 continue_err us u e = go (first (transaction_id_under ORIGIN) us) refl e
   where
-    portions : (x y : List ℕ × List Tree) → first (transaction_id_under ORIGIN) us ≡ Some x → first (transaction_id_under DESTINATION) x.1 ≡ Some y → (p : Option Portions) → (ok_or p (Refused x.0 INCORRECT_TRANSACTION_PORTION) >>= λ q. Ok (tc.Continue x.0 y.0 q)) ≡ Err u → Faulty us u
+    portions : (x y : List ℕ × List Tree) → first (transaction_id_under ORIGIN) us ≡ Some x → first (transaction_id_under DESTINATION) x.1 ≡ Some y
+        → (p : Option Portions) → (ok_or p (Refused x.0 INCORRECT_TRANSACTION_PORTION) >>= λ q. Ok (tc.Continue x.0 y.0 q)) ≡ Err u → Faulty us u
     portions x y f f' None g = inr (x, f, inr (y, f', sym (err_is g)))
     portions x y f f' (Some p) g = absurd (ok_err g)
 
-    behind : (x : List ℕ × List Tree) → first (transaction_id_under ORIGIN) us ≡ Some x → (d : Option (List ℕ × List Tree)) → first (transaction_id_under DESTINATION) x.1 ≡ d → (ok_or d (Refused x.0 BADLY_FORMATTED_TRANSACTION_PORTION) >>= λ destination. ok_or (portions_of destination.1) (Refused x.0 INCORRECT_TRANSACTION_PORTION) >>= λ q. Ok (tc.Continue x.0 destination.0 q)) ≡ Err u → Faulty us u
+    behind : (x : List ℕ × List Tree) → first (transaction_id_under ORIGIN) us ≡ Some x → (d : Option (List ℕ × List Tree))
+        → first (transaction_id_under DESTINATION) x.1 ≡ d → (ok_or d (Refused x.0 BADLY_FORMATTED_TRANSACTION_PORTION) >>= λ destination. ok_or
+        (portions_of destination.1) (Refused x.0 INCORRECT_TRANSACTION_PORTION) >>= λ q. Ok (tc.Continue x.0 destination.0 q)) ≡ Err u → Faulty us u
     behind x f None f' g = inr (x, f, inl (f', sym (err_is g)))
     behind x f (Some y) f' g = portions x y f f' (portions_of y.1) g
 
-    go : (o : Option (List ℕ × List Tree)) → first (transaction_id_under ORIGIN) us ≡ o → (ok_or o Discarded >>= λ origin. ok_or (first (transaction_id_under DESTINATION) origin.1) (Refused origin.0 BADLY_FORMATTED_TRANSACTION_PORTION) >>= λ destination. ok_or (portions_of destination.1) (Refused origin.0 INCORRECT_TRANSACTION_PORTION) >>= λ q. Ok (tc.Continue origin.0 destination.0 q)) ≡ Err u → Faulty us u
+    go : (o : Option (List ℕ × List Tree)) → first (transaction_id_under ORIGIN) us ≡ o
+        → (ok_or o Discarded >>= λ origin. ok_or (first (transaction_id_under DESTINATION) origin.1)
+        (Refused origin.0 BADLY_FORMATTED_TRANSACTION_PORTION) >>= λ destination. ok_or (portions_of destination.1)
+        (Refused origin.0 INCORRECT_TRANSACTION_PORTION) >>= λ q. Ok (tc.Continue origin.0 destination.0 q)) ≡ Err u → Faulty us u
     go None f g = inl (f, sym (err_is g))
     go (Some x) f g = behind x f (first (transaction_id_under DESTINATION) x.1) refl g
 
@@ -244,14 +281,16 @@ continue_said ts u e = go (continue_err (list_of ts) u e)
     n : NoMessage t
     n = no_message t u e
 
-    lacks : (x : List ℕ × List Tree) → first (transaction_id_under ORIGIN) (list_of ts) ≡ Some x → first (transaction_id_under DESTINATION) x.1 ≡ None → (a b : List ℕ) → HasOriginAndDestination t a b → ⊥
+    lacks : (x : List ℕ × List Tree) → first (transaction_id_under ORIGIN) (list_of ts) ≡ Some x → first (transaction_id_under DESTINATION) x.1 ≡ None
+        → (a b : List ℕ) → HasOriginAndDestination t a b → ⊥
     lacks x f none a b h =
         let (fits, split) = id_found ORIGIN (list_of ts) x f in
         let s = h.spelled in
         let r : x.1 ≡ Primitive DESTINATION b ∷ h.rest = cc in
         none_not none (ap (first (transaction_id_under DESTINATION)) r ∙ first_again DESTINATION b h.rest h.destination_fits)
 
-    has : (x y : List ℕ × List Tree) → first (transaction_id_under ORIGIN) (list_of ts) ≡ Some x → first (transaction_id_under DESTINATION) x.1 ≡ Some y → HasOriginAndDestination t x.0 y.0
+    has : (x y : List ℕ × List Tree) → first (transaction_id_under ORIGIN) (list_of ts) ≡ Some x → first (transaction_id_under DESTINATION) x.1 ≡ Some y
+        → HasOriginAndDestination t x.0 y.0
     has x y f g =
         let (fits, split) = id_found ORIGIN (list_of ts) x f in
         let (fits', split') = id_found DESTINATION x.1 y g in
@@ -261,7 +300,14 @@ continue_said ts u e = go (continue_err (list_of ts) u e)
     go (inl a) = subst (Said t) (sym a.1) (originless_said t n (no_origin t a.0))
     go (inr (x, f, inl (g, is))) =
         let origin = an_origin t x f in
-        subst (Said t) (sym is) (inr (not_uni t (inr refl), inr (not_unknown t (inr refl), inr (λ h. h.1 x.0 origin, inl ((refl, lacks x f g), inl (x.0, may_be t x.0 (inr refl) origin, refl))))))
+        subst (Said t) (sym is) (inr (
+          not_uni t (inr refl),
+          inr (
+            not_unknown t (inr refl),
+            inr
+                (λ h. h.1 x.0 origin, inl ((refl, lacks x f g), inl (x.0, may_be t x.0 (inr refl) origin, refl))),
+          ),
+        ))
     go (inr (x, f, inr (y, g, is))) =
         subst (Said t) (sym is) (incorrect_said t x.0 n (inr refl) (an_origin t x f) (λ h. h.1 x.0 y.0 (has x y f g)))
 
@@ -274,7 +320,8 @@ end_err us u e = go (first (transaction_id_under DESTINATION) us) e
     portions x None g = sym (err_is g)
     portions x (Some p) g = absurd (ok_err g)
 
-    go : (o : Option (List ℕ × List Tree)) → (ok_or o Discarded >>= λ destination. ok_or (portions_of destination.1) Discarded >>= λ q. Ok (tc.End destination.0 q)) ≡ Err u → u ≡ Discarded
+    go : (o : Option (List ℕ × List Tree)) → (ok_or o Discarded >>= λ destination. ok_or (portions_of destination.1) Discarded >>= λ q. Ok
+        (tc.End destination.0 q)) ≡ Err u → u ≡ Discarded
     go None g = sym (err_is g)
     go (Some x) g = portions x (portions_of x.1) g
 
@@ -286,7 +333,8 @@ abort_err us u e = go (first (transaction_id_under DESTINATION) us) e
     ends x true g = absurd (ok_err g)
     ends x false g = sym (err_is g)
 
-    go : (o : Option (List ℕ × List Tree)) → (ok_or o Discarded >>= λ destination. cond (may_end_abort destination.1) (Ok (tc.Abort destination.0)) (Err Discarded)) ≡ Err u → u ≡ Discarded
+    go : (o : Option (List ℕ × List Tree)) → (ok_or o Discarded >>= λ destination. cond (may_end_abort destination.1) (Ok (tc.Abort destination.0))
+        (Err Discarded)) ≡ Err u → u ≡ Discarded
     go None g = sym (err_is g)
     go (Some x) g = ends x (may_end_abort x.1) g
 
@@ -319,7 +367,8 @@ by_tests us b c e a u =
     (if_under (cond u (Some us) None) (λ ts. Err Discarded)
     (unrecognized (first (transaction_id_under ORIGIN) us))))))
 
-message_unknown : (tag : Tag) (ts : Trees) → (tag ≡ BEGIN → ⊥) → (tag ≡ CONTINUE → ⊥) → (tag ≡ END → ⊥) → (tag ≡ ABORT → ⊥) → (tag ≡ UNIDIRECTIONAL → ⊥) → message_of (Constructed tag ts) ≡ unrecognized (first (transaction_id_under ORIGIN) (list_of ts))
+message_unknown : (tag : Tag) (ts : Trees) → (tag ≡ BEGIN → ⊥) → (tag ≡ CONTINUE → ⊥) → (tag ≡ END → ⊥) → (tag ≡ ABORT → ⊥) → (tag ≡ UNIDIRECTIONAL → ⊥)
+    → message_of (Constructed tag ts) ≡ unrecognized (first (transaction_id_under ORIGIN) (list_of ts))
 unfolding message_of
 message_unknown tag ts b c e a u =
     let us = list_of ts in
@@ -329,7 +378,8 @@ message_unknown tag ts b c e a u =
     ∙ ap (λ x. by_tests us false false false x (same_tag tag UNIDIRECTIONAL)) (not_tag tag ABORT a)
     ∙ ap (λ x. by_tests us false false false false x) (not_tag tag UNIDIRECTIONAL u)
 
-unknown_said : (t : Tree) (v : Unread) → Unknown t → (tag_of t ≡ UNIDIRECTIONAL → ⊥) → NoMessage t → (o : Option (List ℕ × List Tree)) → first (transaction_id_under ORIGIN) (children t) ≡ o → unrecognized o ≡ Err v → Said t v
+unknown_said : (t : Tree) (v : Unread) → Unknown t → (tag_of t ≡ UNIDIRECTIONAL → ⊥) → NoMessage t → (o : Option (List ℕ × List Tree))
+    → first (transaction_id_under ORIGIN) (children t) ≡ o → unrecognized o ≡ Err v → Said t v
 unknown_said t v known uni n None f e = subst (Said t) (err_is e) (originless_said t n (no_origin t f))
 unknown_said t v known uni n (Some x) f e =
     let origin = an_origin t x f in
@@ -349,14 +399,16 @@ unread_found (Constructed tag ts) u e =
     at : (a : Tag) → tag ≡ a → (message_of (Constructed a ts) ≡ Err u → Said (Constructed a ts) u) → Said (Constructed tag ts) u
     at a same h = subst (λ (g : Tag). message_of (Constructed g ts) ≡ Err u → Said (Constructed g ts) u) (sym same) h e
 
-    go : Either (tag ≡ BEGIN) → Either (tag ≡ CONTINUE) → Either (tag ≡ END) → Either (tag ≡ ABORT) → Either (tag ≡ UNIDIRECTIONAL) → Said (Constructed tag ts) u
+    go : Either (tag ≡ BEGIN) → Either (tag ≡ CONTINUE) → Either (tag ≡ END) → Either (tag ≡ ABORT) → Either (tag ≡ UNIDIRECTIONAL)
+        → Said (Constructed tag ts) u
     go (inl b) c n a d = at BEGIN b (begin_said ts u)
     go (inr b) (inl c) n a d = at CONTINUE c (continue_said ts u)
     go (inr b) (inr c) (inl n) a d = at END n (end_said ts u)
     go (inr b) (inr c) (inr n) (inl a) d = at ABORT a (abort_said ts u)
     go (inr b) (inr c) (inr n) (inr a) (inl d) = at UNIDIRECTIONAL d (uni_said ts u)
     go (inr b) (inr c) (inr n) (inr a) (inr d) =
-        unknown_said (Constructed tag ts) u (b, c, n, a) d (no_message (Constructed tag ts) u e) (first (transaction_id_under ORIGIN) (list_of ts)) refl (sym (message_unknown tag ts b c n a d) ∙ e)
+        unknown_said (Constructed tag ts) u (b, c, n, a) d (no_message (Constructed tag ts) u e) (first (transaction_id_under ORIGIN) (list_of ts)) refl
+        (sym (message_unknown tag ts b c n a d) ∙ e)
 
 -- ---- what a tree is with its portions unread
 
