@@ -62,7 +62,8 @@ pub frame-grown : (o o' : Open) (n : Node) → o'.tag ≡ o.tag → o'.after ≡
 frame-grown o o' n p q r =
     let m = ap elements r ∙ map-push o.children.items n in
     let a = ap followed_by q in
-    let e : frame o'.tag (elements o'.children.items) (followed_by o'.after) ≡ frame o.tag (elements o.children.items ++ tree n ∷ []) (followed_by o.after) = cc in
+    let e : frame o'.tag (elements o'.children.items) (followed_by o'.after)
+    ≡ frame o.tag (elements o.children.items ++ tree n ∷ []) (followed_by o.after) = cc in
     e
 
 -- the code is at this element, with these around it, and these octets left
@@ -79,7 +80,8 @@ module _ (every : List ℕ) where
       let at = IsAt-first (followed_by after) every contents tag h.0 h.1 in
       record { at = rw (o, none) at; deep = rw (o, none) refl }
 
-  pub reading-opened : (inner new : Open) (outer outer' : List Open) (octets contents : List ℕ) (tag : Tag) (after : Option (Bor (List ℕ))) (deepest deepest' : ℕ)
+  pub reading-opened : (inner new : Open) (outer outer' : List Open) (octets contents : List ℕ) (tag : Tag) (after : Option (Bor (List ℕ)))
+      (deepest deepest' : ℕ)
       → IsReading every inner outer octets deepest → outer' ≡ outer ++ inner ∷ [] → new.tag ≡ tag → new.after ≡ after → new.children.items ≡ []
       → IsTag true tag × Opens (followed_by after) octets tag contents → deepest' ≡ max deepest (length outer + 2)
       → IsReading every new outer' contents deepest'

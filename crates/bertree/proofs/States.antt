@@ -96,7 +96,8 @@ abbrev pub opened : Tag → Option (List ℕ) → Frame
 opened tag after = record { tag = tag; children = []; after = after }
 
 -- a constructed element of the definite form has begun
-Completes-constructed : (f : Frame) (gs : List Frame) (octets contents rest : List ℕ) (tag : Tag) (t : Tree) → IsTag true tag → IsElement octets tag contents rest
+Completes-constructed : (f : Frame) (gs : List Frame) (octets contents rest : List ℕ) (tag : Tag) (t : Tree) → IsTag true tag
+    → IsElement octets tag contents rest
     → Completes f gs octets t → Completes (opened tag (Some rest)) (f ∷ gs) contents t
 Completes-constructed f gs octets contents rest tag t h el (ts, after, c, k) =
     let d = el.definite in
@@ -114,7 +115,8 @@ Completes-constructed f gs octets contents rest tag t h el (ts, after, c, k) =
       ),
     )
 
-constructed-Completes : (f : Frame) (gs : List Frame) (octets contents rest : List ℕ) (tag : Tag) (t : Tree) → IsTag true tag → IsElement octets tag contents rest
+constructed-Completes : (f : Frame) (gs : List Frame) (octets contents rest : List ℕ) (tag : Tag) (t : Tree) → IsTag true tag
+    → IsElement octets tag contents rest
     → Completes (opened tag (Some rest)) (f ∷ gs) contents t → Completes f gs octets t
 constructed-Completes f gs octets contents rest tag t h el (ts, after, (all, known), (ts', after', c, k)) = (
   element tag ts ∷ ts',
@@ -174,8 +176,13 @@ IsAt-first-constructed every contents rest tag h el = record {
       let (kids, isv, all, isb) = definite-front t every [] every contents rest tag s (sym (append-nil every)) h el in
       (kids, rest, (all, refl), (sym isb, isv)));
   sound = λ t (ts, after, (all, known), (over, is)). (
-      subst (λ x. Spells every x) (sym is)
-      (h, contents, all, inl (subst (λ x. Definite x tag contents) (sym (append-nil el.front) ∙ ap (λ w. el.front ++ w) (sym (known ∙ over)) ∙ sym el.split) el.definite)));
+      subst (λ x. Spells every x) (sym is) (
+        h,
+        contents,
+        all,
+        inl (subst (λ x. Definite x tag contents)
+            (sym (append-nil el.front) ∙ ap (λ w. el.front ++ w) (sym (known ∙ over)) ∙ sym el.split) el.definite),
+      ));
 }
 
 pub IsAt-first-unended : (every rest : List ℕ) (tag : Tag) → IsTag true tag → every ≡ identifier tag ++ (128 ∷ rest)
@@ -236,7 +243,8 @@ levels-grown f [] u = omega (arith, levels-ended f u)
 levels-grown f (g ∷ gs) u =
     omega (arith, levels-grown g gs (ended (grown f u)), levels-grown g gs (ended f), levels-ended f u)
 
-pub levels-opened : (f : Frame) (gs : List Frame) (tag : Tag) (after : Option (List ℕ)) → levels (closed (opened tag after) (f ∷ gs)) ≡ max (levels (closed f gs)) (length gs + 2)
+pub levels-opened : (f : Frame) (gs : List Frame) (tag : Tag) (after : Option (List ℕ))
+    → levels (closed (opened tag after) (f ∷ gs)) ≡ max (levels (closed f gs)) (length gs + 2)
 levels-opened f gs tag after = omega (arith, levels-grown f gs (element tag []))
 
 -- the number of steps left for the open elements

@@ -2,7 +2,7 @@
 use Rattle.std.specs.Prelude.{◌≡◌, ℕ, ◌<◌, ◌⊎◌, List, Result, Err}
 use Rattle.x690.specs.Tree.{Tree, levels}
 use Rattle.x690.specs.Spelling.{Spells}
-use Rattle.bertree.specs.declared.read.TheConstants.{MAX_LEVELS}
+use Rattle.x690.specs.declared.limits.TheConstants.{MAX_LEVELS}
 use Rattle.bertree.specs.declared.fault.TreeFault.{TreeFault}
 use Rattle.bertree.specs.declared.fault.TreeFault.TheVariants.{Memory}
 

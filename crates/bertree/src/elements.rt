@@ -1,6 +1,6 @@
 //! The elements of a SEQUENCE, read from the first on (X.690, 8.9): each function returns what was read and the elements
 //! after it.
-ghost use Rattle.std.specs.Prelude.{◌≡◌, List, ℕ, Some, None, option_map, option_and_then};
+ghost use Rattle.std.specs.Prelude.{◌≡◌, Some, None, option_map};
 ghost use Rattle.std.specs.Option.{option_copied};
 ghost use Rattle.x690.specs.Reading.{tagged, octets_of, children_of};
 ghost use Rattle.x690.specs.Elements.{first, optional, at_most_one, no_more};
@@ -44,7 +44,8 @@ pub fn children<'a>(nodes: &'a [Node<'a>], tag: Tag) -> Option<(&'a [Node<'a>], 
 /// Optional: the contents of the first element, if it is primitive and has this tag.
 #[tactic(auto, using(crate::proofs::Trees::lists))]
 pub fn optional_octets<'a>(nodes: &'a [Node<'a>], tag: Tag) -> (Option<&'a [u8]>, &'a [Node<'a>])
-    ensures { (option_copied result.0, elements result.1.now) ≡ optional (octets_of tag) (elements nodes.now) }
+    ensures { (option_copied result.0, elements result.1.now)
+        ≡ optional (octets_of tag) (elements nodes.now) }
 {
     match octets(nodes, tag) {
         Some((found, rest)) => (Some(found), rest),
@@ -84,7 +85,8 @@ pub fn optional_children<'a>(
 /// The one element, or that there is none; nothing if there are more.
 #[tactic(auto, using(crate::proofs::Trees::lists))]
 pub fn at_most_one<'a>(nodes: &'a [Node<'a>]) -> Option<Option<&'a Node<'a>>>
-    ensures { option_map (option_map (λ node. tree node.now)) result ≡ at_most_one (elements nodes.now) }
+    ensures { option_map (option_map (λ node. tree node.now)) result
+        ≡ at_most_one (elements nodes.now) }
 {
     match nodes {
         [] => Some(None),

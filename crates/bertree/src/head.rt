@@ -1,5 +1,5 @@
 //! What precedes an element's contents: its identifier octets (X.690, 8.1.2) and length octets (8.1.3).
-ghost use Rattle.std.specs.Prelude.{◌≡◌, ℕ, ◌+◌, ◌*◌, ◌/◌, ◌^◌, ◌<◌, ◌≤◌, ◌++◌, List, [], ◌∷◌, length, Bool, IfSome, IfNone};
+ghost use Rattle.std.specs.Prelude.{◌≡◌, ℕ, ◌+◌, ◌*◌, ◌/◌, ◌^◌, ◌<◌, ◌++◌, List, [], ◌∷◌, length, Bool, IfSome, IfNone};
 ghost use Rattle.x690.specs.Identifier.{IsTag, class_bits, constructed_bit, number_octets, identifier};
 ghost use Rattle.bertree.specs.Head.{IsLengthThen, HasNoLength, IsHead, BeginsNoElement};
 ghost use Rattle.x690.specs.declared.Tag.{Tag};
@@ -49,7 +49,8 @@ pub(crate) fn next(octets: &[u8]) -> Option<(u8, &[u8])>
 /// (X.690, 8.1.2.4.2), and at most four octets (profile).
 #[tactic(auto, using(std::proofs::lemmas::Bool::Decides::nat_tests), unfolding(x690::specs::Identifier::number_octets))]
 fn read_number(octets: &[u8]) -> Option<(u32, &[u8])>
-    ensures found { IfSome result (λ r. (r.0 < 2 ^ 28) × (octets.now ≡ number_octets r.0 ++ r.1.now)) }
+    ensures found { IfSome result (λ r. (r.0 < 2 ^ 28)
+        × (octets.now ≡ number_octets r.0 ++ r.1.now)) }
     ensures none { IfNone result
         ((n : ℕ) (rest : List ℕ) → n < 2 ^ 28 → octets.now ≡ number_octets n ++ rest → ⊥) }
 {
@@ -91,7 +92,8 @@ fn read_identifier(octets: &[u8]) -> Option<(Tag, &[u8])>
     ensures found { IfSome result
         (λ r. IsTag r.0.constructed r.0 × (octets.now ≡ identifier r.0 ++ r.1.now)) }
     ensures none { IfNone result
-        ((c : Bool) (tag : Tag) (rest : List ℕ) → IsTag c tag → octets.now ≡ identifier tag ++ rest → ⊥) }
+        ((c : Bool) (tag : Tag) (rest : List ℕ) → IsTag c tag → octets.now ≡ identifier tag ++ rest
+        → ⊥) }
 {
     let (first, rest) = next(octets)?;
     if first == 0 {

@@ -12,5 +12,6 @@ mod read;
 
 pub use fault::TreeFault;
 pub use node::Node;
-pub use read::{MAX_LEVELS, MAX_OCTETS, read_tree};
+pub use read::read_tree;
+pub use x690::limits::{MAX_LEVELS, MAX_OCTETS};
 pub use x690::{Class, Tag};

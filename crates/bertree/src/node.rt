@@ -47,7 +47,8 @@ impl<'a> Node<'a> {
 
     /// The children, if the element is constructed and has this tag.
     pub fn children(&self, tag: Tag) -> Option<&'a [Node<'a>]>
-        ensures { option_map (λ nodes. elements nodes.now) result ≡ children_of tag (tree self.now) }
+        ensures { option_map (λ nodes. elements nodes.now) result
+            ≡ children_of tag (tree self.now) }
     {
         match self {
             Node::Constructed(own, nodes) if *own == tag => Some(nodes),

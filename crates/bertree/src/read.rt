@@ -4,7 +4,7 @@ ghost use Rattle.x690.specs.Tree.{Tree, levels};
 ghost use Rattle.x690.specs.Spelling.{Spells};
 ghost use Rattle.bertree.specs.Contents.{Closes};
 ghost use Rattle.bertree.specs.Faults.{SpellsNone, SpellsTooDeep, IsRefused};
-ghost use Rattle.bertree.specs.Head.{Opens, followed_by};
+ghost use Rattle.bertree.specs.Head.{followed_by};
 ghost use Rattle.bertree.specs.Nodes.{tree};
 
 use crate::fault::TreeFault;
@@ -13,12 +13,7 @@ use crate::node::Node;
 use bumpalo::Bump;
 use bumpalo::collections::into_bump_slice;
 use x690::Tag;
-
-/// The most octets that are read (profile).
-pub const MAX_OCTETS: usize = 4096;
-
-/// The most levels of a tree that is read (profile).
-pub const MAX_LEVELS: usize = 32;
+use x690::limits::{MAX_LEVELS, MAX_OCTETS};
 
 /// A constructed element that has begun: its children so far and, if its length is definite, what follows it.
 #[derive(Drop)]
@@ -45,8 +40,10 @@ impl<'a> Open<'a> {
 /// What follows an element, if its contents end here: at the last octet of a definite length, otherwise at `00 00`
 /// (X.690, 8.1.5).
 fn end<'a>(after: Option<&'a [u8]>, octets: &'a [u8]) -> Option<&'a [u8]>
-    ensures found { IfSome result (λ rest. Closes (followed_by after.entry) octets.now [] rest.now) }
-    ensures none { IfNone result ((rest : List ℕ) → Closes (followed_by after.entry) octets.now [] rest → ⊥) }
+    ensures found { IfSome result (λ rest. Closes
+        (followed_by after.entry) octets.now [] rest.now) }
+    ensures none { IfNone result ((rest : List ℕ)
+        → Closes (followed_by after.entry) octets.now [] rest → ⊥) }
 {
     match after {
         Some(after) => { if octets.is_empty() { Some(after) } else { None } }
@@ -77,7 +74,8 @@ fn alone<'a>(node: Node<'a>, after: &[u8]) -> Result<Node<'a>, TreeFault>
 /// The tree that the octets spell, and its levels. The elements that have begun are in `outer`, outermost first, and in
 /// `inner`; `rest` is what is left of the contents of `inner`.
 fn read_levels<'a>(bump: &'a Bump, octets: &'a [u8]) -> Result<(Node<'a>, usize), TreeFault>
-    ensures ok { IfOk result (λ found. Spells octets.now (tree found.0) × (levels (tree found.0) ≡ found.1)) }
+    ensures ok { IfOk result (λ found. Spells octets.now (tree found.0)
+        × (levels (tree found.0) ≡ found.1)) }
     ensures not_ber { result ≡ Err TreeFault.NotBer → SpellsNone octets.now }
     ensures others { (result ≡ Err TreeFault.TooLong → ⊥) × (result ≡ Err TreeFault.TooDeep → ⊥) }
 {
@@ -133,10 +131,13 @@ pub fn read_tree<'a>(bump: &'a Bump, octets: &'a [u8]) -> Result<Node<'a>, TreeF
     ensures too_deep { result ≡ Err TreeFault.TooDeep → SpellsTooDeep octets.now }
 
     // And conversely: the result for each string of at most `MAX_OCTETS` octets.
-    ensures tree { length octets.now ≤ MAX_OCTETS → (t : Tree) → Spells octets.now t → levels t ≤ MAX_LEVELS
+    ensures tree { length octets.now ≤ MAX_OCTETS → (t : Tree) → Spells octets.now t
+        → levels t ≤ MAX_LEVELS
         → MatchResult result (λ node. tree node ≡ t) (λ fault. fault ≡ TreeFault.Memory) }
-    ensures no_tree { length octets.now ≤ MAX_OCTETS → SpellsNone octets.now → IsRefused result TreeFault.NotBer }
-    ensures deep_tree { length octets.now ≤ MAX_OCTETS → SpellsTooDeep octets.now → IsRefused result TreeFault.TooDeep }
+    ensures no_tree { length octets.now ≤ MAX_OCTETS → SpellsNone octets.now
+        → IsRefused result TreeFault.NotBer }
+    ensures deep_tree { length octets.now ≤ MAX_OCTETS → SpellsTooDeep octets.now
+        → IsRefused result TreeFault.TooDeep }
 {
     if octets.len() > MAX_OCTETS {
         return Err(TreeFault::TooLong);

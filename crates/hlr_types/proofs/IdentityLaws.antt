@@ -12,7 +12,8 @@ use Rattle.hlr_types.proofs.TbcdLaws.{digits_found, digits_again, length_tbcd_le
 use Rattle.hlr_types.proofs.TbcdLemmas.{length_tbcd}
 
 -- A test of a length between two bounds that succeeds.
-between : {A : Type 0} (m n k : ℕ) (x y : A) (low high : Bool) → leb m n ≡ low → leb n k ≡ high → cond (low && high) (Some x) None ≡ Some y → (m ≤ n) × (n ≤ k) × (x ≡ y)
+between : {A : Type 0} (m n k : ℕ) (x y : A) (low high : Bool) → leb m n ≡ low → leb n k ≡ high → cond (low && high) (Some x) None ≡ Some y
+    → (m ≤ n) × (n ≤ k) × (x ≡ y)
 between m n k x y true true l h e = (leb-true _ _ l, leb-true _ _ h, cc)
 between m n k x y true false l h e = absurd cc
 between m n k x y false high l h e = absurd cc
@@ -48,11 +49,13 @@ remote_id_is id least most = record { same = refl; least = least; most = most }
 pub ruleset remote_id_laws = (remote_id_found, remote_id_again, remote_id_is)
 
 -- The digits from which a value was read.
-ok_then : {E : Type 0} (r : Result (List ℕ) E) (f : List ℕ → Option (List ℕ)) (y : List ℕ) → option_and_then f (result_ok r) ≡ Some y → (x : List ℕ) × (r ≡ Ok x) × (f x ≡ Some y)
+ok_then : {E : Type 0} (r : Result (List ℕ) E) (f : List ℕ → Option (List ℕ)) (y : List ℕ) → option_and_then f (result_ok r) ≡ Some y
+    → (x : List ℕ) × (r ≡ Ok x) × (f x ≡ Some y)
 ok_then (Ok x) f y e = (x, refl, e)
 ok_then (Err d) f y e = absurd cc
 
-imsi_from-ok : (d x : List ℕ) (low high : Bool) → leb 5 (length d) ≡ low → leb (length d) 15 ≡ high → result_ok (cond (low && high) (Ok d) (Err BadCount)) ≡ Some x → AreImsiDigits d × (d ≡ x)
+imsi_from-ok : (d x : List ℕ) (low high : Bool) → leb 5 (length d) ≡ low → leb (length d) 15 ≡ high
+    → result_ok (cond (low && high) (Ok d) (Err BadCount)) ≡ Some x → AreImsiDigits d × (d ≡ x)
 imsi_from-ok d x true true l h e = (record { least = leb-true _ _ l; most = leb-true _ _ h }, cc)
 imsi_from-ok d x true false l h e = absurd cc
 imsi_from-ok d x false high l h e = absurd cc
@@ -78,7 +81,8 @@ result_ok-some : {A E : Type 0} (r : Result A E) (x : A) → result_ok r ≡ Som
 result_ok-some (Ok y) x e = cc
 result_ok-some (Err d) x e = absurd cc
 
-high-in : (nature : ℕ) (rest d : List ℕ) (high : Bool) → leb 128 nature ≡ high → cond high (result_ok (digits_of rest)) None ≡ Some d → (128 ≤ nature) × (digits_of rest ≡ Ok d)
+high-in : (nature : ℕ) (rest d : List ℕ) (high : Bool) → leb 128 nature ≡ high → cond high (result_ok (digits_of rest)) None ≡ Some d
+    → (128 ≤ nature) × (digits_of rest ≡ Ok d)
 high-in nature rest d true h e = (leb-true _ _ h, result_ok-some _ _ e)
 high-in nature rest d false h e = absurd cc
 

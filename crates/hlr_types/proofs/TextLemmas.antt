@@ -19,7 +19,12 @@ decimal (b ∷ bs) e =
     (omega arith, decimal bs p.1)
 
 pub are_some_digits : (text : List ℕ) → 0 < length text → length text ≤ 16 → list_all is_digit text ≡ true → AreSomeDigits (map (λ b. b - 48) text)
-are_some_digits text some most e = record { some = omega (arith, length-map text (λ b. b - 48)); most = omega (arith, length-map text (λ b. b - 48)); each = decimal text e }
+are_some_digits text some most e = record {
+  some = omega (arith, length-map text (λ b. b - 48));
+  most = omega
+      (arith, length-map text (λ b. b - 48));
+  each = decimal text e;
+}
 
 minus-plus : (ds : List ℕ) → map (λ octet. octet - 48) (map (λ d. d + 48) ds) ≡ ds
 minus-plus [] = refl

@@ -1,6 +1,6 @@
 //! Addresses of the telephone network (ITU-T E.164): those of registers and of subscribers.
 
-ghost use Rattle.std.specs.Prelude.{◌≡◌, ◌≤◌, length, List, ℕ, IfSome, Some};
+ghost use Rattle.std.specs.Prelude.{◌≡◌, List, ℕ, IfSome, Some};
 ghost use Rattle.std.specs.Fmt.{padded};
 ghost use Rattle.hlr_types.specs.Digits.{AreSomeDigits};
 ghost use Rattle.hlr_types.specs.DigitTexts.{text_of};

@@ -8,7 +8,7 @@ ghost use Rattle.std.specs.Fmt.{padded};
 ghost use Rattle.std.specs.Ordering.{nat_cmp, on, as_partial_cmp};
 ghost use Rattle.std.specs.Prelude.{◌≡◌, ◌<◌, ◌≤◌, ◌+◌, ◌-◌, ◌*◌, ◌&&◌, nat_le, slice_index, List, ℕ, length, IfSome, Some, nat_eq};
 ghost use Rattle.std.specs.Str.{IsAscii};
-ghost use Rattle.std.specs.List.{AllByRecursion, list_all, starts_with};
+ghost use Rattle.std.specs.List.{list_all, starts_with};
 ghost use Rattle.hlr_types.specs.Digits.{AreSomeDigits};
 ghost use Rattle.hlr_types.specs.Words.{IsWord, in_word, packed, word_of};
 ghost use Rattle.hlr_types.specs.DigitTexts.{digits_in, is_digit, text_of, AreTextForms, IsText};

@@ -1,8 +1,8 @@
 //! The identity of a subscriber.
 
-ghost use Rattle.std.specs.Prelude.{◌≡◌, ◌≤◌, length, List, ℕ, IfSome, IfOk, Some, Ok};
+ghost use Rattle.std.specs.Prelude.{◌≡◌, List, ℕ, IfSome, Some, Ok};
 ghost use Rattle.std.specs.Fmt.{padded};
-ghost use Rattle.hlr_types.specs.Digits.{AreSomeDigits, AreImsiDigits};
+ghost use Rattle.hlr_types.specs.Digits.{AreImsiDigits};
 ghost use Rattle.hlr_types.specs.Tbcd.{tbcd};
 ghost use Rattle.hlr_types.specs.DigitTexts.{text_of};
 ghost use Rattle.hlr_types.specs.Identities.{imsi_from, imsi_of, IsImsi, AreImsiForms};

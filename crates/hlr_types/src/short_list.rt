@@ -33,7 +33,8 @@ impl<const N: usize> Model for ShortList<N> {
 
     ghost use Rattle.hlr_types.specs.Padding.{padded_items, padded_count, same_made};
 
-    ghost inverse_ok = { λ a h. same_made (λ i c. record { items = i; count = c }) _ _ _ _ (padded_items N a.items a.count h) (padded_count N a.items a.count h) };
+    ghost inverse_ok = { λ a h. same_made (λ i c. record { items = i; count = c }) _ _ _ _
+        (padded_items N a.items a.count h) (padded_count N a.items a.count h) };
 }
 
 impl<const N: usize> ShortList<N> {

@@ -2,8 +2,6 @@
 //! 1111 in the last high half fills an odd count.
 
 ghost use Rattle.std.specs.Prelude.{◌≡◌, ◌<◌, ◌≤◌, ◌*◌, ◌-◌, ◌/◌, ◌^◌, ◌==◌, if◌then◌else◌, ℕ, List, [], ◌∷◌, ◌++◌, length, IfOk, Ok, Err};
-ghost use Rattle.std.specs.List.{AllByRecursion};
-ghost use Rattle.hlr_types.specs.Digits.{AreSomeDigits};
 ghost use Rattle.hlr_types.specs.Tbcd.{IsTbcd, tbcd, digits_of, halves, unfilled, are_digits, AreTwoForms, AreInverse};
 ghost use Rattle.hlr_types.specs.Words.{IsWord, in_word};
 

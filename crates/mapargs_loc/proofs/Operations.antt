@@ -3,9 +3,9 @@ use Rattle.std.proofs.Common.{◌≡◌}
 use Rattle.std.specs.Prelude.{Result}
 use Rattle.x690.specs.Tree.{Tree}
 use Rattle.machine.specs.Received.{BadValue}
-use Rattle.frames.specs.declared.numbers.TheConstants.{UPDATE_LOCATION, PURGE_MS}
+use Rattle.machine.specs.declared.numbers.TheConstants.{UPDATE_LOCATION, PURGE_MS}
 use Rattle.frames.specs.Arguments.{update_of, purge_of}
-use Rattle.frames_laws.proofs.ArgumentLaws.{update_found, update_again, purge_found, purge_again}
+use Rattle.frames.proofs.ArgumentLaws.{update_found, update_again, purge_found, purge_again}
 use Rattle.mapargs_loc.specs.declared.fault.ArgFault.{ArgFault}
 use Rattle.mapargs_loc.specs.declared.update.UpdateArg.{UpdateArg}
 use Rattle.mapargs_loc.specs.declared.purge.PurgeArg.{PurgeArg}

@@ -46,7 +46,8 @@ fn push_subscriber(
 
 /// The teleserviceList `A6`, with a code `04` in each of its elements.
 fn teleservices(alloc: Global, codes: &[u8]) -> Result<OwnTree, Memory>
-    ensures { IfOk result (λ tree. own tree ≡ element TELESERVICE_LIST (map teleservice_tree codes.now)) }
+    ensures { IfOk result (λ tree. own tree
+        ≡ element TELESERVICE_LIST (map teleservice_tree codes.now)) }
 {
     let mut elements = Vec::with_capacity(alloc, codes.len())?;
     for code in codes {
@@ -57,7 +58,8 @@ fn teleservices(alloc: Global, codes: &[u8]) -> Result<OwnTree, Memory>
 
 /// Appends the teleserviceList, if there are codes.
 fn push_teleservices(alloc: Global, elements: &mut Vec<OwnTree>, codes: &[u8]) -> Result<(), Memory>
-    ensures { IfOk result (λ _. owns elements.new.items ≡ owns elements.old.items ++ teleservice_trees codes.now) }
+    ensures { IfOk result (λ _. owns elements.new.items
+        ≡ owns elements.old.items ++ teleservice_trees codes.now) }
 {
     if codes.is_empty() {
         return Ok(());
@@ -75,7 +77,8 @@ pub fn insert_arg(
     codes: &[u8],
 ) -> Result<OwnTree, Memory>
     ensures { IfOk result (λ tree. own tree
-        ≡ insert_tree (option_map (λ i. i.now) imsi.entry) (option_map (λ m. m.now) msisdn.entry) codes.now) }
+        ≡ insert_tree (option_map (λ i. i.now) imsi.entry)
+        (option_map (λ m. m.now) msisdn.entry) codes.now) }
 {
     let mut elements = identity(alloc, imsi)?;
     push_subscriber(alloc, &mut elements, msisdn)?;

@@ -5,7 +5,7 @@ ghost use Rattle.bertree.specs.Nodes.{tree};
 ghost use Rattle.berwrite.specs.OwnTrees.{own};
 ghost use Rattle.frames.specs.Arguments.{if_there, purge_typed, purge_value, purge_of};
 ghost use Rattle.frames.specs.ArgumentForms.{IsTyped, Arg};
-ghost use Rattle.frames.specs.declared.numbers.TheConstants.{PURGE_MS};
+ghost use Rattle.machine.specs.declared.numbers.TheConstants.{PURGE_MS};
 ghost use Rattle.frames.specs.SentTrees.{purge_result_tree};
 ghost use Rattle.hlr_types.specs.Identities.{address_of};
 ghost use Rattle.machine.specs.Received.{Argument, Typed};
@@ -81,12 +81,14 @@ fn purge_in(parameter: &Node) -> Result<PurgeArg, ArgFault>
 /// Limitation: an sgsn-Number and further elements are accepted unread.
 pub fn read_purge(parameter: &Node) -> Result<PurgeArg, ArgFault>
     // What is read is the argument that the tree spells, and whatever spells one is read.
-    ensures found { IfOk result (λ purge. Arg PURGE_MS (tree parameter.now) (purge_argument purge)) }
+    ensures found { IfOk result (λ purge. Arg PURGE_MS (tree parameter.now)
+        (purge_argument purge)) }
     ensures only { (argument : Argument) → Arg PURGE_MS (tree parameter.now) argument
         → answer purge_argument result ≡ Typed argument }
 
     // A fault says that the tree is not of the type, or that it is of the type and spells no argument.
-    ensures mistyped { (result ≡ Err ArgFault.Mistyped) ↔ (IsTyped PURGE_MS (tree parameter.now) → ⊥) }
+    ensures mistyped { (result ≡ Err ArgFault.Mistyped)
+        ↔ (IsTyped PURGE_MS (tree parameter.now) → ⊥) }
     ensures bad_value { (result ≡ Err ArgFault.BadValue) ↔ (IsTyped PURGE_MS (tree parameter.now)
         × ((argument : Argument) → Arg PURGE_MS (tree parameter.now) argument → ⊥)) }
 

@@ -2,7 +2,7 @@
 
 ghost use Rattle.std.specs.Prelude.{◌≡◌, IfOk, Some};
 ghost use Rattle.berwrite.specs.OwnTrees.{own};
-ghost use Rattle.frames.specs.declared.numbers.TheConstants.{ROAMING_NOT_ALLOWED};
+ghost use Rattle.machine.specs.declared.numbers.TheConstants.{ROAMING_NOT_ALLOWED};
 ghost use Rattle.frames.specs.SentTrees.{error_parameter};
 
 use berwrite::{Memory, OwnTree};

@@ -6,7 +6,7 @@ ghost use Rattle.bertree.specs.Nodes.{tree};
 ghost use Rattle.berwrite.specs.OwnTrees.{own};
 ghost use Rattle.frames.specs.Arguments.{if_there, update_typed, update_value, update_of};
 ghost use Rattle.frames.specs.ArgumentForms.{IsTyped, Arg};
-ghost use Rattle.frames.specs.declared.numbers.TheConstants.{UPDATE_LOCATION};
+ghost use Rattle.machine.specs.declared.numbers.TheConstants.{UPDATE_LOCATION};
 ghost use Rattle.frames.specs.SentTrees.{update_result_tree};
 ghost use Rattle.hlr_types.specs.Identities.{lmsi_of};
 ghost use Rattle.machine.specs.Received.{Argument, Typed};
@@ -95,13 +95,16 @@ fn update_in(parameter: &Node) -> Result<UpdateArg, ArgFault>
 /// Limitation: further elements are accepted unread.
 pub fn read_update(parameter: &Node) -> Result<UpdateArg, ArgFault>
     // What is read is the argument that the tree spells, and whatever spells one is read.
-    ensures found { IfOk result (λ update. Arg UPDATE_LOCATION (tree parameter.now) (update_argument update)) }
+    ensures found { IfOk result (λ update. Arg UPDATE_LOCATION (tree parameter.now)
+        (update_argument update)) }
     ensures only { (argument : Argument) → Arg UPDATE_LOCATION (tree parameter.now) argument
         → answer update_argument result ≡ Typed argument }
 
     // A fault says that the tree is not of the type, or that it is of the type and spells no argument.
-    ensures mistyped { (result ≡ Err ArgFault.Mistyped) ↔ (IsTyped UPDATE_LOCATION (tree parameter.now) → ⊥) }
-    ensures bad_value { (result ≡ Err ArgFault.BadValue) ↔ (IsTyped UPDATE_LOCATION (tree parameter.now)
+    ensures mistyped { (result ≡ Err ArgFault.Mistyped)
+        ↔ (IsTyped UPDATE_LOCATION (tree parameter.now) → ⊥) }
+    ensures bad_value { (result ≡ Err ArgFault.BadValue)
+        ↔ (IsTyped UPDATE_LOCATION (tree parameter.now)
         × ((argument : Argument) → Arg UPDATE_LOCATION (tree parameter.now) argument → ⊥)) }
 
     // The result is a function of the tree.

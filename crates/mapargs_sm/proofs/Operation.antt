@@ -3,9 +3,9 @@ use Rattle.std.proofs.Common.{◌≡◌}
 use Rattle.std.specs.Prelude.{Result}
 use Rattle.x690.specs.Tree.{Tree}
 use Rattle.machine.specs.Received.{BadValue}
-use Rattle.frames.specs.declared.numbers.TheConstants.{SEND_ROUTING_INFO_FOR_SM}
+use Rattle.machine.specs.declared.numbers.TheConstants.{SEND_ROUTING_INFO_FOR_SM}
 use Rattle.frames.specs.Arguments.{route_of}
-use Rattle.frames_laws.proofs.ArgumentLaws.{route_found, route_again}
+use Rattle.frames.proofs.ArgumentLaws.{route_found, route_again}
 use Rattle.mapargs_loc.specs.declared.fault.ArgFault.{ArgFault}
 use Rattle.mapargs_loc.specs.Seen.{answer}
 use Rattle.mapargs_loc.proofs.Reading.{IsOnly, answer-only}

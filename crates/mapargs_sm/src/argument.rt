@@ -4,7 +4,7 @@ ghost use Rattle.std.specs.Prelude.{◌≡◌, ◌↔◌, Err, IfOk, option_map}
 ghost use Rattle.bertree.specs.Nodes.{tree};
 ghost use Rattle.frames.specs.Arguments.{route_typed, route_of};
 ghost use Rattle.frames.specs.ArgumentForms.{IsTyped, Arg};
-ghost use Rattle.frames.specs.declared.numbers.TheConstants.{SEND_ROUTING_INFO_FOR_SM};
+ghost use Rattle.machine.specs.declared.numbers.TheConstants.{SEND_ROUTING_INFO_FOR_SM};
 ghost use Rattle.machine.specs.Received.{Argument, Typed};
 ghost use Rattle.mapargs_loc.specs.Seen.{answer};
 ghost use Rattle.mapargs_sm.specs.Seen.{route_argument};
@@ -52,14 +52,19 @@ fn route_in(parameter: &Node) -> Result<RouteArg, ArgFault>
 /// Limitation: the serviceCentreAddress and further elements are accepted unread.
 pub fn read_route(parameter: &Node) -> Result<RouteArg, ArgFault>
     // What is read is the argument that the tree spells, and whatever spells one is read.
-    ensures found { IfOk result (λ route. Arg SEND_ROUTING_INFO_FOR_SM (tree parameter.now) (route_argument route)) }
-    ensures only { (argument : Argument) → Arg SEND_ROUTING_INFO_FOR_SM (tree parameter.now) argument
+    ensures found { IfOk result (λ route. Arg SEND_ROUTING_INFO_FOR_SM (tree parameter.now)
+        (route_argument route)) }
+    ensures only { (argument : Argument)
+        → Arg SEND_ROUTING_INFO_FOR_SM (tree parameter.now) argument
         → answer route_argument result ≡ Typed argument }
 
     // A fault says that the tree is not of the type, or that it is of the type and spells no argument.
-    ensures mistyped { (result ≡ Err ArgFault.Mistyped) ↔ (IsTyped SEND_ROUTING_INFO_FOR_SM (tree parameter.now) → ⊥) }
-    ensures bad_value { (result ≡ Err ArgFault.BadValue) ↔ (IsTyped SEND_ROUTING_INFO_FOR_SM (tree parameter.now)
-        × ((argument : Argument) → Arg SEND_ROUTING_INFO_FOR_SM (tree parameter.now) argument → ⊥)) }
+    ensures mistyped { (result ≡ Err ArgFault.Mistyped)
+        ↔ (IsTyped SEND_ROUTING_INFO_FOR_SM (tree parameter.now) → ⊥) }
+    ensures bad_value { (result ≡ Err ArgFault.BadValue)
+        ↔ (IsTyped SEND_ROUTING_INFO_FOR_SM (tree parameter.now)
+        × ((argument : Argument) → Arg SEND_ROUTING_INFO_FOR_SM (tree parameter.now) argument
+        → ⊥)) }
 
     // The result is a function of the tree.
     ensures exact { answer route_argument result ≡ route_of (tree parameter.now) }

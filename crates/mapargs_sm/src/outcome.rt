@@ -12,7 +12,8 @@ use std::alloc::Global;
 
 /// The locationInfoWithLMSI `A0`: the networkNode-Number `81` and, if there is one, the lmsi `04`.
 fn location_info(alloc: Global, msc: &IsdnAddress, lmsi: Option<&Lmsi>) -> Result<OwnTree, Memory>
-    ensures { IfOk result (λ tree. own tree ≡ location_info_tree msc.now (option_map (λ l. l.now) lmsi.entry)) }
+    ensures { IfOk result (λ tree. own tree
+        ≡ location_info_tree msc.now (option_map (λ l. l.now) lmsi.entry)) }
 {
     let mut elements = Vec::with_capacity(alloc, 2)?;
     elements.push(OwnTree::primitive(alloc, NETWORK_NODE_NUMBER, msc.octets().as_slice())?)?;

@@ -1,5 +1,6 @@
 -- A context of the code as the one of the definitions.
 use Rattle.std.specs.Prelude.{ℕ, ◌==◌, cond, Option, Some, None, find, is_some}
+use Rattle.machine.specs.declared.numbers.TheConstants.{VERSION_3}
 use Rattle.machine.specs.Sent as machine
 use Rattle.machine.specs.Contexts as contexts
 use Rattle.mapctx.specs.declared.Context.{Context}
@@ -27,4 +28,4 @@ with_octet octet = find (λ c. contexts.octet_of c == octet) contexts.contexts
 abbrev pub by_octets : Option machine.Context → ℕ → contexts.Named
 by_octets None version = contexts.Unknown
 by_octets (Some c) version =
-    cond (version == 3) (contexts.Known c) (cond (is_some (contexts.operation_of c)) (contexts.OtherVersion c) contexts.Unknown)
+    cond (version == VERSION_3) (contexts.Known c) (cond (is_some (contexts.operation_of c)) (contexts.OtherVersion c) contexts.Unknown)

@@ -6,6 +6,11 @@ ghost use Rattle.std.specs.Prelude.{◌≡◌, option_map};
 ghost use Rattle.machine.specs.Contexts.{context_of, name_of, octet_of, operation_of};
 ghost use Rattle.mapctx.specs.Seen.{by_octets, context, named, with_octet};
 
+use machine::numbers::{
+    LOCATION_CANCELLATION, MAP_AC, MS_PURGING, NETWORK_LOC_UP, PURGE_MS, SEND_ROUTING_INFO_FOR_SM,
+    SHORT_MSG_GATEWAY, SUBSCRIBER_DATA_MNGT, UPDATE_LOCATION, VERSION_3,
+};
+
 /// An application context of version 3.
 #[derive(Clone, Copy, Debug, PartialEq, Eq)]
 pub enum Context {
@@ -27,19 +32,6 @@ pub enum Named {
     Unknown,
 }
 
-/// updateLocation (TS 29.002, MAP-MobileServiceOperations).
-pub const UPDATE_LOCATION: u8 = 2;
-/// sendRoutingInfoForSM (TS 29.002, MAP-ShortMessageServiceOperations).
-pub const SEND_ROUTING_INFO_FOR_SM: u8 = 45;
-/// purgeMS (TS 29.002, MAP-MobileServiceOperations).
-pub const PURGE_MS: u8 = 67;
-
-/// What the names of MAP's contexts begin with: the OBJECT IDENTIFIER 0.4.0.0.1.0 (X.690, 8.19).
-const FAMILY: [u8; 5] = [0x04, 0, 0, 1, 0];
-
-/// The version that the register uses.
-const VERSION: u8 = 3;
-
 /// What this name says: the octets `04 00 00 01 00`, one for the context and one for the version. It does not allocate.
 ///
 /// Limitation: other versions are recognized only of contexts in which a peer may begin.
@@ -50,7 +42,7 @@ pub fn context_of(name: &[u8]) -> Named
     let [a, b, c, d, e, octet, version] = name else {
         return Named::Unknown;
     };
-    if [*a, *b, *c, *d, *e] == FAMILY {
+    if [*a, *b, *c, *d, *e] == MAP_AC {
         of_octets(*octet, *version)
     } else {
         Named::Unknown
@@ -61,7 +53,8 @@ pub fn context_of(name: &[u8]) -> Named
 pub fn name_of(of: Context) -> [u8; 7]
     ensures { result ≡ name_of (context of) }
 {
-    [0x04, 0, 0, 1, 0, octet_of(of), VERSION]
+    let [a, b, c, d, e] = MAP_AC;
+    [a, b, c, d, e, octet_of(of), VERSION_3]
 }
 
 /// The operation that a peer may invoke in this context; if there is none, a peer may not begin in it. It does not allocate.
@@ -81,11 +74,11 @@ fn octet_of(of: Context) -> u8
     ensures { result ≡ octet_of (context of) }
 {
     match of {
-        Context::NetworkLocUp => 0x01,
-        Context::LocationCancellation => 0x02,
-        Context::SubscriberDataMngt => 0x10,
-        Context::ShortMsgGateway => 0x14,
-        Context::MsPurging => 0x1B,
+        Context::NetworkLocUp => NETWORK_LOC_UP,
+        Context::LocationCancellation => LOCATION_CANCELLATION,
+        Context::SubscriberDataMngt => SUBSCRIBER_DATA_MNGT,
+        Context::ShortMsgGateway => SHORT_MSG_GATEWAY,
+        Context::MsPurging => MS_PURGING,
     }
 }
 
@@ -94,7 +87,7 @@ fn of_octets(octet: u8, version: u8) -> Named
     ensures { named result ≡ by_octets (with_octet octet) version }
 {
     match with_octet(octet) {
-        Some(context) if version == VERSION => Named::Known(context),
+        Some(context) if version == VERSION_3 => Named::Known(context),
         Some(context) if operation_of(context).is_some() => Named::OtherVersion(context),
         _ => Named::Unknown,
     }
@@ -105,11 +98,11 @@ fn with_octet(octet: u8) -> Option<Context>
     ensures { option_map context result ≡ with_octet octet }
 {
     match octet {
-        0x01 => Some(Context::NetworkLocUp),
-        0x02 => Some(Context::LocationCancellation),
-        0x10 => Some(Context::SubscriberDataMngt),
-        0x14 => Some(Context::ShortMsgGateway),
-        0x1B => Some(Context::MsPurging),
+        NETWORK_LOC_UP => Some(Context::NetworkLocUp),
+        LOCATION_CANCELLATION => Some(Context::LocationCancellation),
+        SUBSCRIBER_DATA_MNGT => Some(Context::SubscriberDataMngt),
+        SHORT_MSG_GATEWAY => Some(Context::ShortMsgGateway),
+        MS_PURGING => Some(Context::MsPurging),
         _ => None,
     }
 }

@@ -16,26 +16,31 @@ unfolding chosen
 under name None components = refl
 under name (Some context) components = refl
 
-by_name : (name : List ℕ) (n : Named) (components : List Component) → context_of name ≡ n → decision_under name (accepted name) components ≡ chosen (accepted_as n) (refused_as name n) components
+by_name : (name : List ℕ) (n : Named) (components : List Component) → context_of name ≡ n
+    → decision_under name (accepted name) components ≡ chosen (accepted_as n) (refused_as name n) components
 unfolding accepted refused_name
 by_name name n components e =
     under name (accepted_as (context_of name)) components ∙ ap (λ m. chosen (accepted_as m) (refused_as name m) components) e
 
-pub known : (name : List ℕ) (context : Context) (components : List Component) → context_of name ≡ Known context → is_some (operation_of context) ≡ true → decision_under name (accepted name) components ≡ decision_in context components
+pub known : (name : List ℕ) (context : Context) (components : List Component) → context_of name ≡ Known context → is_some (operation_of context) ≡ true
+    → decision_under name (accepted name) components ≡ decision_in context components
 unfolding chosen
 known name context components e may =
     by_name name (Known context) components e ∙ ap (λ b. chosen (cond b (Some context) None) name components) may
 
-pub known_refused : (name : List ℕ) (context : Context) (components : List Component) → context_of name ≡ Known context → is_some (operation_of context) ≡ false → decision_under name (accepted name) components ≡ Refuse (Refusing name)
+pub known_refused : (name : List ℕ) (context : Context) (components : List Component) → context_of name ≡ Known context → is_some (operation_of context) ≡ false
+    → decision_under name (accepted name) components ≡ Refuse (Refusing name)
 unfolding chosen
 known_refused name context components e may =
     by_name name (Known context) components e ∙ ap (λ b. chosen (cond b (Some context) None) name components) may
 
-pub other_version : (name : List ℕ) (context : Context) (components : List Component) → context_of name ≡ OtherVersion context → decision_under name (accepted name) components ≡ Refuse (Refusing (name_of context))
+pub other_version : (name : List ℕ) (context : Context) (components : List Component) → context_of name ≡ OtherVersion context
+    → decision_under name (accepted name) components ≡ Refuse (Refusing (name_of context))
 unfolding chosen
 other_version name context components e = by_name name (OtherVersion context) components e
 
-pub unknown : (name : List ℕ) (components : List Component) → context_of name ≡ Unknown → decision_under name (accepted name) components ≡ Refuse (Refusing name)
+pub unknown : (name : List ℕ) (components : List Component) → context_of name ≡ Unknown
+    → decision_under name (accepted name) components ≡ Refuse (Refusing name)
 unfolding chosen
 unknown name components e = by_name name Unknown components e
 

@@ -19,7 +19,8 @@ use std::alloc::Global;
 
 /// The Abort to this transaction id for this reason.
 pub fn refuse(alloc: Global, destination: &RemoteId, reason: &Why) -> Result<OutMessage, Memory>
-    ensures { IfOk result (λ message. message_tree message ≡ tree_of (SentAbort destination.now (why reason.now))) }
+    ensures { IfOk result (λ message. message_tree message
+        ≡ tree_of (SentAbort destination.now (why reason.now))) }
 {
     let reason = reason_tree(alloc, reason)?;
     OutMessage::abort(alloc, *destination, reason)

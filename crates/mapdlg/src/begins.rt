@@ -13,7 +13,7 @@ ghost use Rattle.mapdlg.specs.Seen.{decided};
 
 use crate::why::Why;
 use mapctx::{Context, Named, context_of, name_of, operation_of};
-use msgarena::{ContextName, Indication, Message, Parameter, Verdict};
+use msgarena::{ContextName, Indication, Parameter, ReadMessage, Verdict};
 use q773_comp::Component;
 
 /// What is decided on a Begin before its components are handled.
@@ -29,16 +29,19 @@ pub enum Accepted {
 /// begin, then without a component (profile). It does not allocate.
 pub fn accept(indication: &Indication) -> Accepted
     requires { IsBegin indication.now.verdict }
-    ensures exact { (origin : List ℕ) (name : Option (List ℕ)) (components : List received.Component)
+    ensures exact { (origin : List ℕ) (name : Option (List ℕ))
+        (components : List received.Component)
         → indication.now.verdict ≡ received.Read (received.Begin origin name components)
         → decided result ≡ decision name components }
     // The machine does the same.
-    ensures machine { (here : Local) (from origin : List ℕ) (name : Option (List ℕ)) (components : List received.Component) (new : List ℕ)
+    ensures machine { (here : Local) (from origin : List ℕ) (name : Option (List ℕ))
+        (components : List received.Component) (new : List ℕ)
         → indication.now.verdict ≡ received.Read (received.Begin origin name components)
-        → begins here from origin name components new ≡ begins_as (decided result) here from origin components new }
+        → begins here from origin name components new
+        ≡ begins_as (decided result) here from origin components new }
 {
     let Verdict::Read(
-        Message::Begin {
+        ReadMessage::Begin {
             context,
             components,
             ..
@@ -56,7 +59,8 @@ pub fn accept(indication: &Indication) -> Accepted
 /// What is decided on a Begin whose dialogue request has this context name.
 #[tactic(auto, using(crate::proofs::Deciding::deciding))]
 fn accept_under(name: &ContextName, components: &[Component<Parameter>]) -> Accepted
-    ensures { decided result ≡ decision_under name.now (accepted name.now) (map (component parameter) components.now) }
+    ensures { decided result ≡ decision_under name.now (accepted name.now)
+        (map (component parameter) components.now) }
 {
     match context_of(name.as_slice()) {
         Named::Known(context) if operation_of(context).is_some() => accept_in(context, components),

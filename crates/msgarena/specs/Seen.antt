@@ -12,8 +12,8 @@ use Rattle.msgarena.specs.declared.parameter.Argument.TheVariants.{BadValue, Upd
 use Rattle.msgarena.specs.declared.parameter.Parameter.{Parameter}
 use Rattle.msgarena.specs.declared.parameter.Parameter.TheVariants.{Mistyped, Typed}
 use Rattle.msgarena.specs.declared.message.Response.{Response}
-use Rattle.msgarena.specs.declared.message.Message.{Message}
-use Rattle.msgarena.specs.declared.message.Message.TheVariants.{Begin, Continue, End, Abort}
+use Rattle.msgarena.specs.declared.message.ReadMessage.{ReadMessage}
+use Rattle.msgarena.specs.declared.message.ReadMessage.TheVariants.{Begin, Continue, End, Abort}
 use Rattle.msgarena.specs.declared.message.Verdict.{Verdict}
 use Rattle.msgarena.specs.declared.message.Verdict.TheVariants.{Discard, Refuse, Read}
 
@@ -35,7 +35,7 @@ parameter (Typed a) = received.Typed (argument a)
 abbrev pub response : Response → received.Response
 response r = record { context = r.context; result = r.result; diagnostic = diagnostic r.diagnostic }
 
-abbrev pub message : Message → received.Message
+abbrev pub message : ReadMessage → received.Message
 message (Begin origin context components) = received.Begin origin context (map (component parameter) components.items)
 message (Continue origin destination r components) =
     received.Continue origin destination (option_map response r) (map (component parameter) components.items)

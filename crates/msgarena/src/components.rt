@@ -8,7 +8,7 @@ ghost use Rattle.msgarena.specs.Seen.{parameter};
 
 use crate::parameter::{Parameter, parameter_of};
 use bertree::Node;
-use frames::numbers::MAX_COMPONENTS;
+use machine::numbers::MAX_COMPONENTS;
 use q773_comp::{CompFault, Component, read_component};
 use std::alloc::Global;
 
@@ -42,7 +42,8 @@ pub(crate) fn all_heard(
     alloc: Global,
     nodes: &[Node],
 ) -> Result<Vec<Component<Parameter>>, CompFault>
-    ensures heard { IfOk result (λ heard. map (component parameter) heard.items ≡ all_heard (elements nodes.now)) }
+    ensures heard { IfOk result (λ heard. map (component parameter) heard.items
+        ≡ all_heard (elements nodes.now)) }
     ensures too_many { (result ≡ Err CompFault.TooMany) ↔ (MAX_COMPONENTS < length nodes.now) }
 {
     if nodes.len() > MAX_COMPONENTS {

@@ -22,7 +22,7 @@ pub struct Response {
 
 /// A message (ITU-T Q.773, 3.1) with at most 16 components, in order. Transaction ids are as they were received.
 #[derive(Debug, PartialEq, Eq, Drop)]
-pub enum Message {
+pub enum ReadMessage {
     /// The context is the one that the AARQ of the dialogue portion requests; none if there is no dialogue portion.
     Begin {
         origin: RemoteId,
@@ -56,45 +56,45 @@ pub enum Verdict {
     /// It is answered with an Abort to this transaction id with this P-Abort cause.
     Refuse(RemoteId, u8),
     /// It is this message.
-    Read(Message),
+    Read(ReadMessage),
 }
 
-impl Message {
+impl ReadMessage {
     /// A copy.
-    fn try_copy(&self, alloc: Global) -> Result<Message, AllocError>
+    fn try_copy(&self, alloc: Global) -> Result<ReadMessage, AllocError>
         ensures { IfOk result (λ copy. message copy ≡ message self.now) }
     {
         match self {
-            Message::Begin {
+            ReadMessage::Begin {
                 origin,
                 context,
                 components,
-            } => Ok(Message::Begin {
+            } => Ok(ReadMessage::Begin {
                 origin: *origin,
                 context: *context,
                 components: components.to_vec(alloc)?,
             }),
-            Message::Continue {
+            ReadMessage::Continue {
                 origin,
                 destination,
                 response,
                 components,
-            } => Ok(Message::Continue {
+            } => Ok(ReadMessage::Continue {
                 origin: *origin,
                 destination: *destination,
                 response: *response,
                 components: components.to_vec(alloc)?,
             }),
-            Message::End {
+            ReadMessage::End {
                 destination,
                 response,
                 components,
-            } => Ok(Message::End {
+            } => Ok(ReadMessage::End {
                 destination: *destination,
                 response: *response,
                 components: components.to_vec(alloc)?,
             }),
-            Message::Abort { destination } => Ok(Message::Abort {
+            ReadMessage::Abort { destination } => Ok(ReadMessage::Abort {
                 destination: *destination,
             }),
         }

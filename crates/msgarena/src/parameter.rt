@@ -7,7 +7,7 @@ ghost use Rattle.q773_comp.specs.Seen.{code};
 ghost use Rattle.msgarena.specs.Seen.{parameter, unread};
 
 use bertree::Node;
-use frames::numbers::{PURGE_MS, SEND_ROUTING_INFO_FOR_SM, UPDATE_LOCATION};
+use machine::numbers::{PURGE_MS, SEND_ROUTING_INFO_FOR_SM, UPDATE_LOCATION};
 use mapargs_loc::{ArgFault, PurgeArg, UpdateArg, read_purge, read_update};
 use mapargs_sm::{RouteArg, read_route};
 use q773_comp::Code;

@@ -30,10 +30,12 @@ impl Round {
         octets: &[u8],
     ) -> Result<Indication, RoundFault>
         // The result is that frame, and the verdict on it.
-        ensures frame { IfTaken result (λ taken. (taken.from ≡ from) × (taken.octets ≡ octets.now)) }
+        ensures frame { IfTaken result (λ taken. (taken.from ≡ from)
+            × (taken.octets ≡ octets.now)) }
         ensures judged { IfTaken result (λ taken. IsVerdict octets.now taken.verdict) }
         // There is one verdict on the octets, so it is the same for every arena.
-        ensures only { (v : Verdict) → IsVerdict octets.now v → IfTaken result (λ taken. taken.verdict ≡ v) }
+        ensures only { (v : Verdict) → IsVerdict octets.now v
+            → IfTaken result (λ taken. taken.verdict ≡ v) }
     {
         let taken = decoded(alloc, bump, from, octets)?;
         match bump.reset() {
@@ -47,7 +49,8 @@ impl Round {
 fn decoded(alloc: Global, bump: &Bump, from: Peer, octets: &[u8]) -> Result<Indication, AllocError>
     ensures frame { IfOk result (λ found. (found.from ≡ from) × (found.octets ≡ octets.now)) }
     ensures judged { IfOk result (λ found. IsVerdict octets.now found.verdict) }
-    ensures only { (v : Verdict) → IsVerdict octets.now v → IfOk result (λ found. found.verdict ≡ v) }
+    ensures only { (v : Verdict) → IsVerdict octets.now v
+        → IfOk result (λ found. found.verdict ≡ v) }
 {
     let verdict = verdict_on(alloc, bump, octets)?;
     Ok(Indication::new(from, octets.to_vec(alloc)?, verdict))

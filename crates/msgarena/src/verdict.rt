@@ -8,10 +8,11 @@ ghost use Rattle.q773_msg.specs.Seen.{portions, unread as unread_of};
 ghost use Rattle.msgarena.specs.Seen.{response, seen};
 
 use crate::components::all_heard;
-use crate::message::{ContextName, Message, Response, Verdict};
+use crate::message::{ContextName, ReadMessage, Response, Verdict};
 use bertree::Node;
-use frames::numbers::{INCORRECT_TRANSACTION_PORTION, RESOURCE_LIMITATION};
+use frames::numbers::INCORRECT_TRANSACTION_PORTION;
 use hlr_types::{RemoteId, ShortList};
+use machine::numbers::RESOURCE_LIMITATION;
 use q773_comp::CompFault;
 use q773_dlg::{Apdu, read_dialogue};
 use q773_msg::{Portions, Unread, read_message};
@@ -58,7 +59,7 @@ fn read_begin(alloc: Global, origin: RemoteId, parts: Portions) -> Result<Verdic
         return Ok(Verdict::Refuse(origin, INCORRECT_TRANSACTION_PORTION));
     };
     match all_heard(alloc, parts.components) {
-        Ok(components) => Ok(Verdict::Read(Message::Begin {
+        Ok(components) => Ok(Verdict::Read(ReadMessage::Begin {
             origin,
             context,
             components,
@@ -75,14 +76,15 @@ fn read_continue(
     destination: RemoteId,
     parts: Portions,
 ) -> Result<Verdict, AllocError>
-    ensures { IfOk result (λ found. let m = frames.Continue origin destination (portions parts.entry) in
+    ensures { IfOk result (λ found. let m = frames.Continue origin destination
+        (portions parts.entry) in
         seen found ≡ checked m (read_in m)) }
 {
     let Some(response) = responded(parts.dialogue) else {
         return Ok(Verdict::Refuse(origin, INCORRECT_TRANSACTION_PORTION));
     };
     match all_heard(alloc, parts.components) {
-        Ok(components) => Ok(Verdict::Read(Message::Continue {
+        Ok(components) => Ok(Verdict::Read(ReadMessage::Continue {
             origin,
             destination,
             response,
@@ -102,7 +104,7 @@ fn read_end(alloc: Global, destination: RemoteId, parts: Portions) -> Result<Ver
         return Ok(Verdict::Discard);
     };
     match all_heard(alloc, parts.components) {
-        Ok(components) => Ok(Verdict::Read(Message::End {
+        Ok(components) => Ok(Verdict::Read(ReadMessage::End {
             destination,
             response,
             components,
@@ -143,7 +145,7 @@ pub(crate) fn verdict_of(alloc: Global, node: &Node) -> Result<Verdict, AllocErr
             portions,
         } => read_end(alloc, destination, portions),
         q773_msg::Message::Abort { destination } => {
-            Ok(Verdict::Read(Message::Abort { destination }))
+            Ok(Verdict::Read(ReadMessage::Abort { destination }))
         }
     }
 }

@@ -10,5 +10,6 @@ mod spelling;
 mod trees;
 
 pub use component::{Components, SentComponent, SubscriberData};
+pub use mapdlg::{Accepted, Why, accept};
 pub use message::{Addressed, SentMessage};
 pub use spelling::octets_of;

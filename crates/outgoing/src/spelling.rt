@@ -24,7 +24,8 @@ fn component_trees(
     rejects: &[Rejection],
     sent: &Components,
 ) -> Result<Vec<OwnTree>, Memory>
-    ensures { IfOk result (λ trees. owns trees.items ≡ component_trees (map rejection rejects.now) (components sent.now)) }
+    ensures { IfOk result (λ trees. owns trees.items
+        ≡ component_trees (map rejection rejects.now) (components sent.now)) }
 {
     let mut trees = reject_trees(alloc, rejects)?;
     push_components(alloc, &mut trees, sent)?;
@@ -32,7 +33,8 @@ fn component_trees(
 }
 
 fn accepting_if(alloc: Global, of: Option<Context>) -> Result<Option<OwnTree>, Memory>
-    ensures { IfOk result (λ portion. option_map own portion ≡ option_map accepting (option_map context of)) }
+    ensures { IfOk result (λ portion. option_map own portion
+        ≡ option_map accepting (option_map context of)) }
 {
     match of {
         None => Ok(None),

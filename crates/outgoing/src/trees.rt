@@ -1,9 +1,9 @@
 //! The trees of components and of dialogue portions (Q.773; parameters: TS 29.002).
 
-ghost use Rattle.std.specs.Prelude.{◌≡◌, ◌+◌, ◌*◌, ◌<◌, ◌≤◌, ◌++◌, IfOk, map, option_map, length, take, drop, pos};
+ghost use Rattle.std.specs.Prelude.{◌≡◌, ◌+◌, ◌*◌, ◌<◌, ◌++◌, IfOk, map, option_map, take, drop, pos};
 ghost use Rattle.machine.specs.Sent as machine;
-ghost use Rattle.machine.specs.Outcome.{inserts, below, further};
-ghost use Rattle.frames.specs.SentTrees.{component_tree, reject_tree, invoke_tree, result_tree, error_tree, error_parameter, insert_tree, asking};
+ghost use Rattle.machine.specs.Outcome.{inserts};
+ghost use Rattle.frames.specs.SentTrees.{component_tree, reject_tree, invoke_tree, result_tree, error_parameter, insert_tree, asking};
 ghost use Rattle.frames.specs.declared.numbers.TheConstants.{INSERT_SUBSCRIBER_DATA};
 ghost use Rattle.mapctx.specs.Seen.{context};
 ghost use Rattle.q773_comp.specs.Seen.{rejection};
@@ -12,11 +12,9 @@ ghost use Rattle.outgoing.specs.Seen.{component, components};
 
 use crate::component::{Components, SentComponent, SubscriberData};
 use berwrite::{Memory, OwnTree};
-use frames::numbers::{
-    CANCEL_LOCATION, INSERT_SUBSCRIBER_DATA, PURGE_MS, ROAMING_NOT_ALLOWED,
-    SEND_ROUTING_INFO_FOR_SM, UPDATE_LOCATION,
-};
+use frames::numbers::{CANCEL_LOCATION, INSERT_SUBSCRIBER_DATA};
 use hlr_types::{Imsi, IsdnAddress};
+use machine::numbers::{PURGE_MS, ROAMING_NOT_ALLOWED, SEND_ROUTING_INFO_FOR_SM, UPDATE_LOCATION};
 use mapargs_loc::{cancel_arg, insert_arg, purge_result, roaming_not_allowed, update_result};
 use mapargs_sm::route_result;
 use mapctx::{Context, name_of};
@@ -110,7 +108,8 @@ fn insert(
     codes: &[u8],
 ) -> Result<OwnTree, Memory>
     ensures { IfOk result (λ tree. own tree ≡ invoke_tree id INSERT_SUBSCRIBER_DATA
-        (insert_tree (option_map (λ i. i.now) imsi.entry) (option_map (λ m. m.now) msisdn.entry) codes.now)) }
+        (insert_tree (option_map (λ i. i.now) imsi.entry)
+        (option_map (λ m. m.now) msisdn.entry) codes.now)) }
 {
     let argument = insert_arg(alloc, imsi, msisdn, codes)?;
     invoke(alloc, id, INSERT_SUBSCRIBER_DATA, argument)
@@ -136,7 +135,8 @@ fn codes_at(codes: &[u8], place: usize) -> &[u8]
 /// Appends the inserts of a subscriber's data.
 fn push_data(alloc: Global, trees: &mut Vec<OwnTree>, sent: &SubscriberData) -> Result<(), Memory>
     ensures { IfOk result (λ _. owns trees.new.items
-        ≡ owns trees.old.items ++ map component_tree (inserts sent.now.imsi sent.now.msisdn sent.now.codes)) }
+        ≡ owns trees.old.items ++ map component_tree
+        (inserts sent.now.imsi sent.now.msisdn sent.now.codes)) }
 {
     let codes = sent.codes.as_slice();
     let imsi = sent.imsi.as_ref();
@@ -169,7 +169,8 @@ pub(crate) fn push_components(
 
 /// The Rejects, one by one.
 pub(crate) fn reject_trees(alloc: Global, rejects: &[Rejection]) -> Result<Vec<OwnTree>, Memory>
-    ensures { IfOk result (λ trees. owns trees.items ≡ map reject_tree (map rejection rejects.now)) }
+    ensures { IfOk result (λ trees. owns trees.items
+        ≡ map reject_tree (map rejection rejects.now)) }
 {
     let mut trees = Vec::with_capacity(alloc, rejects.len())?;
     for reject in rejects {

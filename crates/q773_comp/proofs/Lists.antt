@@ -3,7 +3,7 @@ use Rattle.std.proofs.Common.{◌≡◌, List, [], ◌∷◌, refl, ap, ◌∙�
 use Rattle.x690.specs.Tree.{Tree}
 use Rattle.machine.specs.Received.{ComponentOf}
 use Rattle.frames.specs.Components.{components_of}
-use Rattle.frames_laws.proofs.ComponentLaws.{component_found, component_again}
+use Rattle.frames.proofs.ComponentLaws.{component_found, component_again}
 use Rattle.q773_comp.specs.Forms.{AreRead}
 
 pub are_found : (ts : List Tree) → AreRead ts (components_of ts)

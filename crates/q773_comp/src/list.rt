@@ -10,7 +10,7 @@ ghost use Rattle.q773_comp.specs.Seen.{seen};
 use crate::component::Component;
 use crate::reading::read_component;
 use bertree::Node;
-use frames::numbers::MAX_COMPONENTS;
+use machine::numbers::MAX_COMPONENTS;
 use std::alloc::{AllocError, AllocFailed, Global};
 use thiserror::Error;
 
@@ -55,11 +55,13 @@ pub fn read_components<'a>(
     nodes: &'a [Node<'a>],
 ) -> Result<Vec<Component<&'a Node<'a>>>, CompFault>
     // What is read has its form, and whatever has a form is read as it.
-    ensures found { IfOk result (λ components. AreRead (elements nodes.now) (map seen components.items)) }
+    ensures found { IfOk result (λ components. AreRead (elements nodes.now)
+        (map seen components.items)) }
     ensures only { (cs : List (ComponentOf Tree)) → AreRead (elements nodes.now) cs
         → IfOk result (λ components. map seen components.items ≡ cs) }
     // The result is a function of the trees.
-    ensures exact { IfOk result (λ components. map seen components.items ≡ components_of (elements nodes.now)) }
+    ensures exact { IfOk result (λ components. map seen components.items
+        ≡ components_of (elements nodes.now)) }
     ensures too_many { (result ≡ Err CompFault.TooMany) ↔ (MAX_COMPONENTS < length nodes.now) }
 {
     if nodes.len() > MAX_COMPONENTS {

@@ -1,5 +1,5 @@
 //! The component that a node is (Q.773, component portion).
-ghost use Rattle.std.specs.Prelude.{◌≡◌, ℕ, ℤ, List, Option, option_map};
+ghost use Rattle.std.specs.Prelude.{◌≡◌, Option, option_map};
 ghost use Rattle.x690.specs.Elements.{first, optional};
 ghost use Rattle.x690.specs.Tree.{Tree};
 ghost use Rattle.machine.specs.Received.{ComponentOf};
@@ -55,7 +55,8 @@ fn first_id<'a>(nodes: &'a [Node<'a>]) -> Option<(i8, &'a [Node<'a>])>
 /// A linked id, if there is one, and what follows it.
 #[tactic(auto, using(bertree::proofs::Trees::lists))]
 fn optional_linked<'a>(nodes: &'a [Node<'a>]) -> (Option<i8>, &'a [Node<'a>])
-    ensures { (result.0, elements result.1.now) ≡ optional (id_under LINKED_ID) (elements nodes.now) }
+    ensures { (result.0, elements result.1.now)
+        ≡ optional (id_under LINKED_ID) (elements nodes.now) }
 {
     if let [node, rest @ ..] = nodes
         && let Some(id) = id_under(node, LINKED_ID)
@@ -78,7 +79,11 @@ fn first_code<'a>(nodes: &'a [Node<'a>]) -> Option<(Code, &'a [Node<'a>])>
 /// A code and at most one parameter.
 #[tactic(auto, using(bertree::proofs::Trees::lists), unfolding(frames::specs::Components::coded))]
 fn coded<'a>(nodes: &'a [Node<'a>]) -> Option<(Code, Option<&'a Node<'a>>)>
-    ensures { option_map (λ found. (code found.0, option_map (λ node. tree node.now) found.1)) result
+    ensures { option_map (λ found. (
+      code found.0,
+      option_map
+          (λ node. tree node.now) found.1,
+    )) result
         ≡ coded (elements nodes.now) }
 {
     let (code, rest) = first_code(nodes)?;
@@ -192,7 +197,7 @@ fn identified<'a>(kind: Kind, nodes: &'a [Node<'a>]) -> Component<&'a Node<'a>>
 }
 
 /// The component that a node is, whatever it is. It does not allocate.
-#[tactic(auto, using(frames_laws::proofs::ComponentLaws::component_laws), unfolding(frames::specs::Components::component_of))]
+#[tactic(auto, using(frames::proofs::ComponentLaws::component_laws), unfolding(frames::specs::Components::component_of))]
 pub fn read_component<'a>(node: &'a Node<'a>) -> Component<&'a Node<'a>>
     // What is read has its form, and whatever has a form is read as it, ill-formed components too.
     ensures found { IsComponent (tree node.now) (seen result) }

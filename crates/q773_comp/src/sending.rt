@@ -131,7 +131,8 @@ fn reject_tree(alloc: Global, reject: Rejection) -> Result<OwnTree, Memory>
 
 /// A parameter with the same tree, if there is one.
 fn copied(alloc: Global, parameter: Option<&OwnTree>) -> Result<Option<OwnTree>, Memory>
-    ensures { IfOk result (λ copy. option_map own copy ≡ option_map (λ p. own p.now) parameter.entry) }
+    ensures { IfOk result (λ copy. option_map own copy
+        ≡ option_map (λ p. own p.now) parameter.entry) }
 {
     match parameter {
         Some(parameter) => Ok(Some(parameter.try_copy(alloc)?)),

@@ -11,12 +11,13 @@ ghost use Rattle.q773_dlg.specs.Seen.{diagnostic, seen, answer};
 use crate::apdu::{Apdu, Diagnostic, Response, Unreadable};
 use bertree::Node;
 use bertree::elements::optional_octets;
-use frames::numbers::{DIALOGUE_AS_ID, MAX_CONTEXT_NAME};
+use frames::numbers::DIALOGUE_AS_ID;
 use frames::tags::{
     AARE, AARQ, ABORT_SOURCE, ABRT, CONTEXT_NAME, DIAGNOSTIC_OF_PROVIDER, DIAGNOSTIC_OF_USER,
     DIALOGUE_PORTION, EXTERNAL, INTEGER, OBJECT_IDENTIFIER, RESULT, RESULT_SOURCE,
     SINGLE_ASN1_TYPE, USER_INFORMATION, VERSION,
 };
+use machine::numbers::MAX_CONTEXT_NAME;
 
 /// Whether the contents of a BIT STRING (X.690, 8.6) are a version: at most seven bits unused, and the first bit set.
 fn is_version(octets: &[u8]) -> bool
@@ -170,7 +171,8 @@ fn dialogue_of<'a>(node: &Node<'a>) -> Option<Apdu<'a>>
 pub fn read_dialogue<'a>(node: &Node<'a>) -> Result<Apdu<'a>, Unreadable>
     // What is read has its form, and whatever has a form is read as it; anything else is unreadable.
     ensures found { IfOk result (λ apdu. IsDialogue (tree node.now) (seen apdu)) }
-    ensures only { (apdu : received.Apdu) → IsDialogue (tree node.now) apdu → answer result ≡ Some apdu }
+    ensures only { (apdu : received.Apdu) → IsDialogue (tree node.now) apdu
+        → answer result ≡ Some apdu }
     // The result is a function of the tree.
     ensures exact { answer result ≡ dialogue_of (tree node.now) }
 {

@@ -1,9 +1,8 @@
 //! The trees of the APDUs that are sent, and of the dialogue portion around one (Q.773, dialogue portion).
 //!
 //! An AARQ or AARE that is sent has version 1 and no user information (profile).
-ghost use Rattle.std.specs.Prelude.{◌≡◌, ◌≤◌, length, IfOk};
-ghost use Rattle.machine.specs.Received.{Aarq, Aare, Abrt};
-ghost use Rattle.frames.specs.DialogueForms.{octet_in, diagnostic_tree, portion_tree, IsApdu};
+ghost use Rattle.std.specs.Prelude.{◌≡◌, IfOk};
+ghost use Rattle.frames.specs.DialogueForms.{octet_in, diagnostic_tree, portion_tree};
 ghost use Rattle.frames.specs.SentTrees.{version_tree, context_tree, aarq_tree, aare_tree, abrt_tree};
 ghost use Rattle.berwrite.specs.OwnTrees.{own};
 ghost use Rattle.q773_dlg.specs.Seen.{diagnostic};

@@ -81,7 +81,8 @@ impl OutMessage {
         destination: RemoteId,
         reason: Option<OwnTree>,
     ) -> Result<OutMessage, Memory>
-        ensures { IfOk result (λ message. message_tree message ≡ abort_tree destination (option_map own reason)) }
+        ensures { IfOk result (λ message. message_tree message
+            ≡ abort_tree destination (option_map own reason)) }
     {
         let mut elements = Vec::with_capacity(alloc, 2)?;
         elements.push(OwnTree::primitive(alloc, DESTINATION, destination.as_slice())?)?;

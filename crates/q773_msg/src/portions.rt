@@ -37,7 +37,8 @@ pub(crate) fn push_portions(
     components: Vec<OwnTree>,
 ) -> Result<(), Memory>
     ensures { IfOk result (λ _. owns elements.new.items
-        ≡ owns elements.old.items ++ portion_trees (option_map own dialogue) (owns components.items)) }
+        ≡ owns elements.old.items ++ portion_trees (option_map own dialogue)
+        (owns components.items)) }
 {
     push_some(elements, dialogue)?;
     push_components(elements, components)

@@ -10,7 +10,7 @@ ghost use Rattle.frames.specs.Points.{message_points, IsSaidFirst, IsMessageOrNo
 ghost use Rattle.q773_msg.specs.Seen.{portions, message, unread, answer};
 
 use crate::message::{Message, Portions, Unread};
-use bertree::elements::{no_more, optional_children, optional_node};
+use bertree::elements::{optional_children, optional_node};
 use bertree::{Node, Tag};
 use frames::numbers::{
     BADLY_FORMATTED_TRANSACTION_PORTION, INCORRECT_TRANSACTION_PORTION, UNRECOGNIZED_MESSAGE_TYPE,
@@ -160,7 +160,8 @@ pub fn read_message<'a>(node: &Node<'a>) -> Result<Message<'a>, Unread>
     ensures refused { IfErr result (λ u. IsSaidFirst message_points (tree node.now) (unread u)) }
 
     // Whatever has a message's form is read as it, and what the first point that applies says is the result.
-    ensures only { (r : Result TcMessage frames.Unread) → IsMessageOrNot (tree node.now) r → answer result ≡ r }
+    ensures only { (r : Result TcMessage frames.Unread) → IsMessageOrNot (tree node.now) r
+        → answer result ≡ r }
 
     // The result is a function of the tree.
     ensures exact { answer result ≡ message_of (tree node.now) }

@@ -31,7 +31,8 @@ returns-then-number-lt-LEAST_LONG_NUMBER-clause-none c =
     let l = c.leading_of-class in
     λ k tag rest h e.
     not-identifier-number k tag c.in_ok-first.first (2 * class_bits l.result.0 + constructed_bit l.result.1) _ rest (omega arith)
-    (λ n ge lt f. not-number-small _ n _ _ rest c.if-number-lt-LEAST_LONG_NUMBER.true c.in_ok-number.ensures.found.1 ge lt f) h (sym c.in_ok-first.ensures.some ∙ e)
+    (λ n ge lt f. not-number-small _ n _ _ rest c.if-number-lt-LEAST_LONG_NUMBER.true c.in_ok-number.ensures.found.1 ge lt f) h
+    (sym c.in_ok-first.ensures.some ∙ e)
 
 pub returns-clause-found : goal.returns-clause-found
 returns-clause-found c =

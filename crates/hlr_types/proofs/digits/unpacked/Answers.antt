@@ -27,5 +27,6 @@ returns-clause-value c = none_left c.loop-rest.rest c.loop-rest.list (in_word c.
 
 pub returns-clause-digits : goal.returns-clause-digits
 returns-clause-digits c =
-    let whole : c.loop-rest.list ≡ in_word c.args.word = none_left c.loop-rest.rest c.loop-rest.list (in_word c.args.word) c.loop-rest.invariant (grind (arith, common_steps)) in
+    let whole : c.loop-rest.list ≡ in_word c.args.word = none_left c.loop-rest.rest c.loop-rest.list (in_word c.args.word) c.loop-rest.invariant
+    (grind (arith, common_steps)) in
     subst AreSomeDigits (sym whole) c.requires.digits

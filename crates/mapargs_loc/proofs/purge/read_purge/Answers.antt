@@ -1,5 +1,5 @@
 use Rattle.mapargs_loc.specs.Seen.{purge_argument}
-use Rattle.frames.specs.declared.numbers.TheConstants.{PURGE_MS}
+use Rattle.machine.specs.declared.numbers.TheConstants.{PURGE_MS}
 use Rattle.mapargs_loc.proofs.Reading as reading
 use Rattle.mapargs_loc.proofs.Operations.{purge_only, purge_is_value}
 use Rattle.mapargs_loc.proofs.purge.read_purge.Goals as goal

@@ -1,5 +1,5 @@
 use Rattle.mapargs_loc.specs.Seen.{update_argument}
-use Rattle.frames.specs.declared.numbers.TheConstants.{UPDATE_LOCATION}
+use Rattle.machine.specs.declared.numbers.TheConstants.{UPDATE_LOCATION}
 use Rattle.mapargs_loc.proofs.Reading as reading
 use Rattle.mapargs_loc.proofs.Operations.{update_only, update_is_value}
 use Rattle.mapargs_loc.proofs.update.read_update.Goals as goal

@@ -1,4 +1,4 @@
-use Rattle.frames.specs.declared.numbers.TheConstants.{SEND_ROUTING_INFO_FOR_SM}
+use Rattle.machine.specs.declared.numbers.TheConstants.{SEND_ROUTING_INFO_FOR_SM}
 use Rattle.mapargs_loc.proofs.Reading as reading
 use Rattle.mapargs_sm.specs.Seen.{route_argument}
 use Rattle.mapargs_sm.proofs.Operation.{route_only, route_is_value}

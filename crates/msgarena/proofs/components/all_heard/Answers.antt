@@ -15,5 +15,6 @@ each_of_each f g (x ∷ xs) = ap (λ ys. f (g x) ∷ ys) (each_of_each f g xs)
 pub returns-clause-heard : goal.returns-clause-heard
 returns-clause-heard c =
     let ran = c.in_ok-collect.ensures.ran in
-    let each = items_from_drains ran.0 ran.1 (YieldsList-from_map_by _ (component parameter) (λ node. heard_of (tree node)) (YieldsList-from_slice c.args.nodes.now cc) c.map.ensures.closure (λ x r q k. search (rules, tests))) in
+    let each = items_from_drains ran.0 ran.1 (YieldsList-from_map_by _ (component parameter) (λ node. heard_of (tree node))
+    (YieldsList-from_slice c.args.nodes.now cc) c.map.ensures.closure (λ x r q k. search (rules, tests))) in
     rw ran.2.0 (each ∙ each_of_each heard_of tree c.args.nodes.now)

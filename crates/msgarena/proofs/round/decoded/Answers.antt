@@ -1,6 +1,6 @@
 use Rattle.std.proofs.Common.{subst, sym, ap, ◌∙◌}
 use Rattle.frames.specs.Frames.{IsVerdict}
-use Rattle.frames_laws.proofs.JudgingLaws.{one_verdict}
+use Rattle.frames.proofs.JudgingLaws.{one_verdict}
 use Rattle.msgarena.specs.JudgedFrame.{JudgedFrame}
 use Rattle.msgarena.proofs.round.decoded.Goals as goal
 

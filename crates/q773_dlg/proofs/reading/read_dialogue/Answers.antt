@@ -1,6 +1,6 @@
 use Rattle.std.proofs.Common.{rules, ◌≡◌, ◌∙◌}
 use Rattle.frames.specs.Dialogues.{dialogue_of}
-use Rattle.frames_laws.proofs.DialogueLaws.{dialogue_again}
+use Rattle.frames.proofs.DialogueLaws.{dialogue_again}
 use Rattle.bertree.specs.Nodes.{tree}
 use Rattle.q773_dlg.specs.Seen.{answer}
 use Rattle.q773_dlg.proofs.reading.read_dialogue.Goals as goal

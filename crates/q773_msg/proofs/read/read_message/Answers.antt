@@ -1,5 +1,5 @@
 use Rattle.std.proofs.Common.{sym, ◌∙◌}
-use Rattle.frames_laws.proofs.PointLaws.{message_or_not_found, message_or_not_again}
+use Rattle.frames.proofs.PointLaws.{message_or_not_found, message_or_not_again}
 use Rattle.q773_msg.proofs.Forms.{found, refused}
 use Rattle.q773_msg.proofs.read.read_message.Goals as goal
 
