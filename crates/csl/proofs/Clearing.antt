@@ -28,9 +28,11 @@ pub is_own : (id : List ℕ) (v : Invocation) (k : due.Invocation) → is_invoca
 is_own id v k = then_both _ _
 
 -- the deadline of one invocation is removed
-pub one_cleared : (d : DeadlineMap) (id : List ℕ) (v : Invocation) (k : due.Invocation) → finite.get (finite.remove d (timer_at id v).invocation) k ≡ cond (is_its id k.id && int_eq v.id k.invoke) None (finite.get d k)
+pub one_cleared : (d : DeadlineMap) (id : List ℕ) (v : Invocation) (k : due.Invocation)
+    → finite.get (finite.remove d (timer_at id v).invocation) k ≡ cond (is_its id k.id && int_eq v.id k.invoke) None (finite.get d k)
 one_cleared d id v k =
-    finite.get-remove invocation_total d (timer_at id v).invocation k ∙ ap (λ b. cond b None (finite.get d k)) ((eq_by_cmp_equiv invocation_total).symm k (timer_at id v).invocation ∙ is_own id v k)
+    finite.get-remove invocation_total d (timer_at id v).invocation k
+    ∙ ap (λ b. cond b None (finite.get d k)) ((eq_by_cmp_equiv invocation_total).symm k (timer_at id v).invocation ∙ is_own id v k)
 
 -- whether a list has an id
 
@@ -56,7 +58,8 @@ has_by_place id vs (Some place) b e s = has_at id vs place (sym e) ∙ s
 -- one more of those that were there
 
 module _ (id : List ℕ) (kept : List Invocation) (earlier : List Invocation) (own : Invocation) (k : due.Invocation) where
-  gone_more : is_gone id (earlier ++ own ∷ []) kept k ≡ (is_its id k.id && ((has_one k.invoke earlier || (has_id k.invoke own || false)) && not (has_one k.invoke kept)))
+  gone_more : is_gone id (earlier ++ own ∷ []) kept k ≡ (is_its id k.id &&
+      ((has_one k.invoke earlier || (has_id k.invoke own || false)) && not (has_one k.invoke kept)))
   gone_more = ap (λ b. is_its id k.id && (b && not (has_one k.invoke kept))) (list_any-append (has_id k.invoke) earlier (own ∷ []))
 
   by_same : (b : Bool) → has_one own.id kept ≡ b → (has_id k.invoke own ≡ true) → has_one k.invoke kept ≡ b
@@ -71,10 +74,12 @@ module _ (id : List ℕ) (kept : List Invocation) (earlier : List Invocation) (o
       by false q true = refl
       by false q false = refl
 
-  pub gone_one : (o : Option ℕ) → has_one own.id kept ≡ false → cond (is_gone id (earlier ++ own ∷ []) kept k) None o ≡ cond (is_its id k.id && int_eq own.id k.invoke) None (cond (is_gone id earlier kept k) None o)
+  pub gone_one : (o : Option ℕ) → has_one own.id kept ≡ false → cond (is_gone id (earlier ++ own ∷ []) kept k) None o
+      ≡ cond (is_its id k.id && int_eq own.id k.invoke) None (cond (is_gone id earlier kept k) None o)
   gone_one o goes = ap (λ b. cond b None o) gone_more ∙ at (is_its id k.id) (has_id k.invoke own) refl (has_one k.invoke earlier)
     where
-      at : (i b : Bool) → has_id k.invoke own ≡ b → (e : Bool) → cond (i && ((e || (b || false)) && not (has_one k.invoke kept))) None o ≡ cond (i && b) None (cond (i && (e && not (has_one k.invoke kept))) None o)
+      at : (i b : Bool) → has_id k.invoke own ≡ b → (e : Bool) → cond (i && ((e || (b || false)) && not (has_one k.invoke kept))) None o
+          ≡ cond (i && b) None (cond (i && (e && not (has_one k.invoke kept))) None o)
       at false b q e = refl
       at true true q true = ap (λ h. cond (not h) None o) (by_same false goes q)
       at true true q false = ap (λ h. cond (not h) None o) (by_same false goes q)

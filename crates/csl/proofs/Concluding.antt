@@ -4,7 +4,7 @@ use Rattle.std.specs.List.{position, remove}
 use Rattle.std.specs.Ordering.{int_eq}
 use Rattle.std.specs.Cmp.{int_eq_equiv}
 use Rattle.machine.specs.Keys.{Every}
-use Rattle.machine.specs.Numbers.{reject_timer}
+use Rattle.machine.specs.declared.numbers.TheConstants.{REJECT_TIMER}
 use Rattle.machine.specs.State.{Invocation, WaitForReject, is_sent}
 use Rattle.machine.specs.Received.{Bad, ComponentOf, General, Ignored, Invoke, OfError, OfInvoke, OfResult, Reject, ResultLast, ResultNotLast, ReturnError}
 use Rattle.machine.specs.Effect.{AreRising, any_failed, concluded, concluded_by, concludes, concluding, invocations_after, is_failure}
@@ -54,7 +54,12 @@ module _ {P : Type 0} where
   ends (ResultLast id) e is = ends_as _ _ e (record { concludes_its = λ j. refl; after = λ now v. refl; failed = refl }) is
   ends (ReturnError id error) e is = ends_as _ _ e (record { concludes_its = λ j. refl; after = λ now v. refl; failed = refl }) is
   ends (Reject (Some id) General problem) e is = ends_as _ _ e (record { concludes_its = λ j. and_true (int_eq id j); after = λ now v. refl; failed = refl }) is
-  ends (Reject (Some id) OfInvoke problem) e is = ends_as _ _ e (record { concludes_its = λ j. and_true (int_eq id j); after = λ now v. refl; failed = refl }) is
+  ends (Reject (Some id) OfInvoke problem) e is = ends_as _ _ e (record {
+    concludes_its = λ j. and_true
+        (int_eq id j);
+    after = λ now v. refl;
+    failed = refl;
+  }) is
   ends (Reject (Some id) OfResult problem) e is = cc
   ends (Reject (Some id) OfError problem) e is = cc
   ends (Reject None side problem) e is = cc
@@ -115,21 +120,25 @@ module _ {P : Type 0} where
       unmoved_where_absent vs none = unmoved vs (none_concluded vs (none_of e.id vs none))
 
       -- there are others after the one with the id
-      others_behind : (front : List Invocation) (own : Invocation) (back : List Invocation) → IsMap (front ++ own ∷ back) → has_id e.id own ≡ true → NoneHas e.id back
-      others_behind [] own back m q = every_one (λ u. int_eq u.id own.id ≡ false) (λ u. has_id e.id u ≡ false) (λ u r. subst (λ i. int_eq u.id i ≡ false) (int_is own.id e.id q) r) back m.0
+      others_behind : (front : List Invocation) (own : Invocation) (back : List Invocation) → IsMap (front ++ own ∷ back) → has_id e.id own ≡ true
+          → NoneHas e.id back
+      others_behind [] own back m q = every_one (λ u. int_eq u.id own.id ≡ false) (λ u. has_id e.id u ≡ false)
+          (λ u r. subst (λ i. int_eq u.id i ≡ false) (int_is own.id e.id q) r) back m.0
       others_behind (v ∷ front) own back m q = others_behind front own back m.1 q
 
       after_at : (front : List Invocation) (own : Invocation) (back : List Invocation) → NoneHas e.id front → NoneHas e.id back
           → invocations_after now (c ∷ []) (front ++ own ∷ back) ≡ front ++ (concluded now (c ∷ []) own ++ back)
       after_at front own back f b =
-          after_append now (c ∷ []) front (own ∷ back) ∙ ap (λ us. us ++ (concluded now (c ∷ []) own ++ invocations_after now (c ∷ []) back)) (stay front (none_concluded front f))
+          after_append now (c ∷ []) front (own ∷ back) ∙ ap (λ us. us ++ (concluded now (c ∷ []) own ++ invocations_after now (c ∷ []) back))
+          (stay front (none_concluded front f))
           ∙ ap (λ us. front ++ (concluded now (c ∷ []) own ++ us)) (stay back (none_concluded back b))
 
       failed_at : (front : List Invocation) (own : Invocation) (back : List Invocation) → NoneHas e.id front → NoneHas e.id back
           → any_failed (c ∷ []) (front ++ own ∷ back) ≡ (is_sent own.was && is_failure (concluding own.id (c ∷ [])))
       failed_at front own back f b =
           fail_not front (own ∷ back) (none_concluded front f)
-          ∙ ap (λ r. cond (is_sent own.was && is_failure (concluding own.id (c ∷ []))) true r) (ap (any_failed (c ∷ [])) (sym (append-nil back)) ∙ fail_not back [] (none_concluded back b))
+          ∙ ap (λ r. cond (is_sent own.was && is_failure (concluding own.id (c ∷ []))) true r)
+          (ap (any_failed (c ∷ [])) (sym (append-nil back)) ∙ fail_not back [] (none_concluded back b))
           ∙ off (is_sent own.was && is_failure (concluding own.id (c ∷ [])))
         where
           off : (t : Bool) → cond t true false ≡ t
@@ -137,12 +146,14 @@ module _ {P : Type 0} where
           off false = refl
 
       -- the one with the id
-      module _ (vs : List Invocation) (place : ℕ) (found : position (has_id e.id) vs ≡ Some place) (rising : AreRising vs) (v : Invocation) (at : v ≡ get_or vs place v) where
+      module _ (vs : List Invocation) (place : ℕ) (found : position (has_id e.id) vs ≡ Some place) (rising : AreRising vs) (v : Invocation)
+          (at : v ≡ get_or vs place v) where
         its : Parts e.id vs place
         its = parts_of e.id vs place found
 
         read_is : (w : Invocation) → w ≡ get_or vs place w → w ≡ its.own
-        read_is w r = r ∙ ap (λ us. get_or us place w) its.whole ∙ ap (λ n. get_or (its.front ++ its.own ∷ its.back) n w) (sym its.at) ∙ get_at its.front its.own its.back w
+        read_is w r = r ∙ ap (λ us. get_or us place w) its.whole ∙ ap (λ n. get_or (its.front ++ its.own ∷ its.back) n w) (sym its.at)
+            ∙ get_at its.front its.own its.back w
 
         own_is : v ≡ its.own
         own_is = read_is v at
@@ -157,8 +168,11 @@ module _ {P : Type 0} where
         unmoved_where_waiting w =
             let own_waits : is_sent its.own.was ≡ false = sym (ap (λ (u : Invocation). is_sent u.was) own_is) ∙ w in
             record {
-              after = sym (ap (invocations_after now (c ∷ [])) its.whole ∙ after_at its.front its.own its.back its.others behind ∙ ap (λ us. its.front ++ (us ++ its.back)) (ap (λ b. cond b (concluded_by now its.own (concluding its.own.id (c ∷ []))) (its.own ∷ [])) own_waits) ∙ sym its.whole);
-              failed = sym (ap (any_failed (c ∷ [])) its.whole ∙ failed_at its.front its.own its.back its.others behind ∙ ap (λ b. b && is_failure (concluding its.own.id (c ∷ []))) own_waits);
+              after = sym (ap (invocations_after now (c ∷ [])) its.whole ∙ after_at its.front its.own its.back its.others behind
+                  ∙ ap (λ us. its.front ++ (us ++ its.back))
+                  (ap (λ b. cond b (concluded_by now its.own (concluding its.own.id (c ∷ []))) (its.own ∷ [])) own_waits) ∙ sym its.whole);
+              failed = sym (ap (any_failed (c ∷ [])) its.whole ∙ failed_at its.front its.own its.back its.others behind
+                  ∙ ap (λ b. b && is_failure (concluding its.own.id (c ∷ []))) own_waits);
             }
 
         after_sent : is_sent v.was ≡ true → its.front ++ (ended now e.how v ++ its.back) ≡ invocations_after now (c ∷ []) vs
@@ -176,14 +190,16 @@ module _ {P : Type 0} where
             ap (λ us. set us place u) its.whole ∙ ap (λ n. set (its.front ++ its.own ∷ its.back) n u) (sym its.at) ∙ set_at its.front its.own its.back u
             ∙ ap (λ us. its.front ++ (us ++ its.back)) (sym how) ∙ after_sent w
 
-        pub waits : is_sent v.was ≡ true → (w : Invocation) → w ≡ get_or vs place w → (u : Invocation) → u ≡ record { id = w.id; was = WaitForReject; deadline = now + reject_timer }
+        pub waits : is_sent v.was ≡ true → (w : Invocation) → w ≡ get_or vs place w → (u : Invocation)
+            → u ≡ record { id = w.id; was = WaitForReject; deadline = now + REJECT_TIMER }
             → (e.how ≡ Fails) ⊎ (e.how ≡ Succeeds) → set vs place u ≡ invocations_after now (c ∷ []) vs
         waits sent w read u is_u how = waits_as sent u (ended_now how ∙ ap (λ (x : Invocation). x ∷ []) (same_wait (own_is ∙ sym (read_is w read)) ∙ sym is_u))
           where
-            same_wait : v ≡ w → ◌≡◌ {A = Invocation} (record { id = v.id; was = WaitForReject; deadline = now + reject_timer }) (record { id = w.id; was = WaitForReject; deadline = now + reject_timer })
-            same_wait s = λ i. record { id = (s i).id; was = WaitForReject; deadline = now + reject_timer }
+            same_wait : v ≡ w → ◌≡◌ {A = Invocation} (record { id = v.id; was = WaitForReject; deadline = now + REJECT_TIMER })
+                (record { id = w.id; was = WaitForReject; deadline = now + REJECT_TIMER })
+            same_wait s = λ i. record { id = (s i).id; was = WaitForReject; deadline = now + REJECT_TIMER }
 
-            ended_now : (e.how ≡ Fails) ⊎ (e.how ≡ Succeeds) → ended now e.how v ≡ record { id = v.id; was = WaitForReject; deadline = now + reject_timer } ∷ []
+            ended_now : (e.how ≡ Fails) ⊎ (e.how ≡ Succeeds) → ended now e.how v ≡ record { id = v.id; was = WaitForReject; deadline = now + REJECT_TIMER } ∷ []
             ended_now (inl f) = ap (λ h. ended now h v) f
             ended_now (inr f) = ap (λ h. ended now h v) f
 

@@ -36,15 +36,18 @@ place_there j vs t e = by (position (has_id j) vs) refl
     by None q = let none : None ≡ Some t = sym (deadline_none j vs (none_of j vs q)) ∙ e in cc
     by (Some place) q = refl
 
-invocation_past : (j : ℤ) (front : List Invocation) (own : Invocation) (back : List Invocation) → NoneHas j front → has_id j own ≡ true → invocation_of j (front ++ own ∷ back) ≡ Some own
+invocation_past : (j : ℤ) (front : List Invocation) (own : Invocation) (back : List Invocation) → NoneHas j front → has_id j own ≡ true
+    → invocation_of j (front ++ own ∷ back) ≡ Some own
 invocation_past j [] own back h e = ap (λ b. cond b (Some own) (invocation_of j back)) e
 invocation_past j (v ∷ front) own back h e = ap (λ b. cond b (Some v) (invocation_of j (front ++ own ∷ back))) h.0 ∙ invocation_past j front own back h.1 e
 
-stands_at : (j : ℤ) (vs : List Invocation) (place : ℕ) (v : Invocation) → position (has_id j) vs ≡ Some place → v ≡ get_or vs place v → invocation_of j vs ≡ Some v
+stands_at : (j : ℤ) (vs : List Invocation) (place : ℕ) (v : Invocation) → position (has_id j) vs ≡ Some place → v ≡ get_or vs place v
+    → invocation_of j vs ≡ Some v
 stands_at j vs place v e is =
     let p = parts_of j vs place e in
     ap (invocation_of j) p.whole ∙ invocation_past j p.front p.own p.back p.others p.same
-    ∙ ap (λ u. Some u) (sym (is ∙ ap (λ us. get_or us place v) p.whole ∙ ap (λ n. get_or (p.front ++ p.own ∷ p.back) n v) (sym p.at) ∙ get_at p.front p.own p.back v))
+    ∙ ap (λ u. Some u) (sym (is ∙ ap (λ us. get_or us place v) p.whole ∙ ap (λ n. get_or (p.front ++ p.own ∷ p.back) n v) (sym p.at)
+    ∙ get_at p.front p.own p.back v))
 
 not_greater : (a b : Timer) → (timer_cmp b a ≡ Less → ⊥) → is_gt (timer_cmp a b) ≡ false
 not_greater a b h = by (timer_cmp a b) refl
@@ -55,7 +58,8 @@ not_greater a b h = by (timer_cmp a b) refl
     by Greater e = absurd (h (timer_total.antisymm b a ∙ ap ordering_reverse e))
 
 pub is_next : (lists : InvocationLists) (d : DeadlineMap) (now : ℕ) → HaveDeadlines lists d → (t : ℕ) (i : List ℕ) (j : ℤ) → IsLeastDue d now (timer_of t i j)
-    → (vs : List Invocation) → vs ≡ invocations_at lists i → (place : ℕ) → position (has_id j) vs ≡ Some place → (v : Invocation) → v ≡ get_or vs place v → (was : Was) → v.was ≡ was → IsNext lists now i j was
+    → (vs : List Invocation) → vs ≡ invocations_at lists i → (place : ℕ) → position (has_id j) vs ≡ Some place → (v : Invocation) → v ≡ get_or vs place v
+    → (was : Was) → v.was ≡ was → IsNext lists now i j was
 is_next lists d now have t i j least vs is place found v read was state =
     let stands : invocation_of j (invocations_at lists i) ≡ Some v = ap (invocation_of j) (sym is) ∙ stands_at j vs place v found read in
     let deadline : Some v.deadline ≡ Some t = sym (have (record { id = i; invoke = j }) ∙ ap deadline_one stands) ∙ least.set in
@@ -66,7 +70,8 @@ is_next lists d now have t i j least vs is place found v read was state =
       state = state;
       least = λ i' j' v' other.
           subst (λ n. is_gt (triple_cmp n i j v'.deadline i' j') ≡ false) (sym same)
-          (not_greater (timer_of t i j) (timer_of v'.deadline i' j') (least.least (timer_of v'.deadline i' j') (have (record { id = i'; invoke = j' }) ∙ ap deadline_one other.stands)));
+          (not_greater (timer_of t i j) (timer_of v'.deadline i' j') (least.least (timer_of v'.deadline i' j') (have (record { id = i'; invoke = j' })
+          ∙ ap deadline_one other.stands)));
     }
 
 -- the invocation that times out is Idle
@@ -100,13 +105,16 @@ times_out : (was : Was) (t now : ℕ) → invocation (Some (was, t)) TimesOut no
 times_out OperationSent t now = refl
 times_out WaitForReject t now = refl
 
-pub expires : (old new : InvocationLists) (now : ℕ) (i : List ℕ) (j : ℤ) (was : Was) → IsNext old now i j was → AreRising (invocations_at old i) → new ≡ put_list old i (without j (invocations_at old i))
+pub expires : (old new : InvocationLists) (now : ℕ) (i : List ℕ) (j : ℤ) (was : Was) → IsNext old now i j was → AreRising (invocations_at old i)
+    → new ≡ put_list old i (without j (invocations_at old i))
     → Expires old new now i j was
 expires old new now i j was next rising after =
     let stood : standing_of j (invocations_at old i) ≡ Some (next.own.was, next.own.deadline) =
     standing_is j (invocations_at old i) ∙ ap (λ o. option_map (λ (v : Invocation). (v.was, v.deadline)) o) next.due.stands in
     let gone : standing_of j (invocations_at new i) ≡ None =
-    ap (λ (l : InvocationLists). standing_of j (invocations_at l i)) after ∙ ap (standing_of j) (at-put_list old i (without j (invocations_at old i)) i ∙ ap (λ b. cond b (without j (invocations_at old i)) (invocations_at old i)) (own_id i))
+    ap (λ (l : InvocationLists). standing_of j (invocations_at l i)) after
+    ∙ ap (standing_of j) (at-put_list old i (without j (invocations_at old i)) i
+    ∙ ap (λ b. cond b (without j (invocations_at old i)) (invocations_at old i)) (own_id i))
     ∙ standing_gone j (invocations_at old i) (rising_map (invocations_at old i) rising) in
     record {
       next = next;

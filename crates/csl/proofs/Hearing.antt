@@ -15,7 +15,8 @@ use Rattle.csl.specs.Seen.{heard}
 use Rattle.csl.specs.Effects.{linked_now, reject_now}
 
 -- the invariant of a loop over components, after the earlier ones
-pub record AreHeard {P : Type 0} (now : ℕ) (offer : Offer) (vs : List Invocation) (earlier : List (ComponentOf P)) (list : List Invocation) (rejects : List Rejection) (failed : Bool) : Type 0 where
+pub record AreHeard {P : Type 0} (now : ℕ) (offer : Offer) (vs : List Invocation) (earlier : List (ComponentOf P)) (list : List Invocation)
+    (rejects : List Rejection) (failed : Bool) : Type 0 where
   pub moved : list ≡ invocations_after now earlier vs
   pub rejected : rejects ≡ rejects_after offer vs [] earlier
   pub has_failed : failed ≡ any_failed earlier vs
@@ -77,11 +78,13 @@ module _ {P : Type 0} where
   start_is offer vs (suc i) (c ∷ cs) l id = ap (λ b. not b && is_id (started_by offer vs c) id) (suc_not_zero i)
 
 -- one more
-pub one_heard : {P : Type 0} (now : ℕ) (offer : Offer) (vs : List Invocation) (xs : List (code.Component P)) (i : ℕ) (x : code.Component P) (list : List Invocation) (rejects : List Rejection) (failed : Bool)
+pub one_heard : {P : Type 0} (now : ℕ) (offer : Offer) (vs : List Invocation) (xs : List (code.Component P)) (i : ℕ) (x : code.Component P)
+    (list : List Invocation) (rejects : List Rejection) (failed : Bool)
     → AreHeard now offer vs (map heard (take i xs)) list rejects failed → AreRising vs → i < length xs → x ≡ get_or xs i x
     → (started : Option ℤ) → started ≡ starts offer vs (map heard xs)
     → (list' : List Invocation) (rejects' : List Rejection) (failed' : Bool)
-    → list' ≡ invocations_after now (heard x ∷ []) list → rejects' ≡ rejects ++ reject_now offer list started (nat_eq i 0) (heard x) → failed' ≡ failed || any_failed (heard x ∷ []) list
+    → list' ≡ invocations_after now (heard x ∷ []) list → rejects' ≡ rejects ++ reject_now offer list started (nat_eq i 0) (heard x)
+    → failed' ≡ failed || any_failed (heard x ∷ []) list
     → AreHeard now offer vs (map heard (take (i + 1) xs)) list' rejects' failed'
 one_heard {P} now offer vs xs i x list rejects failed h rising l at started is_started list' rejects' failed' new_list new_rejects new_failed =
     let earlier : List (ComponentOf P) = map heard (take i xs) in
@@ -94,18 +97,23 @@ one_heard {P} now offer vs xs i x list rejects failed h rising l at started is_s
     (λ id. ap (λ s. not (nat_eq i 0) && is_id s id) is_started ∙ start_is offer vs i (map heard xs) count id ∙ ap (λ cs. is_id (starts offer vs cs) id) cut)
     (first_is i (map heard xs) count ∙ ap is_empty cut) (heard x) in
     record {
-      moved = new_list ∙ ap (invocations_after now (heard x ∷ [])) h.moved ∙ sym (ap (λ cs. invocations_after now cs vs) more ∙ invocations_more now earlier (heard x ∷ []) vs);
-      rejected = new_rejects ∙ ap (λ rs. rs ++ reject_now offer list started (nat_eq i 0) (heard x)) h.rejected ∙ ap (λ rs. rejects_after offer vs [] earlier ++ rs) same
+      moved = new_list ∙ ap (invocations_after now (heard x ∷ [])) h.moved
+          ∙ sym (ap (λ cs. invocations_after now cs vs) more ∙ invocations_more now earlier (heard x ∷ []) vs);
+      rejected = new_rejects ∙ ap (λ rs. rs ++ reject_now offer list started (nat_eq i 0) (heard x)) h.rejected
+          ∙ ap (λ rs. rejects_after offer vs [] earlier ++ rs) same
           ∙ sym (ap (rejects_after offer vs []) more ∙ rejects_more offer vs [] earlier (heard x));
-      has_failed = new_failed ∙ ap (λ b. b || any_failed (heard x ∷ []) list) h.has_failed ∙ ap (λ us. any_failed earlier vs || any_failed (heard x ∷ []) us) h.moved
+      has_failed = new_failed ∙ ap (λ b. b || any_failed (heard x ∷ []) list) h.has_failed
+          ∙ ap (λ us. any_failed earlier vs || any_failed (heard x ∷ []) us) h.moved
           ∙ sym (ap (λ cs. any_failed cs vs) more ∙ failed_more now earlier (heard x ∷ []) vs);
     }
 
-pub rejections_push : (rs : List codec.Rejection) (o : Option codec.Rejection) → map rejection (rs ++ option_to_list o) ≡ map rejection rs ++ option_to_list (option_map rejection o)
+pub rejections_push : (rs : List codec.Rejection) (o : Option codec.Rejection)
+    → map rejection (rs ++ option_to_list o) ≡ map rejection rs ++ option_to_list (option_map rejection o)
 rejections_push rs None = map-append rejection rs []
 rejections_push rs (Some r) = map-append rejection rs (r ∷ [])
 
-pub all_heard : {P : Type 0} (now : ℕ) (offer : Offer) (vs : List Invocation) (xs : List (code.Component P)) (i : ℕ) (list : List Invocation) (rejects : List Rejection) (failed : Bool)
+pub all_heard : {P : Type 0} (now : ℕ) (offer : Offer) (vs : List Invocation) (xs : List (code.Component P)) (i : ℕ) (list : List Invocation)
+    (rejects : List Rejection) (failed : Bool)
     → AreHeard now offer vs (map heard (take i xs)) list rejects failed → length xs ≤ i → AreHeard now offer vs (map heard xs) list rejects failed
 all_heard now offer vs xs i list rejects failed h l = subst (λ ys. AreHeard now offer vs (map heard ys) list rejects failed) (take_all i xs l) h
 
@@ -113,4 +121,5 @@ all_heard now offer vs xs i list rejects failed h l = subst (λ ys. AreHeard now
 pub after_one : {P : Type 0} (now : ℕ) (vs : List Invocation) (xs : List (code.Component P)) (i : ℕ) (x : code.Component P) → i < length xs → x ≡ get_or xs i x
     → invocations_after now (heard x ∷ []) (invocations_after now (map heard (take i xs)) vs) ≡ invocations_after now (map heard (take (i + 1) xs)) vs
 after_one now vs xs i x l at =
-    sym (ap (λ cs. invocations_after now cs vs) (map_more heard xs i x l ∙ ap (λ y. map heard (take i xs) ++ heard y ∷ []) (sym at)) ∙ invocations_more now (map heard (take i xs)) (heard x ∷ []) vs)
+    sym (ap (λ cs. invocations_after now cs vs) (map_more heard xs i x l ∙ ap (λ y. map heard (take i xs) ++ heard y ∷ []) (sym at))
+    ∙ invocations_more now (map heard (take i xs)) (heard x ∷ []) vs)

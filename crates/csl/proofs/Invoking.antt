@@ -67,7 +67,8 @@ other_less a b l e = by (int_lt b a) refl e
   where
     by : (c : Bool) → int_lt b a ≡ c → is_eq (cond (int_lt b a) Less (cond (int_lt a b) Greater Equal)) ≡ false → b <ℤ a
     by true q n = less b a q
-    by false q n = let same : true ≡ false = sym (ap (λ d. is_eq (cond d Less (cond (int_lt a b) Greater Equal))) q ∙ ap (λ d. is_eq (cond d Greater Equal)) l) ∙ n in cc
+    by false q n = let same : true ≡ false = sym (ap (λ d. is_eq (cond d Less (cond (int_lt a b) Greater Equal))) q ∙ ap (λ d. is_eq (cond d Greater Equal)) l)
+        ∙ n in cc
 
 less_less : (a b c : ℤ) → a <ℤ b → b <ℤ c → a <ℤ c
 less_less a b c h k = omega (arith, ints, h, k)
@@ -77,5 +78,12 @@ rising_with_one own [] r h = (tt, tt)
 rising_with_one own (v ∷ vs) r h = by (int_lt own.id v.id) refl (rising_with_one own vs r.1 h.1)
   where
     by : (b : Bool) → int_lt own.id v.id ≡ b → AreRising (with_one own vs) → AreRising (cond b (own ∷ v ∷ vs) (v ∷ with_one own vs))
-    by true l rest = ((less own.id v.id l, every_one (λ u. v.id <ℤ u.id) (λ u. own.id <ℤ u.id) (λ u k. less_less own.id v.id u.id (less own.id v.id l) k) vs r.0), r)
+    by true l rest = (
+      (
+        less own.id v.id l,
+        every_one (λ u. v.id <ℤ u.id) (λ u. own.id <ℤ u.id)
+            (λ u k. less_less own.id v.id u.id (less own.id v.id l) k) vs r.0,
+      ),
+      r,
+    )
     by false l rest = (every_with_one (λ u. v.id <ℤ u.id) own vs (other_less own.id v.id l h.0) r.0, rest)

@@ -33,7 +33,8 @@ module _ {A B : Type 0} (f : A → B) where
 
   concluding_same : (j : ℤ) (cs : List (ComponentOf A)) → concluding j (map with_parameter cs) ≡ option_map with_parameter (concluding j cs)
   concluding_same j [] = refl
-  concluding_same j (c ∷ cs) = ap (λ b. cond b (Some (with_parameter c)) (concluding j (map with_parameter cs))) (concludes_same j c) ∙ by (concludes j c) (concluding_same j cs)
+  concluding_same j (c ∷ cs) = ap (λ b. cond b (Some (with_parameter c)) (concluding j (map with_parameter cs))) (concludes_same j c)
+      ∙ by (concludes j c) (concluding_same j cs)
     where
       by : (b : Bool) → concluding j (map with_parameter cs) ≡ option_map with_parameter (concluding j cs)
           → cond b (Some (with_parameter c)) (concluding j (map with_parameter cs)) ≡ option_map with_parameter (cond b (Some c) (concluding j cs))
@@ -65,11 +66,13 @@ module _ {A B : Type 0} (f : A → B) where
   is_some_same (Some c) = refl
 
   concluded_same : (now : ℕ) (cs : List (ComponentOf A)) (v : Invocation) → concluded now (map with_parameter cs) v ≡ concluded now cs v
-  concluded_same now cs v = ap (λ us. cond (is_sent v.was) us (v ∷ [])) (ap (concluded_by now v) (concluding_same v.id cs) ∙ concluded_by_same now v (concluding v.id cs))
+  concluded_same now cs v = ap (λ us. cond (is_sent v.was) us (v ∷ []))
+      (ap (concluded_by now v) (concluding_same v.id cs) ∙ concluded_by_same now v (concluding v.id cs))
 
   after_same : (now : ℕ) (cs : List (ComponentOf A)) (vs : List Invocation) → invocations_after now (map with_parameter cs) vs ≡ invocations_after now cs vs
   after_same now cs [] = refl
-  after_same now cs (v ∷ vs) = ap (λ us. us ++ invocations_after now (map with_parameter cs) vs) (concluded_same now cs v) ∙ ap (λ us. concluded now cs v ++ us) (after_same now cs vs)
+  after_same now cs (v ∷ vs) = ap (λ us. us ++ invocations_after now (map with_parameter cs) vs) (concluded_same now cs v)
+      ∙ ap (λ us. concluded now cs v ++ us) (after_same now cs vs)
 
   any_failed_same : (cs : List (ComponentOf A)) (vs : List Invocation) → any_failed (map with_parameter cs) vs ≡ any_failed cs vs
   any_failed_same cs [] = refl
@@ -81,7 +84,8 @@ module _ {A B : Type 0} (f : A → B) where
   open_same : (vs : List Invocation) (earlier : List (ComponentOf A)) (j : ℤ) → open_at vs (map with_parameter earlier) j ≡ open_at vs earlier j
   open_same vs earlier j = ap (λ b. in_sent j vs && not b) (ap is_some (concluding_same j earlier) ∙ is_some_same (concluding j earlier))
 
-  linked_same : (vs : List Invocation) (earlier : List (ComponentOf A)) (linked : Option ℤ) → linked_to vs (map with_parameter earlier) linked ≡ linked_to vs earlier linked
+  linked_same : (vs : List Invocation) (earlier : List (ComponentOf A)) (linked : Option ℤ)
+      → linked_to vs (map with_parameter earlier) linked ≡ linked_to vs earlier linked
   linked_same vs earlier None = refl
   linked_same vs earlier (Some id) = ap (λ b. Some b) (open_same vs earlier id)
 
@@ -103,10 +107,13 @@ module _ {A B : Type 0} (f : A → B) where
   is_empty_same [] = refl
   is_empty_same (c ∷ cs) = refl
 
-  reject_same : (offer : Offer) (vs : List Invocation) (earlier : List (ComponentOf A)) (c : ComponentOf A) → reject_of offer vs (map with_parameter earlier) (with_parameter c) ≡ reject_of offer vs earlier c
+  reject_same : (offer : Offer) (vs : List Invocation) (earlier : List (ComponentOf A)) (c : ComponentOf A)
+      → reject_of offer vs (map with_parameter earlier) (with_parameter c) ≡ reject_of offer vs earlier c
   reject_same offer vs earlier (Invoke id linked operation p) =
-      ap (λ s. reject_invoke id (problem_of offer (is_id offer.open_id id || is_id s id) (linked_to vs (map with_parameter earlier) linked) operation (is_empty (map with_parameter earlier)))) (starts_same offer vs earlier)
-      ∙ ap (λ l. reject_invoke id (problem_of offer (is_open_id offer vs earlier id) l operation (is_empty (map with_parameter earlier)))) (linked_same vs earlier linked)
+      ap (λ s. reject_invoke id (problem_of offer (is_id offer.open_id id || is_id s id) (linked_to vs (map with_parameter earlier) linked) operation
+      (is_empty (map with_parameter earlier)))) (starts_same offer vs earlier)
+      ∙ ap (λ l. reject_invoke id (problem_of offer (is_open_id offer vs earlier id) l operation (is_empty (map with_parameter earlier))))
+      (linked_same vs earlier linked)
       ∙ ap (λ b. reject_invoke id (problem_of offer (is_open_id offer vs earlier id) (linked_to vs earlier linked) operation b)) (is_empty_same earlier)
   reject_same offer vs earlier (ResultLast id) = ap (reject_answer id OfResult) (open_same vs earlier id)
   reject_same offer vs earlier (ResultNotLast id) = ap (reject_answer id OfResult) (open_same vs earlier id)
@@ -115,14 +122,16 @@ module _ {A B : Type 0} (f : A → B) where
   reject_same offer vs earlier (Bad id problem) = refl
   reject_same offer vs earlier Ignored = refl
 
-  rejects_same : (offer : Offer) (vs : List Invocation) (earlier cs : List (ComponentOf A)) → rejects_after offer vs (map with_parameter earlier) (map with_parameter cs) ≡ rejects_after offer vs earlier cs
+  rejects_same : (offer : Offer) (vs : List Invocation) (earlier cs : List (ComponentOf A))
+      → rejects_after offer vs (map with_parameter earlier) (map with_parameter cs) ≡ rejects_after offer vs earlier cs
   rejects_same offer vs earlier [] = refl
   rejects_same offer vs earlier (c ∷ cs) =
       ap (λ rs. rs ++ rejects_after offer vs (map with_parameter earlier ++ with_parameter c ∷ []) (map with_parameter cs)) (reject_same offer vs earlier c)
       ∙ ap (λ es. reject_of offer vs earlier c ++ rejects_after offer vs es (map with_parameter cs)) (sym (map-append with_parameter earlier (c ∷ [])))
       ∙ ap (λ rs. reject_of offer vs earlier c ++ rs) (rejects_same offer vs (earlier ++ c ∷ []) cs)
 
-  pub effect_same : (now : ℕ) (offer : Offer) (vs : List Invocation) (cs : List (ComponentOf A)) → effect now offer vs (map with_parameter cs) ≡ effect now offer vs cs
+  pub effect_same : (now : ℕ) (offer : Offer) (vs : List Invocation) (cs : List (ComponentOf A))
+      → effect now offer vs (map with_parameter cs) ≡ effect now offer vs cs
   unfolding effect
   effect_same now offer vs cs = λ i. record {
     rejects = rejects_same offer vs [] cs i;
@@ -145,8 +154,10 @@ module _ {A B : Type 0} (f : A → B) where
   all_heard_as [] = refl
   all_heard_as (c ∷ cs) = λ i. heard_as c i ∷ all_heard_as cs i
 
-  pub parameters_have_no_effect : (now : ℕ) (offer : Offer) (vs : List Invocation) (cs : List (type.Component A)) → effect now offer vs (map (component f) cs) ≡ effect now offer vs (map heard cs)
+  pub parameters_have_no_effect : (now : ℕ) (offer : Offer) (vs : List Invocation) (cs : List (type.Component A))
+      → effect now offer vs (map (component f) cs) ≡ effect now offer vs (map heard cs)
   parameters_have_no_effect now offer vs cs = ap (effect now offer vs) (all_heard_as cs) ∙ effect_same now offer vs (map heard cs)
 
-  pub parameters_move_nothing : (now : ℕ) (vs : List Invocation) (cs : List (type.Component A)) → invocations_after now (map (component f) cs) vs ≡ invocations_after now (map heard cs) vs
+  pub parameters_move_nothing : (now : ℕ) (vs : List Invocation) (cs : List (type.Component A))
+      → invocations_after now (map (component f) cs) vs ≡ invocations_after now (map heard cs) vs
   parameters_move_nothing now vs cs = ap (λ es. invocations_after now es vs) (all_heard_as cs) ∙ after_same now (map heard cs) vs

@@ -30,11 +30,21 @@ parts_from id [] h = absurd (omega arith)
 parts_from id (v ∷ vs) h = by (has_id id v) refl h (λ l. parts_from id vs l)
   where
     by : (b : Bool) → has_id id v ≡ b → cond (not b) (1 + position_or_len (has_id id) vs) 0 < length (v ∷ vs)
-        → (position_or_len (has_id id) vs < length vs → Parts id vs (position_or_len (has_id id) vs)) → Parts id (v ∷ vs) (cond (not b) (1 + position_or_len (has_id id) vs) 0)
+        → (position_or_len (has_id id) vs < length vs → Parts id vs (position_or_len (has_id id) vs))
+        → Parts id (v ∷ vs) (cond (not b) (1 + position_or_len (has_id id) vs) 0)
     by true e l rest = record { front = []; own = v; back = vs; whole = refl; at = refl; same = e; others = tt }
     by false e l rest =
         let p = rest (omega arith) in
-        record { front = v ∷ p.front; own = p.own; back = p.back; whole = ap (λ us. v ∷ us) p.whole; at = omega (arith, p.at); same = p.same; others = (e, p.others) }
+        record {
+          front = v ∷ p.front;
+          own = p.own;
+          back = p.back;
+          whole = ap (λ us. v ∷ us) p.whole;
+          at = omega (arith, p.at);
+          same = p.same;
+          others =
+              (e, p.others);
+        }
 
 none_from : (id : ℤ) (vs : List Invocation) → (position_or_len (has_id id) vs < length vs → ⊥) → NoneHas id vs
 none_from id [] h = tt
@@ -49,7 +59,8 @@ none_from id (v ∷ vs) h = by (has_id id v) refl h (λ l. none_from id vs l)
 pub parts_of : (id : ℤ) (vs : List Invocation) (place : ℕ) → position (has_id id) vs ≡ Some place → Parts id vs place
 parts_of id vs place e = by (nat_lt (position_or_len (has_id id) vs) (length vs)) refl e
   where
-    by : (b : Bool) → nat_lt (position_or_len (has_id id) vs) (length vs) ≡ b → cond b (Some (position_or_len (has_id id) vs)) None ≡ Some place → Parts id vs place
+    by : (b : Bool) → nat_lt (position_or_len (has_id id) vs) (length vs) ≡ b → cond b (Some (position_or_len (has_id id) vs)) None ≡ Some place
+        → Parts id vs place
     by true l s = let at : position_or_len (has_id id) vs ≡ place = cc in subst (Parts id vs) at (parts_from id vs (ltb_yes (subst T (sym l) tt)))
     by false l s = cc
 
@@ -66,7 +77,8 @@ pub get_at : (front : List Invocation) (own : Invocation) (back : List Invocatio
 get_at [] own back d = refl
 get_at (v ∷ front) own back d = get_at front own back d
 
-pub set_at : (front : List Invocation) (own : Invocation) (back : List Invocation) (v : Invocation) → set (front ++ own ∷ back) (length front) v ≡ front ++ v ∷ back
+pub set_at : (front : List Invocation) (own : Invocation) (back : List Invocation) (v : Invocation)
+    → set (front ++ own ∷ back) (length front) v ≡ front ++ v ∷ back
 set_at [] own back v = refl
 set_at (u ∷ front) own back v = ap (λ us. u ∷ us) (set_at front own back v)
 
@@ -83,11 +95,13 @@ in_sent_past : (id : ℤ) (front back : List Invocation) → NoneHas id front �
 in_sent_past id [] back h = refl
 in_sent_past id (v ∷ front) back h = ap (λ b. cond b (is_sent v.was) (in_sent id (front ++ back))) h.0 ∙ in_sent_past id front back h.1
 
-pub in_sent_at : (id : ℤ) (vs : List Invocation) (place : ℕ) (v : Invocation) → position (has_id id) vs ≡ Some place → v ≡ get_or vs place v → in_sent id vs ≡ is_sent v.was
+pub in_sent_at : (id : ℤ) (vs : List Invocation) (place : ℕ) (v : Invocation) → position (has_id id) vs ≡ Some place → v ≡ get_or vs place v
+    → in_sent id vs ≡ is_sent v.was
 in_sent_at id vs place v e is =
     let p = parts_of id vs place e in
     ap (in_sent id) p.whole ∙ in_sent_past id p.front (p.own ∷ p.back) p.others ∙ ap (λ b. cond b (is_sent p.own.was) (in_sent id p.back)) p.same
-    ∙ sym (ap (λ (u : Invocation). is_sent u.was) (is ∙ ap (λ us. get_or us place v) p.whole ∙ ap (λ n. get_or (p.front ++ p.own ∷ p.back) n v) (sym p.at) ∙ get_at p.front p.own p.back v))
+    ∙ sym (ap (λ (u : Invocation). is_sent u.was) (is ∙ ap (λ us. get_or us place v) p.whole ∙ ap (λ n. get_or (p.front ++ p.own ∷ p.back) n v) (sym p.at)
+    ∙ get_at p.front p.own p.back v))
 
 pub any_sent_is : (vs : List Invocation) → any_sent vs ≡ list_any (λ (v : Invocation). is_sent v.was) vs
 any_sent_is [] = refl
@@ -113,22 +127,26 @@ above_all own (v ∷ vs) = by (is_above own v) (above_all own vs)
 first_above : (own : Invocation) (vs : List Invocation) → unwrap_or (position (is_above own) vs) (length vs) ≡ position_or_len (is_above own) vs
 first_above own vs = by (nat_lt (position_or_len (is_above own) vs) (length vs)) refl
   where
-    by : (b : Bool) → nat_lt (position_or_len (is_above own) vs) (length vs) ≡ b → unwrap_or (cond b (Some (position_or_len (is_above own) vs)) None) (length vs) ≡ position_or_len (is_above own) vs
+    by : (b : Bool) → nat_lt (position_or_len (is_above own) vs) (length vs) ≡ b
+        → unwrap_or (cond b (Some (position_or_len (is_above own) vs)) None) (length vs) ≡ position_or_len (is_above own) vs
     by true e = refl
     by false e =
         let not_below : position_or_len (is_above own) vs < length vs → ⊥ = λ l. subst T e (yes_ltb l) in
         omega (arith, above_all own vs, not_below)
 
-put_above : (own : Invocation) (vs : List Invocation) → take (position_or_len (is_above own) vs) vs ++ own ∷ drop (position_or_len (is_above own) vs) vs ≡ with_one own vs
+put_above : (own : Invocation) (vs : List Invocation) → take (position_or_len (is_above own) vs) vs ++ own ∷ drop (position_or_len (is_above own) vs) vs
+    ≡ with_one own vs
 put_above own [] = refl
 put_above own (v ∷ vs) = by (is_above own v) (put_above own vs)
   where
     by : (b : Bool) → take (position_or_len (is_above own) vs) vs ++ own ∷ drop (position_or_len (is_above own) vs) vs ≡ with_one own vs
-        → take (cond (not b) (1 + position_or_len (is_above own) vs) 0) (v ∷ vs) ++ own ∷ drop (cond (not b) (1 + position_or_len (is_above own) vs) 0) (v ∷ vs) ≡ cond b (own ∷ v ∷ vs) (v ∷ with_one own vs)
+        → take (cond (not b) (1 + position_or_len (is_above own) vs) 0) (v ∷ vs) ++ own ∷ drop (cond (not b) (1 + position_or_len (is_above own) vs) 0) (v ∷ vs)
+        ≡ cond b (own ∷ v ∷ vs) (v ∷ with_one own vs)
     by true h = refl
     by false h =
         let more : 1 + position_or_len (is_above own) vs ≡ suc (position_or_len (is_above own) vs) = omega arith in
         ap (λ n. take n (v ∷ vs) ++ own ∷ drop n (v ∷ vs)) more ∙ ap (λ us. v ∷ us) h
 
-pub with_one_at : (own : Invocation) (vs : List Invocation) (n : ℕ) → n ≡ unwrap_or (position (is_above own) vs) (length vs) → take n vs ++ own ∷ drop n vs ≡ with_one own vs
+pub with_one_at : (own : Invocation) (vs : List Invocation) (n : ℕ) → n ≡ unwrap_or (position (is_above own) vs) (length vs)
+    → take n vs ++ own ∷ drop n vs ≡ with_one own vs
 with_one_at own vs n e = ap (λ m. take m vs ++ own ∷ drop m vs) (e ∙ first_above own vs) ∙ put_above own vs

@@ -31,11 +31,14 @@ abbrev pub stored_list : List Invocation → Option (List Invocation)
 stored_list [] = None
 stored_list (v ∷ vs) = Some (v ∷ vs)
 
-pub get-put_list : (lists : InvocationLists) (id : List ℕ) (vs : List Invocation) (q : List ℕ) → finite.get (put_list lists id vs) q ≡ cond (is_its id q) (stored_list vs) (finite.get lists q)
+pub get-put_list : (lists : InvocationLists) (id : List ℕ) (vs : List Invocation) (q : List ℕ)
+    → finite.get (put_list lists id vs) q ≡ cond (is_its id q) (stored_list vs) (finite.get lists q)
 get-put_list lists id [] q = finite.get-remove octets_total lists id q ∙ ap (λ b. cond b None (finite.get lists q)) ((eq_by_cmp_equiv octets_total).symm q id)
-get-put_list lists id (v ∷ vs) q = finite.get-insert octets_total lists id (v ∷ vs) q ∙ ap (λ b. cond b (Some (v ∷ vs)) (finite.get lists q)) ((eq_by_cmp_equiv octets_total).symm q id)
+get-put_list lists id (v ∷ vs) q = finite.get-insert octets_total lists id (v ∷ vs) q
+    ∙ ap (λ b. cond b (Some (v ∷ vs)) (finite.get lists q)) ((eq_by_cmp_equiv octets_total).symm q id)
 
-pub is_put : (lists new : InvocationLists) (id : List ℕ) (vs : List Invocation) → ((q : List ℕ) → finite.get new q ≡ cond (is_its id q) (stored_list vs) (finite.get lists q)) → new ≡ put_list lists id vs
+pub is_put : (lists new : InvocationLists) (id : List ℕ) (vs : List Invocation)
+    → ((q : List ℕ) → finite.get new q ≡ cond (is_its id q) (stored_list vs) (finite.get lists q)) → new ≡ put_list lists id vs
 is_put lists new id vs h = finite.same_map octets_total octets_exact new (put_list lists id vs) (λ q. h q ∙ sym (get-put_list lists id vs q))
 
 -- what is stored
@@ -71,7 +74,8 @@ stored_put lists id vs s r q = subst (λ o. IfSome o IsStored) (sym (get-put_lis
 pub stored_none : AreStored finite.empty
 stored_none q = subst (λ o. IfSome o IsStored) (sym (finite.get-empty octets_cmp q)) tt
 
-pub at-put_list : (lists : InvocationLists) (id : List ℕ) (vs : List Invocation) (q : List ℕ) → invocations_at (put_list lists id vs) q ≡ cond (is_its id q) vs (invocations_at lists q)
+pub at-put_list : (lists : InvocationLists) (id : List ℕ) (vs : List Invocation) (q : List ℕ)
+    → invocations_at (put_list lists id vs) q ≡ cond (is_its id q) vs (invocations_at lists q)
 at-put_list lists id vs q = ap list_in (get-put_list lists id vs q) ∙ by (is_its id q) vs
   where
     by : (b : Bool) (us : List Invocation) → list_in (cond b (stored_list us) (finite.get lists q)) ≡ cond b us (invocations_at lists q)
@@ -98,7 +102,8 @@ module _ {A : Type 0} where
 
   -- a list is written or removed
   pub is_written : (m n : tree.BTreeMap (List ℕ) (Vec Invocation A)) (id : List ℕ) (w : Option (Vec Invocation A)) (vs : List Invocation)
-      → ((q : List ℕ) → tree.get octets_cmp n q ≡ cond (is_its id q) w (tree.get octets_cmp m q)) → items_in w ≡ stored_list vs → lists_of n ≡ put_list (lists_of m) id vs
+      → ((q : List ℕ) → tree.get octets_cmp n q ≡ cond (is_its id q) w (tree.get octets_cmp m q)) → items_in w ≡ stored_list vs
+      → lists_of n ≡ put_list (lists_of m) id vs
   is_written m n id w vs h e = is_put (lists_of m) (lists_of n) id vs (λ q. get_lists n q ∙ ap items_in (h q) ∙ by (is_its id q) q)
     where
       by : (b : Bool) (q : List ℕ) → items_in (cond b w (tree.get octets_cmp m q)) ≡ cond b (stored_list vs) (finite.get (lists_of m) q)
@@ -106,36 +111,44 @@ module _ {A : Type 0} where
       by false q = sym (get_lists m q)
 
   -- the result of a look-up
-  pub list_got : (m : tree.BTreeMap (List ℕ) (Vec Invocation A)) (lists : InvocationLists) (id : List ℕ) (o : Option (Vec Invocation A)) → o ≡ tree.get octets_cmp m id → lists_of m ≡ lists
+  pub list_got : (m : tree.BTreeMap (List ℕ) (Vec Invocation A)) (lists : InvocationLists) (id : List ℕ) (o : Option (Vec Invocation A))
+      → o ≡ tree.get octets_cmp m id → lists_of m ≡ lists
       → list_in (items_in o) ≡ invocations_at lists id
   list_got m lists id o e view = ap (λ r. list_in (items_in r)) e ∙ ap list_in (sym (get_lists m id)) ∙ ap (λ (l : InvocationLists). invocations_at l id) view
 
-  pub was_removed : (m : tree.BTreeMap (List ℕ) (Vec Invocation A)) (lists : InvocationLists) (id : List ℕ) (o : Option (Vec Invocation A)) → o ≡ tree.get octets_cmp m id → lists_of m ≡ lists
+  pub was_removed : (m : tree.BTreeMap (List ℕ) (Vec Invocation A)) (lists : InvocationLists) (id : List ℕ) (o : Option (Vec Invocation A))
+      → o ≡ tree.get octets_cmp m id → lists_of m ≡ lists
       → IfSome o (λ list. list.items ≡ invocations_at lists id)
   was_removed m lists id None e view = tt
   was_removed m lists id (Some l) e view = list_got m lists id (Some l) e view
 
-  pub was_not_there : (m : tree.BTreeMap (List ℕ) (Vec Invocation A)) (lists : InvocationLists) (id : List ℕ) (o : Option (Vec Invocation A)) → o ≡ tree.get octets_cmp m id → lists_of m ≡ lists
+  pub was_not_there : (m : tree.BTreeMap (List ℕ) (Vec Invocation A)) (lists : InvocationLists) (id : List ℕ) (o : Option (Vec Invocation A))
+      → o ≡ tree.get octets_cmp m id → lists_of m ≡ lists
       → IfNone o (invocations_at lists id ≡ [])
   was_not_there m lists id None e view = sym (list_got m lists id None e view)
   was_not_there m lists id (Some l) e view = tt
 
   -- a list is written in place
-  pub through : (m n : tree.BTreeMap (List ℕ) (Vec Invocation A)) (id : List ℕ) (l w : Vec Invocation A) → Some l ≡ tree.get octets_cmp m id → tree.WritesThrough octets_cmp (octets_cmp id) m w n
+  pub through : (m n : tree.BTreeMap (List ℕ) (Vec Invocation A)) (id : List ℕ) (l w : Vec Invocation A) → Some l ≡ tree.get octets_cmp m id
+      → tree.WritesThrough octets_cmp (octets_cmp id) m w n
       → (q : List ℕ) → tree.get octets_cmp n q ≡ cond (is_its id q) (Some w) (tree.get octets_cmp m q)
   through m n id l w had h = (h.3 (subst IsSome had refl)).0
 
-  pub unwritten : (m n : tree.BTreeMap (List ℕ) (Vec Invocation A)) (id : List ℕ) (l : Vec Invocation A) → Some l ≡ tree.get octets_cmp m id → tree.WritesThrough octets_cmp (octets_cmp id) m l n → lists_of n ≡ lists_of m
-  unwritten m n id l had h = finite.same_map octets_total octets_exact (lists_of n) (lists_of m) (λ q. get_lists n q ∙ ap items_in (through m n id l l had h q ∙ by (is_its id q) q refl) ∙ sym (get_lists m q))
+  pub unwritten : (m n : tree.BTreeMap (List ℕ) (Vec Invocation A)) (id : List ℕ) (l : Vec Invocation A) → Some l ≡ tree.get octets_cmp m id
+      → tree.WritesThrough octets_cmp (octets_cmp id) m l n → lists_of n ≡ lists_of m
+  unwritten m n id l had h = finite.same_map octets_total octets_exact (lists_of n) (lists_of m)
+      (λ q. get_lists n q ∙ ap items_in (through m n id l l had h q ∙ by (is_its id q) q refl) ∙ sym (get_lists m q))
     where
       by : (b : Bool) (q : List ℕ) → is_its id q ≡ b → cond b (Some l) (tree.get octets_cmp m q) ≡ tree.get octets_cmp m q
       by true q e = had ∙ ap (tree.get octets_cmp m) (same_id id q e)
       by false q e = refl
 
   -- and removed afterwards
-  pub emptied : (m n o : tree.BTreeMap (List ℕ) (Vec Invocation A)) (id : List ℕ) (l w : Vec Invocation A) → Some l ≡ tree.get octets_cmp m id → tree.WritesThrough octets_cmp (octets_cmp id) m w n
+  pub emptied : (m n o : tree.BTreeMap (List ℕ) (Vec Invocation A)) (id : List ℕ) (l w : Vec Invocation A) → Some l ≡ tree.get octets_cmp m id
+      → tree.WritesThrough octets_cmp (octets_cmp id) m w n
       → ((q : List ℕ) → tree.get octets_cmp o q ≡ cond (is_its id q) None (tree.get octets_cmp n q)) → lists_of o ≡ put_list (lists_of m) id []
-  emptied m n o id l w had h gone = is_written m o id None [] (λ q. gone q ∙ ap (cond (is_its id q) None) (through m n id l w had h q) ∙ by (is_its id q) q) refl
+  emptied m n o id l w had h gone = is_written m o id None [] (λ q. gone q ∙ ap (cond (is_its id q) None) (through m n id l w had h q)
+      ∙ by (is_its id q) q) refl
     where
       by : (b : Bool) (q : List ℕ) → cond b None (cond b (Some w) (tree.get octets_cmp m q)) ≡ cond b None (tree.get octets_cmp m q)
       by true q = refl
@@ -174,15 +187,19 @@ without_none : (id : ℤ) (vs : List Invocation) → NoneHas id vs → vs ≡ wi
 without_none id [] h = refl
 without_none id (v ∷ vs) h = ap (λ us. v ∷ us) (without_none id vs h.1) ∙ sym (ap (λ b. cond b vs (v ∷ without id vs)) h.0)
 
-without_past : (id : ℤ) (front : List Invocation) (own : Invocation) (back : List Invocation) → NoneHas id front → has_id id own ≡ true → front ++ back ≡ without id (front ++ own ∷ back)
+without_past : (id : ℤ) (front : List Invocation) (own : Invocation) (back : List Invocation) → NoneHas id front → has_id id own ≡ true
+    → front ++ back ≡ without id (front ++ own ∷ back)
 without_past id [] own back h e = sym (ap (λ b. cond b back (own ∷ without id back)) e)
-without_past id (v ∷ front) own back h e = ap (λ us. v ∷ us) (without_past id front own back h.1 e) ∙ sym (ap (λ b. cond b (front ++ own ∷ back) (v ∷ without id (front ++ own ∷ back))) h.0)
+without_past id (v ∷ front) own back h e = ap (λ us. v ∷ us) (without_past id front own back h.1 e)
+    ∙ sym (ap (λ b. cond b (front ++ own ∷ back) (v ∷ without id (front ++ own ∷ back))) h.0)
 
 pub without_at : (id : ℤ) (vs : List Invocation) (place : ℕ) → position (has_id id) vs ≡ Some place → remove vs place ≡ without id vs
 without_at id vs place e =
     let p = parts_of id vs place e in
-    ap (λ us. remove us place) p.whole ∙ ap (remove (p.front ++ p.own ∷ p.back)) (sym p.at) ∙ remove_at p.front p.own p.back ∙ without_past id p.front p.own p.back p.others p.same ∙ ap (without id) (sym p.whole)
+    ap (λ us. remove us place) p.whole ∙ ap (remove (p.front ++ p.own ∷ p.back)) (sym p.at) ∙ remove_at p.front p.own p.back
+    ∙ without_past id p.front p.own p.back p.others p.same ∙ ap (without id) (sym p.whole)
 
 -- if it is not there, nothing changes
-pub put_without_none : (lists : InvocationLists) (id : List ℕ) (invoke : ℤ) → AreStored lists → NoneHas invoke (invocations_at lists id) → lists ≡ put_list lists id (without invoke (invocations_at lists id))
+pub put_without_none : (lists : InvocationLists) (id : List ℕ) (invoke : ℤ) → AreStored lists → NoneHas invoke (invocations_at lists id)
+    → lists ≡ put_list lists id (without invoke (invocations_at lists id))
 put_without_none lists id invoke s h = put_same lists id s ∙ ap (put_list lists id) (without_none invoke (invocations_at lists id) h)

@@ -31,7 +31,8 @@ has_is : (j : ℤ) (vs : List Invocation) → has_one j vs ≡ is_some (deadline
 has_is j [] = refl
 has_is j (v ∷ vs) = by (has_id j v) (has_is j vs)
   where
-    by : (b : Bool) → has_one j vs ≡ is_some (deadline_in j vs) → (b || has_one j vs) ≡ is_some (option_map (λ (u : Invocation). u.deadline) (cond b (Some v) (invocation_of j vs)))
+    by : (b : Bool) → has_one j vs ≡ is_some (deadline_in j vs) → (b || has_one j vs)
+        ≡ is_some (option_map (λ (u : Invocation). u.deadline) (cond b (Some v) (invocation_of j vs)))
     by true h = refl
     by false h = h
 
@@ -45,36 +46,45 @@ after_own : (id : List ℕ) (vs : List Invocation) (k : due.Invocation) (before 
 after_own id [] k before m its = refl
 after_own id (v ∷ vs) k before m its =
     after_own id vs k (cond (is_invocation (timer_at id v).invocation k) (Some v.deadline) before) m.1 its
-    ∙ ap (λ b. first_of (deadline_in k.invoke vs) (cond b (Some v.deadline) before)) (is_own id v k ∙ ap (λ b. b && int_eq v.id k.invoke) its) ∙ by (int_eq v.id k.invoke) refl
+    ∙ ap (λ b. first_of (deadline_in k.invoke vs) (cond b (Some v.deadline) before)) (is_own id v k ∙ ap (λ b. b && int_eq v.id k.invoke) its)
+    ∙ by (int_eq v.id k.invoke) refl
   where
     rest_none : int_eq v.id k.invoke ≡ true → deadline_in k.invoke vs ≡ None
     rest_none q = deadline_none k.invoke vs (subst (λ j. NoneHas j vs) (int_is v.id k.invoke q) m.0)
 
-    by : (b : Bool) → int_eq v.id k.invoke ≡ b → first_of (deadline_in k.invoke vs) (cond b (Some v.deadline) before) ≡ first_of (option_map (λ (u : Invocation). u.deadline) (cond b (Some v) (invocation_of k.invoke vs))) before
+    by : (b : Bool) → int_eq v.id k.invoke ≡ b → first_of (deadline_in k.invoke vs) (cond b (Some v.deadline) before)
+        ≡ first_of (option_map (λ (u : Invocation). u.deadline) (cond b (Some v) (invocation_of k.invoke vs))) before
     by true q = ap (λ o. first_of o (Some v.deadline)) (rest_none q)
     by false q = refl
 
-after_other : (id : List ℕ) (vs : List Invocation) (k : due.Invocation) (before : Option ℕ) → is_its id k.id ≡ false → deadline_after (map (timer_at id) vs) k before ≡ before
+after_other : (id : List ℕ) (vs : List Invocation) (k : due.Invocation) (before : Option ℕ) → is_its id k.id ≡ false
+    → deadline_after (map (timer_at id) vs) k before ≡ before
 after_other id [] k before other = refl
 after_other id (v ∷ vs) k before other =
-    ap (λ b. deadline_after (map (timer_at id) vs) k (cond b (Some v.deadline) before)) (is_own id v k ∙ ap (λ b. b && int_eq v.id k.invoke) other) ∙ after_other id vs k before other
+    ap (λ b. deadline_after (map (timer_at id) vs) k (cond b (Some v.deadline) before)) (is_own id v k ∙ ap (λ b. b && int_eq v.id k.invoke) other)
+    ∙ after_other id vs k before other
 
-after_unlisted : (ts : List Timer) (k : due.Invocation) (before : Option ℕ) → list_any (λ (t : Timer). is_invocation t.invocation k) ts ≡ false → deadline_after ts k before ≡ before
+after_unlisted : (ts : List Timer) (k : due.Invocation) (before : Option ℕ) → list_any (λ (t : Timer). is_invocation t.invocation k) ts ≡ false
+    → deadline_after ts k before ≡ before
 after_unlisted [] k before h = refl
 after_unlisted (t ∷ ts) k before h = by (is_invocation t.invocation k) h (after_unlisted ts k before)
   where
-    by : (b : Bool) → (b || list_any (λ (u : Timer). is_invocation u.invocation k) ts) ≡ false → (list_any (λ (u : Timer). is_invocation u.invocation k) ts ≡ false → deadline_after ts k before ≡ before)
+    by : (b : Bool) → (b || list_any (λ (u : Timer). is_invocation u.invocation k) ts) ≡ false
+        → (list_any (λ (u : Timer). is_invocation u.invocation k) ts ≡ false → deadline_after ts k before ≡ before)
         → deadline_after ts k (cond b (Some t.deadline) before) ≡ before
     by true g rest = cc
     by false g rest = rest g
 
-listed_its : (id : List ℕ) (vs : List Invocation) (k : due.Invocation) → list_any (λ (t : Timer). is_invocation t.invocation k) (map (timer_at id) vs) ≡ true → is_its id k.id ≡ true
+listed_its : (id : List ℕ) (vs : List Invocation) (k : due.Invocation) → list_any (λ (t : Timer). is_invocation t.invocation k) (map (timer_at id) vs) ≡ true
+    → is_its id k.id ≡ true
 listed_its id [] k h = cc
 listed_its id (v ∷ vs) k h = by (is_its id k.id) refl (listed_its id vs k)
   where
-    by : (b : Bool) → is_its id k.id ≡ b → (list_any (λ (t : Timer). is_invocation t.invocation k) (map (timer_at id) vs) ≡ true → is_its id k.id ≡ true) → b ≡ true
+    by : (b : Bool) → is_its id k.id ≡ b → (list_any (λ (t : Timer). is_invocation t.invocation k) (map (timer_at id) vs) ≡ true → is_its id k.id ≡ true)
+        → b ≡ true
     by true e rest = refl
-    by false e rest = sym e ∙ rest (ap (λ b. b || list_any (λ (t : Timer). is_invocation t.invocation k) (map (timer_at id) vs)) (sym (is_own id v k ∙ ap (λ b. b && int_eq v.id k.invoke) e)) ∙ h)
+    by false e rest = sym e ∙ rest (ap (λ b. b || list_any (λ (t : Timer). is_invocation t.invocation k) (map (timer_at id) vs))
+        (sym (is_own id v k ∙ ap (λ b. b && int_eq v.id k.invoke) e)) ∙ h)
 
 module _ (lists : InvocationLists) (d d₁ d₂ : DeadlineMap) (id : List ℕ) (list : List Invocation) (have : HaveDeadlines lists d) (rising : AreRising list)
     (set : d₁ ≡ set_all d (map (timer_at id) list))
@@ -96,21 +106,29 @@ module _ (lists : InvocationLists) (d d₁ d₂ : DeadlineMap) (id : List ℕ) (
       pick (Some x) None = refl
       pick (Some x) (Some y) = refl
 
-      by : (b : Bool) → is_its id k.id ≡ b → cond (b && (has_one k.invoke (invocations_at lists id) && not (has_one k.invoke list))) None (deadline_after (map (timer_at id) list) k (finite.get d k))
+      by : (b : Bool) → is_its id k.id ≡ b → cond (b && (has_one k.invoke (invocations_at lists id) && not (has_one k.invoke list))) None
+          (deadline_after (map (timer_at id) list) k (finite.get d k))
           ≡ deadline_in k.invoke (cond b list (invocations_at lists k.id))
       by true e =
-          ap (cond (has_one k.invoke (invocations_at lists id) && not (has_one k.invoke list)) None) (ap (deadline_after (map (timer_at id) list) k) (had k e) ∙ after_own id list k (deadline_in k.invoke (invocations_at lists id)) (rising_map list rising) e)
-          ∙ ap (λ b. cond (b && not (has_one k.invoke list)) None (first_of (deadline_in k.invoke list) (deadline_in k.invoke (invocations_at lists id)))) (has_is k.invoke (invocations_at lists id))
-          ∙ ap (λ b. cond (is_some (deadline_in k.invoke (invocations_at lists id)) && not b) None (first_of (deadline_in k.invoke list) (deadline_in k.invoke (invocations_at lists id)))) (has_is k.invoke list)
+          ap (cond (has_one k.invoke (invocations_at lists id) && not (has_one k.invoke list)) None)
+          (ap (deadline_after (map (timer_at id) list) k) (had k e)
+          ∙ after_own id list k (deadline_in k.invoke (invocations_at lists id)) (rising_map list rising) e)
+          ∙ ap (λ b. cond (b && not (has_one k.invoke list)) None (first_of (deadline_in k.invoke list) (deadline_in k.invoke (invocations_at lists id))))
+          (has_is k.invoke (invocations_at lists id))
+          ∙ ap (λ b. cond (is_some (deadline_in k.invoke (invocations_at lists id)) && not b) None
+          (first_of (deadline_in k.invoke list) (deadline_in k.invoke (invocations_at lists id)))) (has_is k.invoke list)
           ∙ pick (deadline_in k.invoke list) (deadline_in k.invoke (invocations_at lists id))
       by false e = after_other id list k (finite.get d k) e ∙ have k
 
   -- and undone, if the dialogue had none
   pub have_taken_back : (new : InvocationLists) (d₃ : DeadlineMap) → new ≡ lists → (IsSome (finite.get lists id) → ⊥)
-      → ((k : due.Invocation) → finite.get d₃ k ≡ cond (list_any (λ (t : Timer). is_invocation t.invocation k) (map (timer_at id) list)) None (finite.get d₂ k)) → HaveDeadlines new d₃
+      → ((k : due.Invocation) → finite.get d₃ k ≡ cond (list_any (λ (t : Timer). is_invocation t.invocation k) (map (timer_at id) list)) None (finite.get d₂ k))
+      → HaveDeadlines new d₃
   have_taken_back new d₃ same absent back k =
-      back k ∙ ap (cond (list_any (λ (t : Timer). is_invocation t.invocation k) (map (timer_at id) list)) None) (cleared k ∙ ap (λ vs. cond (is_gone id vs list k) None (finite.get d₁ k)) none ∙ unmoved (is_its id k.id) ∙ was_set k)
-      ∙ by (list_any (λ (t : Timer). is_invocation t.invocation k) (map (timer_at id) list)) refl ∙ have k ∙ ap (λ (l : InvocationLists). deadline_in k.invoke (invocations_at l k.id)) (sym same)
+      back k ∙ ap (cond (list_any (λ (t : Timer). is_invocation t.invocation k) (map (timer_at id) list)) None)
+      (cleared k ∙ ap (λ vs. cond (is_gone id vs list k) None (finite.get d₁ k)) none ∙ unmoved (is_its id k.id) ∙ was_set k)
+      ∙ by (list_any (λ (t : Timer). is_invocation t.invocation k) (map (timer_at id) list)) refl ∙ have k
+      ∙ ap (λ (l : InvocationLists). deadline_in k.invoke (invocations_at l k.id)) (sym same)
     where
       none_in : (o : Option (List Invocation)) → (IsSome o → ⊥) → list_in o ≡ []
       none_in None h = refl
@@ -123,7 +141,8 @@ module _ (lists : InvocationLists) (d d₁ d₂ : DeadlineMap) (id : List ℕ) (
       unmoved true = refl
       unmoved false = refl
 
-      by : (b : Bool) → list_any (λ (t : Timer). is_invocation t.invocation k) (map (timer_at id) list) ≡ b → cond b None (deadline_after (map (timer_at id) list) k (finite.get d k)) ≡ finite.get d k
+      by : (b : Bool) → list_any (λ (t : Timer). is_invocation t.invocation k) (map (timer_at id) list) ≡ b
+          → cond b None (deadline_after (map (timer_at id) list) k (finite.get d k)) ≡ finite.get d k
       by true e = sym (had k (listed_its id list k e) ∙ ap (deadline_in k.invoke) none)
       by false e = after_unlisted (map (timer_at id) list) k (finite.get d k) e
 
@@ -157,11 +176,14 @@ deadline_without j i (v ∷ vs) m = by (int_eq v.id j) refl (int_eq j i) refl (d
     by : (b : Bool) → int_eq v.id j ≡ b → (e : Bool) → int_eq j i ≡ e → deadline_in i (without j vs) ≡ cond e None (deadline_in i vs)
         → deadline_in i (cond b vs (v ∷ without j vs)) ≡ cond e None (deadline_in i (v ∷ vs))
     by true q true r ih = deadline_none i vs (subst (λ k. NoneHas k vs) (int_is v.id j q ∙ int_is j i r) m.0)
-    by true q false r ih = sym (ap (λ b. option_map (λ (u : Invocation). u.deadline) (cond b (Some v) (invocation_of i vs))) (ap (λ k. int_eq k i) (int_is v.id j q) ∙ r))
-    by false q true r ih = ap (λ b. option_map (λ (u : Invocation). u.deadline) (cond b (Some v) (invocation_of i (without j vs)))) (ap (int_eq v.id) (sym (int_is j i r)) ∙ q) ∙ ih
+    by true q false r ih = sym (ap (λ b. option_map (λ (u : Invocation). u.deadline) (cond b (Some v) (invocation_of i vs)))
+        (ap (λ k. int_eq k i) (int_is v.id j q) ∙ r))
+    by false q true r ih = ap (λ b. option_map (λ (u : Invocation). u.deadline) (cond b (Some v) (invocation_of i (without j vs))))
+        (ap (int_eq v.id) (sym (int_is j i r)) ∙ q) ∙ ih
     by false q false r ih = alike (int_eq v.id i)
       where
-        alike : (b : Bool) → option_map (λ (u : Invocation). u.deadline) (cond b (Some v) (invocation_of i (without j vs))) ≡ option_map (λ (u : Invocation). u.deadline) (cond b (Some v) (invocation_of i vs))
+        alike : (b : Bool) → option_map (λ (u : Invocation). u.deadline) (cond b (Some v) (invocation_of i (without j vs)))
+            ≡ option_map (λ (u : Invocation). u.deadline) (cond b (Some v) (invocation_of i vs))
         alike true = refl
         alike false = ih
 
@@ -170,30 +192,40 @@ module _ (lists : InvocationLists) (d : DeadlineMap) (id : List ℕ) (have : Hav
   own_deadline k its = have k ∙ ap (λ i. deadline_in k.invoke (invocations_at lists i)) (sym (same_id id k.id its))
 
   pub have_none : invocations_at lists id ≡ [] → (new : InvocationLists) → new ≡ put_list lists id [] → HaveDeadlines new d
-  have_none none new is k = by (is_its id k.id) refl ∙ ap (deadline_in k.invoke) (sym (ap (λ (l : InvocationLists). invocations_at l k.id) is ∙ at-put_list lists id [] k.id))
+  have_none none new is k = by (is_its id k.id) refl ∙ ap (deadline_in k.invoke)
+      (sym (ap (λ (l : InvocationLists). invocations_at l k.id) is ∙ at-put_list lists id [] k.id))
     where
       by : (b : Bool) → is_its id k.id ≡ b → finite.get d k ≡ deadline_in k.invoke (cond b [] (invocations_at lists k.id))
       by true e = own_deadline k e ∙ ap (deadline_in k.invoke) none
       by false e = have k
 
-  pub have_forgotten : (d' : DeadlineMap) → ((k : due.Invocation) → finite.get d' k ≡ cond (is_gone id (invocations_at lists id) [] k) None (finite.get d k)) → (new : InvocationLists) → new ≡ put_list lists id [] → HaveDeadlines new d'
-  have_forgotten d' gone new is k = gone k ∙ by (is_its id k.id) refl ∙ ap (deadline_in k.invoke) (sym (ap (λ (l : InvocationLists). invocations_at l k.id) is ∙ at-put_list lists id [] k.id))
+  pub have_forgotten : (d' : DeadlineMap) → ((k : due.Invocation) → finite.get d' k ≡ cond (is_gone id (invocations_at lists id) [] k) None (finite.get d k))
+      → (new : InvocationLists) → new ≡ put_list lists id [] → HaveDeadlines new d'
+  have_forgotten d' gone new is k = gone k ∙ by (is_its id k.id) refl
+      ∙ ap (deadline_in k.invoke) (sym (ap (λ (l : InvocationLists). invocations_at l k.id) is ∙ at-put_list lists id [] k.id))
     where
       none : (o : Option ℕ) → cond (is_some o && true) None o ≡ None
       none None = refl
       none (Some x) = refl
 
-      by : (b : Bool) → is_its id k.id ≡ b → cond (b && (has_one k.invoke (invocations_at lists id) && true)) None (finite.get d k) ≡ deadline_in k.invoke (cond b [] (invocations_at lists k.id))
-      by true e = ap (cond (has_one k.invoke (invocations_at lists id) && true) None) (own_deadline k e) ∙ ap (λ b. cond (b && true) None (deadline_in k.invoke (invocations_at lists id))) (has_is k.invoke (invocations_at lists id)) ∙ none (deadline_in k.invoke (invocations_at lists id))
+      by : (b : Bool) → is_its id k.id ≡ b → cond (b && (has_one k.invoke (invocations_at lists id) && true)) None (finite.get d k)
+          ≡ deadline_in k.invoke (cond b [] (invocations_at lists k.id))
+      by true e = ap (cond (has_one k.invoke (invocations_at lists id) && true) None) (own_deadline k e)
+          ∙ ap (λ b. cond (b && true) None (deadline_in k.invoke (invocations_at lists id))) (has_is k.invoke (invocations_at lists id))
+          ∙ none (deadline_in k.invoke (invocations_at lists id))
       by false e = have k
 
   pub have_one_less : (d' : DeadlineMap) (j : ℤ) → AreRising (invocations_at lists id) → d' ≡ finite.remove d (record { id = id; invoke = j })
       → (new : InvocationLists) → new ≡ put_list lists id (without j (invocations_at lists id)) → HaveDeadlines new d'
   have_one_less d' j rising gone new is k =
       ap (λ (m : DeadlineMap). finite.get m k) gone ∙ finite.get-remove invocation_total d (record { id = id; invoke = j }) k
-      ∙ ap (λ b. cond b None (finite.get d k)) ((eq_by_cmp_equiv invocation_total).symm k (record { id = id; invoke = j }) ∙ is_own id (record { id = j; was = OperationSent; deadline = 0 }) k)
-      ∙ by (is_its id k.id) refl ∙ ap (deadline_in k.invoke) (sym (ap (λ (l : InvocationLists). invocations_at l k.id) is ∙ at-put_list lists id (without j (invocations_at lists id)) k.id))
+      ∙ ap (λ b. cond b None (finite.get d k)) ((eq_by_cmp_equiv invocation_total).symm k (record { id = id; invoke = j })
+      ∙ is_own id (record { id = j; was = OperationSent; deadline = 0 }) k)
+      ∙ by (is_its id k.id) refl ∙ ap (deadline_in k.invoke) (sym (ap (λ (l : InvocationLists). invocations_at l k.id) is
+      ∙ at-put_list lists id (without j (invocations_at lists id)) k.id))
     where
-      by : (b : Bool) → is_its id k.id ≡ b → cond (b && int_eq j k.invoke) None (finite.get d k) ≡ deadline_in k.invoke (cond b (without j (invocations_at lists id)) (invocations_at lists k.id))
-      by true e = ap (cond (int_eq j k.invoke) None) (own_deadline k e) ∙ sym (deadline_without j k.invoke (invocations_at lists id) (rising_map (invocations_at lists id) rising))
+      by : (b : Bool) → is_its id k.id ≡ b → cond (b && int_eq j k.invoke) None (finite.get d k)
+          ≡ deadline_in k.invoke (cond b (without j (invocations_at lists id)) (invocations_at lists k.id))
+      by true e = ap (cond (int_eq j k.invoke) None) (own_deadline k e)
+          ∙ sym (deadline_without j k.invoke (invocations_at lists id) (rising_map (invocations_at lists id) rising))
       by false e = have k

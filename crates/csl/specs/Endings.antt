@@ -1,7 +1,7 @@
 -- How a component concludes an invocation in Operation Sent (Q.774).
 use Rattle.std.specs.Prelude.{ℕ, ◌+◌, ℤ, List, [], ◌∷◌, Bool, true, false, cond, Option, Some, None}
 use Rattle.std.specs.Ordering.{int_eq}
-use Rattle.machine.specs.Numbers.{reject_timer}
+use Rattle.machine.specs.declared.numbers.TheConstants.{REJECT_TIMER}
 use Rattle.machine.specs.Received.{ComponentOf, ResultLast, ReturnError, Reject}
 use Rattle.machine.specs.Invocations.{ends_it}
 use Rattle.machine.specs.State.{Invocation, WaitForReject}
@@ -23,8 +23,8 @@ ending _ = None
 -- An invocation after its ending: Wait for Reject if it was answered, Idle if it was rejected.
 abbrev pub ended : ℕ → How → Invocation → List Invocation
 ended now IsRejected v = []
-ended now Fails v = record { id = v.id; was = WaitForReject; deadline = now + reject_timer } ∷ []
-ended now Succeeds v = record { id = v.id; was = WaitForReject; deadline = now + reject_timer } ∷ []
+ended now Fails v = record { id = v.id; was = WaitForReject; deadline = now + REJECT_TIMER } ∷ []
+ended now Succeeds v = record { id = v.id; was = WaitForReject; deadline = now + REJECT_TIMER } ∷ []
 
 abbrev pub is_failing : How → Bool
 is_failing Succeeds = false

@@ -49,8 +49,11 @@ pub(crate) fn receive_each<P>(
 ) -> Result<Effect, AllocError>
     requires rising { AreRising list.old.items }
     requires early { now ≤ 2 ^ 62 }
-    ensures effect { IfOk result (λ answer. IsEffect answer (effect now (offered offer.now) list.old.items (map heard components.now))) }
-    ensures after { OnOk result (list.new.items ≡ (effect now (offered offer.now) list.old.items (map heard components.now)).invocations) }
+    ensures effect { IfOk result (λ answer. IsEffect answer
+        (effect now (offered offer.now) list.old.items (map heard components.now))) }
+    ensures after { OnOk result (list.new.items
+        ≡ (effect now (offered offer.now) list.old.items
+        (map heard components.now)).invocations) }
 {
     let started = started_by(offer, list, components);
     let mut rejects = Vec::new(alloc);
@@ -87,7 +90,8 @@ pub fn effect_of_begin<P>(
     now: u64,
 ) -> Result<Effect, AllocError>
     requires { now ≤ 2 ^ 62 }
-    ensures { IfOk result (λ answer. IsEffect answer (effect now (offered offer.now) [] (map heard components.now))) }
+    ensures { IfOk result (λ answer. IsEffect answer
+        (effect now (offered offer.now) [] (map heard components.now))) }
 {
     receive_each(alloc, offer, &mut Vec::new(alloc), components, now)
 }

@@ -2,7 +2,7 @@
 
 ghost use Rattle.std.specs.Prelude.{◌≡◌, ◌≤◌, ◌^◌, ◌+◌, FitsSigned};
 ghost use Rattle.std.specs.Int.{w8};
-ghost use Rattle.machine.specs.Numbers.{reject_timer};
+ghost use Rattle.machine.specs.declared.numbers.TheConstants.{REJECT_TIMER};
 ghost use Rattle.machine.specs.State.{is_sent, WaitForReject};
 ghost use Rattle.machine.specs.Outcome.{invoked};
 ghost use Rattle.csl.specs.Seen.{told_of, was};
@@ -11,13 +11,8 @@ ghost use Rattle.csl.specs.Tables.{timer_at};
 use crate::was::Was;
 use deadlines::Timer;
 use hlr_types::Tid;
+use machine::numbers::{INVOCATION_TIMER, REJECT_TIMER};
 use std::marker::Model;
-
-/// The invocation timer, in ticks of the shard's clock (profile).
-const INVOCATION_TIMER: u64 = 20;
-
-/// The reject timer: how long to wait for a Reject of the answer (profile).
-const REJECT_TIMER: u64 = 5;
 
 /// An own invocation in Operation Sent or Wait for Reject, with the time at which its timer expires.
 #[derive(Clone, Copy)]
@@ -77,7 +72,7 @@ impl Invocation {
     /// It is answered now: Wait for Reject, with the reject timer.
     pub(crate) fn wait(&mut self, now: u64)
         requires { now ≤ 2 ^ 62 }
-        ensures { self.new ≡ record { id = self.old.id; was = WaitForReject; deadline = now + reject_timer } }
+        ensures { self.new ≡ record { id = self.old.id; was = WaitForReject; deadline = now + REJECT_TIMER } }
     {
         self.was = Was::Waiting;
         self.deadline = now + REJECT_TIMER;

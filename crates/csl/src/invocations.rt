@@ -62,8 +62,11 @@ impl Invocations {
     /// of class 1 (profile). On error nothing changes.
     pub fn invoke(&mut self, id: Tid, invoke: i8, _operation: u8, now: u64) -> Result<(), CslFault>
         requires { now ≤ 2 ^ 62 }
-        ensures ok { OnOk result (self.new ≡ put_list self.old id (with_one (invoked now invoke) (invocations_at self.old id))) }
-        ensures in_use { result ≡ Err CslFault.IdInUse ↔ IsSome (invocation_of invoke (invocations_at self.old id)) }
+        ensures ok { OnOk result (self.new
+            ≡ put_list self.old id (with_one (invoked now invoke)
+            (invocations_at self.old id))) }
+        ensures in_use { result ≡ Err CslFault.IdInUse
+            ↔ IsSome (invocation_of invoke (invocations_at self.old id)) }
         ensures err { OnErr result (self.new ≡ self.old) }
     {
         let list = self.lists.at(id);
@@ -98,7 +101,9 @@ impl Invocations {
         now: u64,
     ) -> Result<Effect, AllocError>
         requires { now ≤ 2 ^ 62 }
-        ensures { IfOk result (λ answer. IsEffect answer (effect now (offered offer.now) (invocations_at self.now id) (map heard components.now))) }
+        ensures { IfOk result (λ answer. IsEffect answer
+            (effect now (offered offer.now) (invocations_at self.now id)
+            (map heard components.now))) }
     {
         let mut list = self.lists.at(id).to_vec(self.alloc)?;
         receive_each(self.alloc, offer, &mut list, components, now)
@@ -114,8 +119,12 @@ impl Invocations {
         now: u64,
     ) -> Result<Effect, AllocError>
         requires { now ≤ 2 ^ 62 }
-        ensures effect { IfOk result (λ answer. IsEffect answer (effect now (offered offer.now) (invocations_at self.old id) (map heard components.now))) }
-        ensures moved { OnOk result (self.new ≡ put_list self.old id (effect now (offered offer.now) (invocations_at self.old id) (map heard components.now)).invocations) }
+        ensures effect { IfOk result (λ answer. IsEffect answer
+            (effect now (offered offer.now) (invocations_at self.old id)
+            (map heard components.now))) }
+        ensures moved { OnOk result (self.new
+            ≡ put_list self.old id (effect now (offered offer.now) (invocations_at self.old id)
+            (map heard components.now)).invocations) }
         ensures err { OnErr result (self.new ≡ self.old) }
     {
         let mut list = self.lists.at(id).to_vec(self.alloc)?;
@@ -132,7 +141,9 @@ impl Invocations {
         now: u64,
     ) -> Result<(), AllocError>
         requires { now ≤ 2 ^ 62 }
-        ensures ok { OnOk result (self.new ≡ put_list self.old id (invocations_after now (map heard components.now) (invocations_at self.old id))) }
+        ensures ok { OnOk result (self.new
+            ≡ put_list self.old id (invocations_after now (map heard components.now)
+            (invocations_at self.old id))) }
         ensures err { OnErr result (self.new ≡ self.old) }
     {
         let mut list = self.lists.at(id).to_vec(self.alloc)?;
@@ -185,7 +196,8 @@ impl Invocations {
 
     /// Makes an invocation Idle, if there is one. Does not allocate.
     pub fn forget_one(&mut self, id: Tid, invoke: i8)
-        ensures idle { self.new ≡ put_list self.old id (without invoke (invocations_at self.old id)) }
+        ensures idle { self.new ≡ put_list self.old id
+            (without invoke (invocations_at self.old id)) }
         ensures rising { AreRising (invocations_at self.old id) }
     {
         self.lists.remove_one(id, invoke);

@@ -22,15 +22,18 @@ pub fn law_lists_are_put()
 
 /// Law: the effect does not depend on how a parameter is represented.
 pub fn law_parameters_have_no_effect<P>()
-    ensures effect { (f : P → Parameter) (now : ℕ) (offer : Offer) (vs : List Invocation) (cs : List (Component P))
+    ensures effect { (f : P → Parameter) (now : ℕ) (offer : Offer) (vs : List Invocation)
+        (cs : List (Component P))
         → effect now offer vs (map (component f) cs) ≡ effect now offer vs (map heard cs) }
     ensures after { (f : P → Parameter) (now : ℕ) (vs : List Invocation) (cs : List (Component P))
-        → invocations_after now (map (component f) cs) vs ≡ invocations_after now (map heard cs) vs }
+        → invocations_after now (map (component f) cs) vs
+        ≡ invocations_after now (map heard cs) vs }
 {}
 
 /// Law: one component moves the invocation with its id by a row of the table of own invocations (Q.774).
 pub fn law_moves_are_rows<P>()
-    ensures { (lists : InvocationLists) (id : List ℕ) (now : ℕ) (offer : Offer) (c : Component P) (j : ℤ) (x : Happening)
+    ensures { (lists : InvocationLists) (id : List ℕ) (now : ℕ) (offer : Offer) (c : Component P)
+        (j : ℤ) (x : Happening)
         → AreRising (invocations_at lists id) → happening j (heard c) ≡ Some x
         → MovesByRow now offer (invocations_at lists id) (heard c) j x }
 {}

@@ -41,7 +41,8 @@ pub(crate) fn any_sent(list: &[Invocation]) -> bool
 pub(crate) fn conclude<P>(list: &mut Vec<Invocation>, component: &Component<P>, now: u64) -> bool
     requires rising { AreRising list.old.items }
     requires early { now ≤ 2 ^ 62 }
-    ensures after { list.new.items ≡ invocations_after now (heard component.now ∷ []) list.old.items }
+    ensures after { list.new.items ≡ invocations_after now
+        (heard component.now ∷ []) list.old.items }
     ensures failed { result ≡ any_failed (heard component.now ∷ []) list.old.items }
 {
     let Some(ending) = ending_of(component) else {

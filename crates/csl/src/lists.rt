@@ -78,7 +78,8 @@ impl Lists {
 
     /// Removes one invocation, if it is there.
     pub(crate) fn remove_one(&mut self, id: Tid, invoke: i8)
-        ensures removed { self.new ≡ put_list self.old id (without invoke (invocations_at self.old id)) }
+        ensures removed { self.new ≡ put_list self.old id
+            (without invoke (invocations_at self.old id)) }
         ensures rising { AreRising (invocations_at self.old id) }
     {
         let Some(list) = self.by_dialogue.get_mut(&id) else {

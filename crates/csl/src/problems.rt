@@ -4,28 +4,16 @@ ghost use Rattle.std.specs.Prelude.{◌≡◌, map, option_map, option_to_list};
 ghost use Rattle.machine.specs.Effect.{in_sent, is_id, is_operation, problem_of, problem_of_start, reject_answer, starts};
 ghost use Rattle.q773_comp.specs.Seen.{code, rejection, side};
 ghost use Rattle.csl.specs.Seen.{heard};
-ghost use Rattle.csl.specs.Effects.{is_open_now, linked_now, offered, reject_now};
+ghost use Rattle.csl.specs.Effects.{linked_now, offered, reject_now};
 
 use crate::invocation::Invocation;
 use crate::list::in_sent;
 use crate::offer::Offer;
+use machine::numbers::{
+    DUPLICATE_INVOKE_ID, INVOKE_RESOURCE_LIMITATION, LINKED_RESPONSE_UNEXPECTED,
+    MISTYPED_PARAMETER, UNRECOGNIZED_INVOKE_ID, UNRECOGNIZED_LINKED_ID, UNRECOGNIZED_OPERATION,
+};
 use q773_comp::{Code, Component, Rejection, Side};
-
-// Problem codes of an Invoke (Q.773).
-const DUPLICATE_INVOKE_ID: u8 = 0;
-
-const UNRECOGNIZED_OPERATION: u8 = 1;
-
-const MISTYPED_PARAMETER: u8 = 2;
-
-const INVOKE_RESOURCE_LIMITATION: u8 = 3;
-
-const UNRECOGNIZED_LINKED_ID: u8 = 5;
-
-const LINKED_RESPONSE_UNEXPECTED: u8 = 6;
-
-/// The problem code of a result or an error for no invocation (Q.773).
-const UNRECOGNIZED_INVOKE_ID: u8 = 0;
 
 /// Whether this is the id.
 fn is_id(waited: Option<i8>, id: i8) -> bool
@@ -93,7 +81,8 @@ fn linked_to(list: &[Invocation], linked: Option<i8>) -> Option<bool>
 
 /// The Reject of a result or an error for no invocation in Operation Sent.
 fn reject_answer(list: &[Invocation], id: i8, of: Side) -> Option<Rejection>
-    ensures { option_to_list (option_map rejection result) ≡ reject_answer id (side of) (in_sent id list.now) }
+    ensures { option_to_list (option_map rejection result)
+        ≡ reject_answer id (side of) (in_sent id list.now) }
 {
     if in_sent(list, id) {
         return None;
@@ -114,7 +103,8 @@ pub(crate) fn rejection_of<P>(
     is_first: bool,
     component: &Component<P>,
 ) -> Option<Rejection>
-    ensures { option_to_list (option_map rejection result) ≡ reject_now (offered offer.now) list.now started is_first (heard component.now) }
+    ensures { option_to_list (option_map rejection result)
+        ≡ reject_now (offered offer.now) list.now started is_first (heard component.now) }
 {
     match component {
         Component::Invoke {

@@ -32,7 +32,8 @@ pub(crate) fn clear_gone(
     were: &[Invocation],
     kept: &[Invocation],
 )
-    ensures { (k : due.Invocation) → finite.get deadlines.new k ≡ cond (is_gone id were.now kept.now k) None (finite.get deadlines.old k) }
+    ensures { (k : due.Invocation) → finite.get deadlines.new k
+        ≡ cond (is_gone id were.now kept.now k) None (finite.get deadlines.old k) }
 {
     for own in were {
         if place_of(kept, own.id()).is_none() {
@@ -43,7 +44,9 @@ pub(crate) fn clear_gone(
 
 /// Removes these deadlines. Does not allocate.
 pub(crate) fn clear_timers(deadlines: &mut Deadlines, timers: &[Timer])
-    ensures { (k : due.Invocation) → finite.get deadlines.new k ≡ cond (list_any (λ (timer : Timer). is_invocation timer.invocation k) timers.now) None (finite.get deadlines.old k) }
+    ensures { (k : due.Invocation) → finite.get deadlines.new k
+        ≡ cond (list_any (λ (timer : Timer). is_invocation timer.invocation k) timers.now) None
+        (finite.get deadlines.old k) }
 {
     for timer in timers {
         deadlines.clear_timer(timer.invocation);

@@ -31,7 +31,8 @@ module _ (stale : Timer → Bool) (M0 M1 : Invocation → Option ℕ) (S0 S1 : T
       by_case : (b : Bool) → is_invocation timer.invocation t.invocation ≡ b → S1 t ≡ true
       by_case true own =
           let at : Some timer.deadline ≡ Some t.deadline = sym (map_put t.invocation ∙ ap (λ b. cond b (Some timer.deadline) (M0 t.invocation)) own) ∙ e in
-          let same : timer ≡ t = ap (λ (d : ℕ). record { deadline = d; invocation = timer.invocation }) (some_same _ _ at) ∙ ap (λ (k : Invocation). record { deadline = t.deadline; invocation = k }) (same_invocation _ _ own) in
+          let same : timer ≡ t = ap (λ (d : ℕ). record { deadline = d; invocation = timer.invocation }) (some_same _ _ at)
+          ∙ ap (λ (k : Invocation). record { deadline = t.deadline; invocation = k }) (same_invocation _ _ own) in
           index_put t ∙ ap (λ b. cond b true (S0 t)) (own_timer timer t same)
       by_case false other =
           let here : S0 t ≡ true = is.all t (sym (map_put t.invocation ∙ ap (λ b. cond b (Some timer.deadline) (M0 t.invocation)) other) ∙ e) in
@@ -40,11 +41,13 @@ module _ (stale : Timer → Bool) (M0 M1 : Invocation → Option ℕ) (S0 S1 : T
   put_only : (t : Timer) → S1 t ≡ true → (M1 t.invocation ≡ Some t.deadline) ⊎ ((stale t || was (M0 timer.invocation) timer.invocation t) ≡ true)
   put_only t h = by_case (is_timer timer t) refl
     where
-      old : (b : Bool) → is_invocation timer.invocation t.invocation ≡ b → M0 t.invocation ≡ Some t.deadline → (M1 t.invocation ≡ Some t.deadline) ⊎ ((stale t || was (M0 timer.invocation) timer.invocation t) ≡ true)
+      old : (b : Bool) → is_invocation timer.invocation t.invocation ≡ b → M0 t.invocation ≡ Some t.deadline
+          → (M1 t.invocation ≡ Some t.deadline) ⊎ ((stale t || was (M0 timer.invocation) timer.invocation t) ≡ true)
       old true own e =
           let k : timer.invocation ≡ t.invocation = same_invocation _ _ own in
           let had : M0 timer.invocation ≡ Some t.deadline = ap M0 k ∙ e in
-          let it : is_timer (record { deadline = t.deadline; invocation = timer.invocation }) t ≡ true = own_timer _ t (ap (λ (i : Invocation). record { deadline = t.deadline; invocation = i }) k) in
+          let it : is_timer (record { deadline = t.deadline; invocation = timer.invocation }) t
+          ≡ true = own_timer _ t (ap (λ (i : Invocation). record { deadline = t.deadline; invocation = i }) k) in
           inr (or_right (stale t) _ (ap (λ o. was o timer.invocation t) had ∙ it))
       old false other e = inl (map_put t.invocation ∙ ap (λ b. cond b (Some timer.deadline) (M0 t.invocation)) other ∙ e)
 
@@ -122,7 +125,8 @@ index_alike M N S T m s is = record {
 
 -- a deadline is removed
 pub index_clear : (M N : Invocation → Option ℕ) (S T : Timer → Bool) (k : Invocation) (d : ℕ) → M k ≡ Some d
-    → ((q : Invocation) → N q ≡ cond (is_invocation k q) None (M q)) → ((t : Timer) → T t ≡ cond (is_timer (record { deadline = d; invocation = k }) t) false (S t))
+    → ((q : Invocation) → N q ≡ cond (is_invocation k q) None (M q))
+    → ((t : Timer) → T t ≡ cond (is_timer (record { deadline = d; invocation = k }) t) false (S t))
     → IsIndex M S → IsIndex N T
 index_clear M N S T k d had m s is = record { all = all; only = only }
   where
@@ -137,7 +141,8 @@ index_clear M N S T k d had m s is = record { all = all; only = only }
           where
             differ : (b : Bool) → is_timer (record { deadline = d; invocation = k }) t ≡ b → b ≡ false
             differ true own =
-                let x : is_invocation k t.invocation ≡ true = own_invocation k t.invocation (ap (λ (u : Timer). u.invocation) (same_timer (record { deadline = d; invocation = k }) t own)) in
+                let x : is_invocation k t.invocation ≡ true = own_invocation k t.invocation
+                (ap (λ (u : Timer). u.invocation) (same_timer (record { deadline = d; invocation = k }) t own)) in
                 sym x ∙ other
             differ false e = refl
 
@@ -154,19 +159,24 @@ index_clear M N S T k d had m s is = record { all = all; only = only }
             differ true own e =
                 let same : k ≡ t.invocation = same_invocation k t.invocation own in
                 let at : Some d ≡ Some t.deadline = sym had ∙ ap M same ∙ e in
-                let it : record { deadline = d; invocation = k } ≡ t = ap (λ (n : ℕ). record { deadline = n; invocation = k }) (some_same d t.deadline at) ∙ ap (λ (i : Invocation). record { deadline = t.deadline; invocation = i }) same in
+                let it : record { deadline = d; invocation = k }
+                ≡ t = ap (λ (n : ℕ). record { deadline = n; invocation = k }) (some_same d t.deadline at)
+                ∙ ap (λ (i : Invocation). record { deadline = t.deadline; invocation = i }) same in
                 sym (own_timer (record { deadline = d; invocation = k }) t it) ∙ other
             differ false own e = refl
 
 -- a deadline that an invocation no longer has is removed
 pub was_same : (before : Option ℕ) (d : ℕ) (k : Invocation) (t : Timer) → before ≡ Some d → was before k t ≡ true → record { deadline = d; invocation = k } ≡ t
 was_same None d k t e w = cc
-was_same (Some n) d k t e w = ap (λ (n : ℕ). record { deadline = n; invocation = k }) (sym (some_same n d e)) ∙ same_timer (record { deadline = n; invocation = k }) t w
+was_same (Some n) d k t e w = ap (λ (n : ℕ). record { deadline = n; invocation = k }) (sym (some_same n d e))
+    ∙ same_timer (record { deadline = n; invocation = k }) t w
 
-pub stands_still : (M : Invocation → Option ℕ) (d : ℕ) (k : Invocation) (t : Timer) → record { deadline = d; invocation = k } ≡ t → M k ≡ Some d → M t.invocation ≡ Some t.deadline
+pub stands_still : (M : Invocation → Option ℕ) (d : ℕ) (k : Invocation) (t : Timer) → record { deadline = d; invocation = k } ≡ t → M k ≡ Some d
+    → M t.invocation ≡ Some t.deadline
 stands_still M d k t same e = subst (λ (u : Timer). M u.invocation ≡ Some u.deadline) same e
 
-pub drop_kept : (M : Invocation → Option ℕ) (x : Timer) (S T : Timer → Bool) → ((t : Timer) → T t ≡ cond (is_timer x t) false (S t)) → (M x.invocation ≡ Some x.deadline → ⊥)
+pub drop_kept : (M : Invocation → Option ℕ) (x : Timer) (S T : Timer → Bool) → ((t : Timer) → T t ≡ cond (is_timer x t) false (S t))
+    → (M x.invocation ≡ Some x.deadline → ⊥)
     → (t : Timer) → M t.invocation ≡ Some t.deadline → T t ≡ S t
 drop_kept M x S T drop gone t e = by_case (is_timer x t) refl
   where

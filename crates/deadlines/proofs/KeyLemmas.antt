@@ -17,13 +17,15 @@ pub invocation_total : IsTotalOrder invocation_cmp
 invocation_total = then_total (on_total (λ (i : Invocation). i.id) octets_total) (on_total (λ (i : Invocation). i.invoke) int_cmp_total)
 
 pub invocation_exact : CmpEqualImpliesEq invocation_cmp
-invocation_exact a b e = ap (λ (p : List ℕ × ℤ). record { id = p.0; invoke = p.1 }) (exact_pairs octets_cmp int_cmp octets_exact exact_signed (a.id, a.invoke) (b.id, b.invoke) e)
+invocation_exact a b e = ap (λ (p : List ℕ × ℤ). record { id = p.0; invoke = p.1 })
+    (exact_pairs octets_cmp int_cmp octets_exact exact_signed (a.id, a.invoke) (b.id, b.invoke) e)
 
 pub timer_total : IsTotalOrder timer_cmp
 timer_total = then_total (on_total (λ (t : Timer). t.deadline) nat_cmp_total) (on_total (λ (t : Timer). t.invocation) invocation_total)
 
 pub timer_exact : CmpEqualImpliesEq timer_cmp
-timer_exact a b e = ap (λ (p : ℕ × Invocation). record { deadline = p.0; invocation = p.1 }) (exact_pairs nat_cmp invocation_cmp nat_cmp-IsAntisymmetric invocation_exact (a.deadline, a.invocation) (b.deadline, b.invocation) e)
+timer_exact a b e = ap (λ (p : ℕ × Invocation). record { deadline = p.0; invocation = p.1 })
+    (exact_pairs nat_cmp invocation_cmp nat_cmp-IsAntisymmetric invocation_exact (a.deadline, a.invocation) (b.deadline, b.invocation) e)
 
 pub same_invocation : (k q : Invocation) → is_invocation k q ≡ true → k ≡ q
 same_invocation k q e = invocation_exact k q ((Equal-is (invocation_cmp k q)).0 e)

@@ -24,8 +24,10 @@ view_all m n ts h = map.same_map invocation_total invocation_exact _ _ (λ q.
     get_view invocation_total n.entries q ∙ h q
     ∙ sym (get-set_all (map.from_entries m.entries) ts q ∙ ap (deadline_after ts q) (get_view invocation_total m.entries q)))
 
-pub view_alike : (m n : tree.BTreeMap Invocation ℕ) → ((q : Invocation) → deadline_of n q ≡ deadline_of m q) → ◌≡◌ {A = DeadlineMap} (map.from_entries n.entries) (map.from_entries m.entries)
-view_alike m n h = map.same_map invocation_total invocation_exact _ _ (λ q. get_view invocation_total n.entries q ∙ h q ∙ sym (get_view invocation_total m.entries q))
+pub view_alike : (m n : tree.BTreeMap Invocation ℕ) → ((q : Invocation) → deadline_of n q ≡ deadline_of m q)
+    → ◌≡◌ {A = DeadlineMap} (map.from_entries n.entries) (map.from_entries m.entries)
+view_alike m n h = map.same_map invocation_total invocation_exact _ _
+    (λ q. get_view invocation_total n.entries q ∙ h q ∙ sym (get_view invocation_total m.entries q))
 
 pub on_ok_then : {A E P Q : Type 0} (r : Result A E) → (P → Q) → OnOk r P → OnOk r Q
 on_ok_then (Ok a) f p = f p

@@ -16,12 +16,14 @@ module _ {K X : Type 0} {R : K → K → Ordering} (o : IsTotalOrder R) where
   get_view es q = map.get-from_entries o es q ∙ find_lookup es q
 
 module _ {K X : Type 0} {R : K → K → Ordering} (o : IsTotalOrder R) (exact : CmpEqualImpliesEq R) where
-  pub view_insert : (es fs : List (K × X)) (k : K) (v : X) → ((q : K) → lookup (is_at (R q)) fs ≡ cond (is_at (R k) q) (Some v) (lookup (is_at (R q)) es)) → map.from_entries {R = R} fs ≡ map.insert (map.from_entries es) k v
+  pub view_insert : (es fs : List (K × X)) (k : K) (v : X) → ((q : K) → lookup (is_at (R q)) fs ≡ cond (is_at (R k) q) (Some v) (lookup (is_at (R q)) es))
+      → map.from_entries {R = R} fs ≡ map.insert (map.from_entries es) k v
   view_insert es fs k v h = map.same_map o exact _ _ (λ q.
       get_view o fs q ∙ h q ∙ ap (λ b. cond b (Some v) (lookup (is_at (R q)) es)) ((eq_by_cmp_equiv o).symm k q)
       ∙ sym (map.get-insert o (map.from_entries es) k v q ∙ ap (cond (is_at (R q) k) (Some v)) (get_view o es q)))
 
-  pub view_remove : (es fs : List (K × X)) (k : K) → ((q : K) → lookup (is_at (R q)) fs ≡ cond (is_at (R k) q) None (lookup (is_at (R q)) es)) → map.from_entries {R = R} fs ≡ map.remove (map.from_entries es) k
+  pub view_remove : (es fs : List (K × X)) (k : K) → ((q : K) → lookup (is_at (R q)) fs ≡ cond (is_at (R k) q) None (lookup (is_at (R q)) es))
+      → map.from_entries {R = R} fs ≡ map.remove (map.from_entries es) k
   view_remove es fs k h = map.same_map o exact _ _ (λ q.
       get_view o fs q ∙ h q ∙ ap (λ b. cond b None (lookup (is_at (R q)) es)) ((eq_by_cmp_equiv o).symm k q)
       ∙ sym (map.get-remove o (map.from_entries es) k q ∙ ap (cond (is_at (R q) k) None) (get_view o es q)))

@@ -1,6 +1,6 @@
 //! The deadlines, indexed by invocation and by time.
 
-ghost use Rattle.std.specs.Prelude.{◌≡◌, ◌∷◌, [], option_map, OnOk, OnErr, IfOk, IfSome, IfNone, FitsSigned, Some};
+ghost use Rattle.std.specs.Prelude.{◌≡◌, OnOk, OnErr, IfOk, IfSome, IfNone, FitsSigned, Some};
 ghost use Rattle.std.specs.Int.{w8};
 ghost use Rattle.std.specs.FinMap as map;
 ghost use Rattle.deadlines.specs.Timers.{IsLeastDue, NoneDue, invocation_of, timer_of, set_all};
@@ -47,7 +47,8 @@ impl Deadlines {
 
     /// Sets the deadline of an invocation; replaces the one that it had. On error nothing changes.
     pub fn set(&mut self, id: Tid, invoke: i8, deadline: u64) -> Result<(), AllocError>
-        ensures ok { OnOk result (self.new ≡ map.insert self.old (invocation_of id invoke) deadline) }
+        ensures ok { OnOk result (self.new
+            ≡ map.insert self.old (invocation_of id invoke) deadline) }
         ensures err { OnErr result (self.new ≡ self.old) }
     {
         self.set_timer(Timer {

@@ -1,6 +1,6 @@
 //! Deadlines put into both indexes at once, all of them or none.
 
-ghost use Rattle.std.specs.Prelude.{◌≡◌, true, false, cond, not, Some, None, IfOk, OnOk, OnErr, IsSome, IsTrue, ◌↔◌, ◌⊎◌, Bool};
+ghost use Rattle.std.specs.Prelude.{◌≡◌, true, false, cond, not, Some, None, IfOk, OnOk, OnErr, IsSome, IsTrue, ◌↔◌, Bool};
 ghost use Rattle.deadlines.specs.declared.timer.Invocation.{Invocation};
 ghost use Rattle.deadlines.specs.declared.timer.Timer.{Timer};
 ghost use Rattle.deadlines.specs.Index.{deadline_of, has, is_invocation, is_timer, IsIndexBut, deadline_after, was};
@@ -15,9 +15,14 @@ pub(crate) fn put_each(
     by_deadline: &mut BTreeSet<Timer>,
     timers: &[Timer],
 ) -> Result<(), AllocError>
-    ensures map { OnOk result ((q : Invocation) → deadline_of by_invocation.new q ≡ deadline_after timers.now q (deadline_of by_invocation.old q)) }
-    ensures index { OnOk result ((stale : Timer → Bool) → IsIndexBut stale (deadline_of by_invocation.old) (has by_deadline.old) → IsIndexBut stale (deadline_of by_invocation.new) (has by_deadline.new)) }
-    ensures err_map { OnErr result ((q : Invocation) → deadline_of by_invocation.new q ≡ deadline_of by_invocation.old q) }
+    ensures map { OnOk result ((q : Invocation)
+        → deadline_of by_invocation.new q
+        ≡ deadline_after timers.now q (deadline_of by_invocation.old q)) }
+    ensures index { OnOk result ((stale : Timer → Bool)
+        → IsIndexBut stale (deadline_of by_invocation.old) (has by_deadline.old)
+        → IsIndexBut stale (deadline_of by_invocation.new) (has by_deadline.new)) }
+    ensures err_map { OnErr result ((q : Invocation)
+        → deadline_of by_invocation.new q ≡ deadline_of by_invocation.old q) }
     ensures err_index { OnErr result ((t : Timer) → has by_deadline.new t ≡ has by_deadline.old t) }
 {
     let [first, rest @ ..] = timers else {
@@ -50,11 +55,17 @@ fn put(
     by_deadline: &mut BTreeSet<Timer>,
     timer: Timer,
 ) -> Result<Before, AllocError>
-    ensures deadline { IfOk result (λ before. before.deadline ≡ deadline_of by_invocation.old timer.invocation) }
+    ensures deadline { IfOk result (λ before. before.deadline
+        ≡ deadline_of by_invocation.old timer.invocation) }
     ensures is_new { IfOk result (λ before. before.is_new ≡ not (has by_deadline.old timer)) }
-    ensures map { OnOk result ((q : Invocation) → deadline_of by_invocation.new q ≡ cond (is_invocation timer.invocation q) (Some timer.deadline) (deadline_of by_invocation.old q)) }
-    ensures index { OnOk result ((t : Timer) → has by_deadline.new t ≡ cond (is_timer timer t) true (has by_deadline.old t)) }
-    ensures err_map { OnErr result ((q : Invocation) → deadline_of by_invocation.new q ≡ deadline_of by_invocation.old q) }
+    ensures map { OnOk result ((q : Invocation)
+        → deadline_of by_invocation.new q
+        ≡ cond (is_invocation timer.invocation q) (Some timer.deadline)
+        (deadline_of by_invocation.old q)) }
+    ensures index { OnOk result ((t : Timer)
+        → has by_deadline.new t ≡ cond (is_timer timer t) true (has by_deadline.old t)) }
+    ensures err_map { OnErr result ((q : Invocation)
+        → deadline_of by_invocation.new q ≡ deadline_of by_invocation.old q) }
     ensures err_index { OnErr result ((t : Timer) → has by_deadline.new t ≡ has by_deadline.old t) }
 {
     let is_new = by_deadline.insert(timer)?;
@@ -79,9 +90,11 @@ fn drop_stale(
     invocation: Invocation,
     before: Option<u64>,
 )
-    ensures kept { (t : Timer) → deadline_of by_invocation.now t.invocation ≡ Some t.deadline → has by_deadline.new t ≡ has by_deadline.old t }
+    ensures kept { (t : Timer) → deadline_of by_invocation.now t.invocation ≡ Some t.deadline
+        → has by_deadline.new t ≡ has by_deadline.old t }
     ensures gone { (t : Timer) → has by_deadline.new t ≡ true → has by_deadline.old t ≡ true }
-    ensures stale { (t : Timer) → was before invocation t ≡ true → has by_deadline.new t ≡ true → deadline_of by_invocation.now t.invocation ≡ Some t.deadline }
+    ensures stale { (t : Timer) → was before invocation t ≡ true → has by_deadline.new t ≡ true
+        → deadline_of by_invocation.now t.invocation ≡ Some t.deadline }
 {
     let Some(deadline) = before else {
         return;
@@ -115,7 +128,8 @@ fn give_deadline(
     deadline: Option<u64>,
 )
     requires { IsSome (deadline_of by_invocation.old invocation) }
-    ensures { (q : Invocation) → deadline_of by_invocation.new q ≡ cond (is_invocation invocation q) deadline (deadline_of by_invocation.old q) }
+    ensures { (q : Invocation) → deadline_of by_invocation.new q
+        ≡ cond (is_invocation invocation q) deadline (deadline_of by_invocation.old q) }
 {
     match deadline {
         Some(deadline) => {

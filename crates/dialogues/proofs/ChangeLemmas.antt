@@ -24,13 +24,15 @@ use Rattle.dialogues.proofs.JoinLemmas.{dialogues-joined, get-remade}
 same_key : (id q : List ℕ) → eq_by_cmp octets_cmp q id ≡ same id q
 same_key id q = (eq_by_cmp_equiv octets_total).symm q id ∙ sym (pointwise-octets id q)
 
-pub get-inserted : {X : Type 0} (m : finite.FinMap octets_cmp X) (id : List ℕ) (x : X) (q : List ℕ) → finite.get (finite.insert m id x) q ≡ cond (same id q) (Some x) (finite.get m q)
+pub get-inserted : {X : Type 0} (m : finite.FinMap octets_cmp X) (id : List ℕ) (x : X) (q : List ℕ)
+    → finite.get (finite.insert m id x) q ≡ cond (same id q) (Some x) (finite.get m q)
 get-inserted m id x q = finite.get-insert octets_total m id x q ∙ ap (λ b. cond b (Some x) (finite.get m q)) (same_key id q)
 
 pub at-closed : (t : OpenTransactions) (id q : List ℕ) → at (closed t id) q ≡ cond (same id q) None (at t q)
 at-closed t id q = finite.get-remove octets_total t.open_ones id q ∙ ap (λ b. cond b None (at t q)) (same_key id q)
 
-pub invocations-put : (lists : InvocationLists) (id : List ℕ) (vs : List Invocation) (q : List ℕ) → invocations_at (put_list lists id vs) q ≡ cond (same id q) vs (invocations_at lists q)
+pub invocations-put : (lists : InvocationLists) (id : List ℕ) (vs : List Invocation) (q : List ℕ)
+    → invocations_at (put_list lists id vs) q ≡ cond (same id q) vs (invocations_at lists q)
 invocations-put lists id vs q = at-put_list lists id vs q ∙ ap (λ b. cond b vs (invocations_at lists q)) (sym (pointwise-octets id q))
 
 -- ---- how many are open after a change at one id
@@ -56,7 +58,8 @@ module _ (t : OpenTransactions) (id : List ℕ) where
       by false e = omega arith
 
 -- ---- a change at one id, of all tables
-pub record ChangesAt (id : List ℕ) (a : Option Transaction) (vs : List Invocation) (t t' : OpenTransactions) (lists lists' : InvocationLists) (talks talks' : List Talk) : Type 0 where
+pub record ChangesAt (id : List ℕ) (a : Option Transaction) (vs : List Invocation) (t t' : OpenTransactions) (lists lists' : InvocationLists)
+    (talks talks' : List Talk) : Type 0 where
   pub transactions : (q : List ℕ) → at t' q ≡ cond (same id q) a (at t q)
   pub invocations : (q : List ℕ) → invocations_at lists' q ≡ cond (same id q) vs (invocations_at lists q)
   pub others : (q : List ℕ) → at t q ≢ None → same id q ≡ false → talk_of talks' q ≡ talk_of talks q
@@ -64,7 +67,8 @@ pub record ChangesAt (id : List ℕ) (a : Option Transaction) (vs : List Invocat
 pub some≢none : {X : Type 0} (x : X) → Some x ≢ None
 some≢none x e = cc
 
-module _ (id : List ℕ) (a : Option Transaction) (vs : List Invocation) (t t' : OpenTransactions) (lists lists' : InvocationLists) (talks talks' : List Talk) (c : ChangesAt id a vs t t' lists lists' talks talks') where
+module _ (id : List ℕ) (a : Option Transaction) (vs : List Invocation) (t t' : OpenTransactions) (lists lists' : InvocationLists) (talks talks' : List Talk)
+    (c : ChangesAt id a vs t t' lists lists' talks talks') where
   here : (q : List ℕ) → same id q ≡ true
       → option_map (dialogue_from (talk_of talks' q) (invocations_at lists' q)) (at t' q) ≡ option_map (dialogue_from (talk_of talks' id) vs) a
   here q e =
@@ -74,7 +78,8 @@ module _ (id : List ℕ) (a : Option Transaction) (vs : List Invocation) (t t' :
       λ i. option_map (dialogue_from (talk i) (list i)) (transaction i)
 
   there : (q : List ℕ) → same id q ≡ false
-      → option_map (dialogue_from (talk_of talks' q) (invocations_at lists' q)) (at t' q) ≡ option_map (dialogue_from (talk_of talks q) (invocations_at lists q)) (at t q)
+      → option_map (dialogue_from (talk_of talks' q) (invocations_at lists' q)) (at t' q)
+      ≡ option_map (dialogue_from (talk_of talks q) (invocations_at lists q)) (at t q)
   there q e =
       let list : invocations_at lists' q ≡ invocations_at lists q = c.invocations q ∙ ap (λ b. cond b vs (invocations_at lists q)) e in
       let transaction : at t' q ≡ at t q = c.transactions q ∙ ap (λ b. cond b a (at t q)) e in
@@ -87,14 +92,17 @@ module _ (id : List ℕ) (a : Option Transaction) (vs : List Invocation) (t t' :
 
   pub changed : dialogues_of (joined t' lists' talks') ≡ put (dialogues_of (joined t lists talks)) id (option_map (dialogue_from (talk_of talks' id) vs) a)
   unfolding put
-  changed = fun_ext (λ q. dialogues-joined t' lists' talks' q ∙ by q (same id q) refl ∙ ap (cond (same id q) (option_map (dialogue_from (talk_of talks' id) vs) a)) (sym (dialogues-joined t lists talks q)))
+  changed = fun_ext (λ q. dialogues-joined t' lists' talks' q ∙ by q (same id q) refl
+      ∙ ap (cond (same id q) (option_map (dialogue_from (talk_of talks' id) vs) a)) (sym (dialogues-joined t lists talks q)))
     where
       by : (q : List ℕ) (b : Bool) → same id q ≡ b
-          → option_map (dialogue_from (talk_of talks' q) (invocations_at lists' q)) (at t' q) ≡ cond b (option_map (dialogue_from (talk_of talks' id) vs) a) (option_map (dialogue_from (talk_of talks q) (invocations_at lists q)) (at t q))
+          → option_map (dialogue_from (talk_of talks' q) (invocations_at lists' q)) (at t' q)
+          ≡ cond b (option_map (dialogue_from (talk_of talks' id) vs) a) (option_map (dialogue_from (talk_of talks q) (invocations_at lists q)) (at t q))
       by q true e = here q e
       by q false e = there q e
 
-  pub tied_changed : AreTied t lists talks → length talks ≤ length talks' → (a ≢ None → slot_of id < length talks') → (a ≡ None → vs ≡ []) → (a ≢ None → IsIdOf t.shard id) → t'.shard ≡ t.shard → count t' ≤ 4096
+  pub tied_changed : AreTied t lists talks → length talks ≤ length talks' → (a ≢ None → slot_of id < length talks') → (a ≡ None → vs ≡ [])
+      → (a ≢ None → IsIdOf t.shard id) → t'.shard ≡ t.shard → count t' ≤ 4096
       → AreTied t' lists' talks'
   tied_changed tied longer has_talk none of_shard shard few = record {
     have_talks = λ q some. talk q some (same id q) refl;
@@ -122,9 +130,11 @@ module _ (id : List ℕ) (a : Option Transaction) (vs : List Invocation) (t t' :
       own q some false e = tied.of_shard q (λ n. some (at_other q e ∙ n))
 
 -- ---- where nothing changes
-pub same_joined : (t t' : OpenTransactions) (lists : InvocationLists) (talks talks' : List Talk) → t' ≡ record t { room = t'.room } → ((q : List ℕ) → at t q ≢ None → talk_of talks' q ≡ talk_of talks q)
+pub same_joined : (t t' : OpenTransactions) (lists : InvocationLists) (talks talks' : List Talk) → t' ≡ record t { room = t'.room }
+    → ((q : List ℕ) → at t q ≢ None → talk_of talks' q ≡ talk_of talks q)
     → joined t' lists talks' ≡ joined t lists talks
-same_joined t t' lists talks talks' e kept = ap (λ (s : OpenTransactions). joined s lists talks') e ∙ (λ i. record { shard = t.shard; next = t.next; open_ones = same_ones i })
+same_joined t t' lists talks talks' e kept = ap (λ (s : OpenTransactions). joined s lists talks') e
+    ∙ (λ i. record { shard = t.shard; next = t.next; open_ones = same_ones i })
   where
     by : (q : List ℕ) (o : Option Transaction) → (o ≢ None → talk_of talks' q ≡ talk_of talks q)
         → option_map (dialogue_from (talk_of talks' q) (invocations_at lists q)) o ≡ option_map (dialogue_from (talk_of talks q) (invocations_at lists q)) o

@@ -32,7 +32,8 @@ module _ (t : OpenTransactions) (lists : InvocationLists) (talks : List Talk) (t
   open_as i s there = dialogues-joined t lists talks i ∙ ap (option_map (dialogue_at lists talks i)) there
 
   module _ (S : State) (now : ℕ) (has : HasDialogues S (joined t lists talks) now) where
-    due_in : (i : List ℕ) (j : ℤ) (v : Invocation) (s : Transaction) → at t i ≡ Some s → csl.IsDue lists now i j v → IsDue S t.shard i (dialogue_at lists talks i s) j v
+    due_in : (i : List ℕ) (j : ℤ) (v : Invocation) (s : Transaction) → at t i ≡ Some s → csl.IsDue lists now i j v
+        → IsDue S t.shard i (dialogue_at lists talks i s) j v
     due_in i j v s there due = record {
       of_shard = (machine_id t.shard i (tied.of_shard i (standing_open i j v due.stands))).shard;
       is_open = ap (λ D. D i) has.dialogues ∙ open_as i s there;

@@ -40,13 +40,19 @@ module _ {X : Type 0} where
 
   apart_from : (x : List ℕ) (es : List (List ℕ × X)) → T (below_all octets_cmp x es) → IsNotIn x (keys_in es)
   apart_from x [] h = tt
-  apart_from x (e ∷ es) h =
-      ((λ s. not_less x e.0 s (T-first (is_lt (octets_cmp x e.0)) (below_all octets_cmp x es) h)), apart_from x es (T-second (is_lt (octets_cmp x e.0)) (below_all octets_cmp x es) h))
+  apart_from x (e ∷ es) h = (
+    (λ s. not_less x e.0 s (T-first (is_lt (octets_cmp x e.0)) (below_all octets_cmp x es) h)),
+    apart_from x es
+        (T-second (is_lt (octets_cmp x e.0)) (below_all octets_cmp x es) h),
+  )
 
   different : (es : List (List ℕ × X)) → T (finite.is_sorted octets_cmp es) → AreDifferent (keys_in es)
   different [] h = tt
-  different (e ∷ es) h =
-      (apart_from e.0 es (T-first (below_all octets_cmp e.0 es) (finite.is_sorted octets_cmp es) h), different es (T-second (below_all octets_cmp e.0 es) (finite.is_sorted octets_cmp es) h))
+  different (e ∷ es) h = (
+    apart_from e.0 es (T-first (below_all octets_cmp e.0 es) (finite.is_sorted octets_cmp es) h),
+    different es
+        (T-second (below_all octets_cmp e.0 es) (finite.is_sorted octets_cmp es) h),
+  )
 
 -- ---- and those at which something stands
 or-true : (a b : Bool) → b ≡ true → (a || b) ≡ true
@@ -71,7 +77,8 @@ every_in P [] h = tt
 every_in P (k ∷ ks) h = (h k (inl refl), every_in P ks (λ q there. h q (inr there)))
 
 -- ---- a full shard
-module _ (t : OpenTransactions) (lists : InvocationLists) (talks : List Talk) (tied : AreTied t lists talks) (S : State) (is : S.dialogues ≡ dialogues_of (joined t lists talks)) where
+module _ (t : OpenTransactions) (lists : InvocationLists) (talks : List Talk) (tied : AreTied t lists talks) (S : State)
+    (is : S.dialogues ≡ dialogues_of (joined t lists talks)) where
   ids : List (List ℕ)
   ids = finite.keys t.open_ones
 
@@ -123,7 +130,8 @@ module _ (t : OpenTransactions) (lists : InvocationLists) (talks : List Talk) (t
         absurd (not_full S t.shard ids (λ q _ some. listed q some) few is_full)
   ]
 
-pub full_iff : (t : OpenTransactions) (lists : InvocationLists) (talks : List Talk) (d : OpenDialogues) (view : joined t lists talks ≡ d) (tied : AreTied t lists talks) (P : Type 0) → P ↔ (count t ≡ 4096)
+pub full_iff : (t : OpenTransactions) (lists : InvocationLists) (talks : List Talk) (d : OpenDialogues) (view : joined t lists talks ≡ d)
+    (tied : AreTied t lists talks) (P : Type 0) → P ↔ (count t ≡ 4096)
     → (S : State) → S.dialogues ≡ dialogues_of d → P ↔ IsFull S d.shard
 full_iff t lists talks d view tied P told =
     subst (λ (e : OpenDialogues). (S : State) → S.dialogues ≡ dialogues_of e → P ↔ IsFull S e.shard) view

@@ -30,7 +30,8 @@ module _ {X Y : Type 0} (f : List ℕ → X → Y) where
   find_anew : (q : List ℕ) (es : List (List ℕ × X)) → finite.find octets_cmp q (entries_anew es) ≡ option_map (f q) (finite.find octets_cmp q es)
   find_anew q [] = refl
   find_anew q (e ∷ es) =
-      elim (eq_by_cmp octets_cmp q e.0) as (λ b. eq_by_cmp octets_cmp q e.0 ≡ b → cond b (Some (f e.0 e.1)) (finite.find octets_cmp q (entries_anew es)) ≡ option_map (f q) (cond b (Some e.1) (finite.find octets_cmp q es))) [
+      elim (eq_by_cmp octets_cmp q e.0) as (λ b. eq_by_cmp octets_cmp q e.0 ≡ b
+      → cond b (Some (f e.0 e.1)) (finite.find octets_cmp q (entries_anew es)) ≡ option_map (f q) (cond b (Some e.1) (finite.find octets_cmp q es))) [
         | true ↦ λ same. ap (λ (k : List ℕ). Some (f k e.1)) (sym (same_octets q e.0 same))
         | false ↦ λ _. find_anew q es
       ] refl
@@ -57,7 +58,8 @@ module _ {X Y : Type 0} (f : List ℕ → X → Y) where
 
     pub len-remade : finite.len (remade f m) ≡ finite.len m
     len-remade =
-        finite.len-entries (remade f m) ∙ ap length entries-remade ∙ length-map (finite.entries m) (λ (e : List ℕ × X). (e.0, f e.0 e.1)) ∙ sym (finite.len-entries m)
+        finite.len-entries (remade f m) ∙ ap length entries-remade ∙ length-map (finite.entries m) (λ (e : List ℕ × X). (e.0, f e.0 e.1))
+        ∙ sym (finite.len-entries m)
 
 -- ---- what is open
 module _ (t : OpenTransactions) (lists : InvocationLists) (talks : List Talk) where
@@ -71,7 +73,8 @@ module _ (t : OpenTransactions) (lists : InvocationLists) (talks : List Talk) wh
   pub invocations-joined : AreTied t lists talks → (q : List ℕ) → invocations_in (dialogues_of (joined t lists talks) q) ≡ invocations_at lists q
   invocations-joined tied q = ap invocations_in (dialogues-joined q) ∙ by (at t q) (tied.only_open q)
     where
-      by : (o : Option Transaction) → (o ≡ None → invocations_at lists q ≡ []) → invocations_in (option_map (dialogue_at lists talks q) o) ≡ invocations_at lists q
+      by : (o : Option Transaction) → (o ≡ None → invocations_at lists q ≡ [])
+          → invocations_in (option_map (dialogue_at lists talks q) o) ≡ invocations_at lists q
       by None none = sym (none refl)
       by (Some s) none = refl
 

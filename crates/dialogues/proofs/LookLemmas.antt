@@ -22,7 +22,8 @@ module _ (t : OpenTransactions) (lists : InvocationLists) (talks : List Talk) (f
       → tsl.told_of (Continue origin destination) (continue_row s r from origin) ≡ told_of origin destination (for_it (continue_row s r from origin))
   of_continue origin destination s None = refl
   of_continue origin destination s (Some known) =
-      elim (same known origin) as (λ b. tsl.told_of (Continue origin destination) (cond b (row (Some s) ForIt) (row (Some s) Unassigned)) ≡ told_of origin destination (for_it (cond b (row (Some s) ForIt) (row (Some s) Unassigned)))) [
+      elim (same known origin) as (λ b. tsl.told_of (Continue origin destination) (cond b (row (Some s) ForIt) (row (Some s) Unassigned))
+      ≡ told_of origin destination (for_it (cond b (row (Some s) ForIt) (row (Some s) Unassigned)))) [
         | true ↦ refl
         | false ↦ refl
       ]
@@ -36,7 +37,8 @@ module _ (t : OpenTransactions) (lists : InvocationLists) (talks : List Talk) (f
   by_transaction (Abort destination) None = refl
   by_transaction (Abort destination) (Some s) = refl
 
-  pub received_is_looked : (d : OpenDialogues) (head : Head) → joined t lists talks ≡ d → received t from head ≡ looked from head (dialogues_of d (destination_of head))
+  pub received_is_looked : (d : OpenDialogues) (head : Head) → joined t lists talks ≡ d
+      → received t from head ≡ looked from head (dialogues_of d (destination_of head))
   received_is_looked d head view =
       by_transaction head (at t (destination_of head))
       ∙ ap (looked from head) (sym (dialogues-joined t lists talks (destination_of head)))

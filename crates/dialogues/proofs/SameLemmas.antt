@@ -4,13 +4,11 @@ use Rattle.std.specs.Bool.{Decides}
 use Rattle.std.specs.List.{list_any}
 use Rattle.std.specs.Ordering.{eq_by_cmp}
 use Rattle.std.specs.FinMap as map
-use Rattle.std.specs.Prelude.{is_some, option_map, slice_get}
-use Rattle.std.proofs.lemmas.Option.{slice_get-get_or}
+use Rattle.std.specs.Prelude.{is_some}
 use Rattle.hlr_types.specs.Orders.{octets_cmp}
 use Rattle.hlr_types.proofs.OrderLemmas.{octets_total, octets_exact, same_octets}
 use Rattle.machine.specs.State as machine
 use Rattle.csl.specs.declared.was.Was.{Was}
-use Rattle.csl.specs.declared.was.Was.TheVariants.{Sent, Waiting}
 use Rattle.csl.specs.Seen.{was, was_back, told_of}
 use Rattle.dialogues.specs.declared.dialogue.Dialogue.{Dialogue}
 use Rattle.dialogues.specs.Dialogues.{OpenDialogues, dialogues_of, invocations_in}
@@ -52,7 +50,8 @@ some_tie q [] e = absurd (cc e)
 some_tie q (id ∷ ids) e =
     elim (eq_by_cmp octets_cmp q id) as (λ b. eq_by_cmp octets_cmp q id ≡ b → (k : ℕ) × (k < length (id ∷ ids)) × (get_or (id ∷ ids) k [] ≡ q)) [
       | true ↦ λ t. (0, omega arith, sym (same_octets q id t))
-      | false ↦ λ f. let rest = some_tie q ids (sym (ap (λ b. b || list_any (eq_by_cmp octets_cmp q) ids) f) ∙ e) in (suc rest.0, (let low = rest.1 in omega arith), rest.2)
+      | false ↦ λ f. let rest = some_tie q ids (sym (ap (λ b. b || list_any (eq_by_cmp octets_cmp q) ids) f) ∙ e) in
+          (suc rest.0, (let low = rest.1 in omega arith), rest.2)
     ] refl
 
 -- maps with the same keys, and the same at each, are equal

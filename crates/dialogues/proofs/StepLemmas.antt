@@ -40,7 +40,8 @@ fresh_none shard = record {
 }
 
 -- ---- one closes
-module _ (id : List ℕ) (t t' : OpenTransactions) (lists lists' : InvocationLists) (talks : List Talk) (closes : t' ≡ closed t id) (forgets : lists' ≡ put_list lists id []) where
+module _ (id : List ℕ) (t t' : OpenTransactions) (lists lists' : InvocationLists) (talks : List Talk) (closes : t' ≡ closed t id)
+    (forgets : lists' ≡ put_list lists id []) where
   changes_closed : ChangesAt id None [] t t' lists lists' talks talks
   changes_closed = record {
     transactions = λ q. ap (λ (s : OpenTransactions). at s q) closes ∙ at-closed t id q;
@@ -62,7 +63,8 @@ module _ (id : List ℕ) (t t' : OpenTransactions) (lists lists' : InvocationLis
   place_after tied some = omega (arith, ap count closes ∙ count-closed t id some, tied.few)
 
 -- what a caller claims to be open is open
-pub open_here : (t : OpenTransactions) (lists : InvocationLists) (talks : List Talk) (d : OpenDialogues) (id : List ℕ) → joined t lists talks ≡ d → dialogues_of d id ≢ None → at t id ≢ None
+pub open_here : (t : OpenTransactions) (lists : InvocationLists) (talks : List Talk) (d : OpenDialogues) (id : List ℕ) → joined t lists talks ≡ d
+    → dialogues_of d id ≢ None → at t id ≢ None
 open_here t lists talks d id view some = transaction_open t lists talks id (subst (λ (e : OpenDialogues). dialogues_of e id ≢ None) (sym view) some)
 
 -- ---- where a growth is refused
@@ -90,23 +92,27 @@ module _ (t s : OpenTransactions) (lists : InvocationLists) (talks roomy : List 
 -- ---- one opens
 
 -- if there is a next id, there is room for one more
-pub place_for_one : (t : OpenTransactions) (next : Option (List ℕ)) (id : List ℕ) → next ≡ Some id → IsNone next ↔ (count t ≡ 4096) → count t ≤ 4096 → count t + 1 ≤ 4096
+pub place_for_one : (t : OpenTransactions) (next : Option (List ℕ)) (id : List ℕ) → next ≡ Some id → IsNone next ↔ (count t ≡ 4096) → count t ≤ 4096
+    → count t + 1 ≤ 4096
 place_for_one t next id some none few =
     let not_full : count t ≢ 4096 = λ full. let h : IsNone next = none.1 full in let gone : IsNone (Some id) = subst IsNone some h in cc in
     omega arith
 
 pub open_when_begun : (s t' : OpenTransactions) (id : List ℕ) (x : Transaction) → Begins s id x t' → at t' id ≡ Some x
-open_when_begun s t' id x b = ap (λ (u : OpenTransactions). at u id) b.after ∙ get-inserted s.open_ones id x id ∙ ap (λ c. cond c (Some x) (at s id)) (same_refl id)
+open_when_begun s t' id x b = ap (λ (u : OpenTransactions). at u id) b.after ∙ get-inserted s.open_ones id x id
+    ∙ ap (λ c. cond c (Some x) (at s id)) (same_refl id)
 
 -- the one that begins has the id that was next
-pub begun_next : (t s t' : OpenTransactions) (id begun : List ℕ) (x : Transaction) → t.next ≡ Some id → s ≡ record t { room = s.room } → Begins s begun x t' → id ≡ begun
+pub begun_next : (t s t' : OpenTransactions) (id begun : List ℕ) (x : Transaction) → t.next ≡ Some id → s ≡ record t { room = s.room } → Begins s begun x t'
+    → id ≡ begun
 begun_next t s t' id begun x next more b =
     let known : Some begun ≡ Some id = sym b.was_next ∙ ap (λ (u : OpenTransactions). u.next) more ∙ next in cc
 
 pub slot_there : (t : OpenTransactions) (id : List ℕ) (x : Transaction) (o : Option ℕ) → at t id ≡ Some x → o ≡ slot_if_open t id → o ≡ Some (slot_of id)
 slot_there t id x o there e = e ∙ ap (λ (a : Option Transaction). cond (is_some a) (Some (slot_of id)) None) there
 
-module _ (id : List ℕ) (t s t' : OpenTransactions) (lists lists' : InvocationLists) (talks roomy talks' : List Talk) (x : Transaction) (vs : List Invocation) (talk : Talk)
+module _ (id : List ℕ) (t s t' : OpenTransactions) (lists lists' : InvocationLists) (talks roomy talks' : List Talk) (x : Transaction) (vs : List Invocation)
+    (talk : Talk)
     (more : s ≡ record t { room = s.room }) (begins : Begins s id x t') (own : HaveOwnSlots t') (writes : talks' ≡ slice_set roomy (slot_of id) talk)
     (invokes : (q : List ℕ) → invocations_at lists' q ≡ cond (same id q) vs (invocations_at lists q))
     (tied : AreTied t lists talks) (place : count t + 1 ≤ 4096) (room : slot_of id < length roomy) (longer : length talks ≤ length roomy)
@@ -128,7 +134,8 @@ module _ (id : List ℕ) (t s t' : OpenTransactions) (lists lists' : InvocationL
     transactions = at_opened;
     invocations = invokes;
     others = λ q some apart.
-        ap (λ ks. talk_of ks q) writes ∙ get_or-set_other roomy (slot_of id) (slot_of q) talk no_talk (other_slot q some apart) ∙ kept (slot_of q) no_talk (tied.have_talks q some);
+        ap (λ ks. talk_of ks q) writes ∙ get_or-set_other roomy (slot_of id) (slot_of q) talk no_talk (other_slot q some apart)
+        ∙ kept (slot_of q) no_talk (tied.have_talks q some);
   }
 
   pub dialogues_opened : (d : OpenDialogues) → joined t lists talks ≡ d
@@ -148,7 +155,8 @@ module _ (id : List ℕ) (t s t' : OpenTransactions) (lists lists' : InvocationL
       (omega (arith, ap count begins.after, count-opened s id x, ap count more))
 
 -- ---- one closes and another opens in its place
-module _ (id next : List ℕ) (apart : id ≢ next) (vs : List Invocation) (lists l l' : InvocationLists) (invokes : l ≡ put_list lists next vs) (forgets : l' ≡ put_list l id []) where
+module _ (id next : List ℕ) (apart : id ≢ next) (vs : List Invocation) (lists l l' : InvocationLists) (invokes : l ≡ put_list lists next vs)
+    (forgets : l' ≡ put_list l id []) where
   pub invocations_replaced : (q : List ℕ) → invocations_at l' q ≡ cond (same next q) vs (invocations_at (put_list lists id []) q)
   invocations_replaced q =
       ap (λ (k : InvocationLists). invocations_at k q) forgets
@@ -169,7 +177,8 @@ pub next_apart : (t : OpenTransactions) (id next : List ℕ) → MayBegin (close
 next_apart t id next may e = may.not_freed_last (ap Some e)
 
 -- ---- one goes on
-module _ (id : List ℕ) (t t' : OpenTransactions) (lists lists' : InvocationLists) (talks : List Talk) (x : Transaction) (vs : List Invocation) (sets : t' ≡ with_transaction t id x) (moves : lists' ≡ put_list lists id vs) where
+module _ (id : List ℕ) (t t' : OpenTransactions) (lists lists' : InvocationLists) (talks : List Talk) (x : Transaction) (vs : List Invocation)
+    (sets : t' ≡ with_transaction t id x) (moves : lists' ≡ put_list lists id vs) where
   changes_going : ChangesAt id (Some x) vs t t' lists lists' talks talks
   changes_going = record {
     transactions = λ q. ap (λ (s : OpenTransactions). at s q) sets ∙ get-inserted t.open_ones id x q;
@@ -191,11 +200,13 @@ module _ (id : List ℕ) (t t' : OpenTransactions) (lists lists' : InvocationLis
 
   pub tied_going : AreTied t lists talks → at t id ≢ None → AreTied t' lists' talks
   tied_going tied some =
-      tied_changed id (Some x) vs t t' lists lists' talks talks changes_going tied (omega arith) (λ _. tied.have_talks id some) (λ e. absurd (some≢none x e)) (λ _. tied.of_shard id some)
+      tied_changed id (Some x) vs t t' lists lists' talks talks changes_going tied (omega arith) (λ _. tied.have_talks id some) (λ e. absurd (some≢none x e))
+      (λ _. tied.of_shard id some)
       (ap (λ (s : OpenTransactions). s.shard) sets) (omega (arith, ap count sets ∙ count-set t id x some, tied.few))
 
 -- ---- one forgets an invocation
-module _ (id : List ℕ) (invoke : ℤ) (t : OpenTransactions) (lists lists' : InvocationLists) (talks : List Talk) (forgets : lists' ≡ put_list lists id (without invoke (invocations_at lists id))) where
+module _ (id : List ℕ) (invoke : ℤ) (t : OpenTransactions) (lists lists' : InvocationLists) (talks : List Talk)
+    (forgets : lists' ≡ put_list lists id (without invoke (invocations_at lists id))) where
   changes_forgetting : ChangesAt id (at t id) (without invoke (invocations_at lists id)) t t lists lists' talks talks
   changes_forgetting = record {
     transactions = λ q. by q (same id q) refl;
@@ -214,11 +225,13 @@ module _ (id : List ℕ) (invoke : ℤ) (t : OpenTransactions) (lists lists' : I
       ∙ ap (put (dialogues_of (joined t lists talks)) id) (sym (ap (option_map (forgotten invoke)) (dialogues-joined t lists talks id) ∙ by (at t id)))
       ∙ ap (λ (e : OpenDialogues). put (dialogues_of e) id (option_map (forgotten invoke) (dialogues_of e id))) view
     where
-      by : (o : Option Transaction) → option_map (forgotten invoke) (option_map (dialogue_at lists talks id) o) ≡ option_map (dialogue_from (talk_of talks id) (without invoke (invocations_at lists id))) o
+      by : (o : Option Transaction) → option_map (forgotten invoke) (option_map (dialogue_at lists talks id) o)
+          ≡ option_map (dialogue_from (talk_of talks id) (without invoke (invocations_at lists id))) o
       by None = refl
       by (Some s) = refl
 
   pub tied_forgetting : AreTied t lists talks → AreTied t lists' talks
   tied_forgetting tied =
-      tied_changed id (at t id) (without invoke (invocations_at lists id)) t t lists lists' talks talks changes_forgetting tied (omega arith) (tied.have_talks id)
+      tied_changed id (at t id) (without invoke (invocations_at lists id)) t t lists lists' talks talks changes_forgetting tied (omega arith)
+      (tied.have_talks id)
       (λ none. ap (without invoke) (tied.only_open id none)) (tied.of_shard id) refl tied.few

@@ -3,7 +3,7 @@ use Rattle.std.specs.Prelude.{◌≡◌, ◌≢◌, ◌<◌, ◌≤◌, ℕ, Lis
 use Rattle.std.specs.Prelude as lists
 use Rattle.std.specs.FinMap as map
 use Rattle.hlr_types.specs.Orders.{octets_cmp}
-use Rattle.machine.specs.Numbers.{most_dialogues}
+use Rattle.machine.specs.declared.numbers.TheConstants.{MAX_DIALOGUES}
 use Rattle.machine.specs.State as machine
 use Rattle.tidalloc.specs.LiveIds.{slot_of}
 use Rattle.tsl.specs.Transactions.{OpenTransactions, HaveIdsOfShard, at, count}
@@ -50,4 +50,4 @@ pub record AreTied (t : OpenTransactions) (lists : InvocationLists) (talks : Lis
   pub have_talks : (id : List ℕ) → at t id ≢ None → slot_of id < length talks
   pub only_open : (id : List ℕ) → at t id ≡ None → invocations_at lists id ≡ []
   pub of_shard : HaveIdsOfShard t
-  pub few : count t ≤ most_dialogues
+  pub few : count t ≤ MAX_DIALOGUES

@@ -83,7 +83,8 @@ impl Dialogues {
     /// Which dialogue a message is for, from whatever source (Q.774): a Continue for the dialogue with its destination id, if the
     /// transaction table accepts it; an End or an Abort for the open dialogue with its destination id.
     pub fn look(&self, head: &Head) -> Received
-        ensures { (from : List ℕ) → result ≡ looked from head.now (dialogues_of self.now (destination_of head.now)) }
+        ensures { (from : List ℕ) → result
+            ≡ looked from head.now (dialogues_of self.now (destination_of head.now)) }
     {
         self.transactions.look(head)
     }
@@ -106,7 +107,8 @@ impl Dialogues {
     /// The invocation that an expiry handles: of those whose timer is due the least by time, then by the octets of the local id,
     /// then by the invoke id as a signed number (profile).
     pub fn least_due(&self, now: u64) -> Option<Due>
-        ensures expiry { (S : State) → HasDialogues S self.now now → Expiry S self.now.shard (expiry_turn self.now result) }
+        ensures expiry { (S : State) → HasDialogues S self.now now
+            → Expiry S self.now.shard (expiry_turn self.now result) }
         ensures is_open { IfSome result (λ due. dialogues_of self.now due.id ≢ None) }
         // A caller that passes the invoke id on needs its range.
         ensures fits { IfSome result (λ due. FitsSigned w8 due.invoke) }
@@ -118,7 +120,8 @@ impl Dialogues {
     pub fn next_id(&self) -> Option<Tid>
         ensures value { result ≡ self.now.next }
         ensures is_new { IfSome result (IsNew self.now) }
-        ensures full { (S : State) → S.dialogues ≡ dialogues_of self.now → IsNone result ↔ IsFull S self.now.shard }
+        ensures full { (S : State) → S.dialogues ≡ dialogues_of self.now
+            → IsNone result ↔ IsFull S self.now.shard }
     {
         self.transactions.next_id()
     }
@@ -135,7 +138,8 @@ impl Dialogues {
 
     /// Whether the shard is full: 4,096 dialogues are open.
     pub fn is_full(&self) -> bool
-        ensures full { (S : State) → S.dialogues ≡ dialogues_of self.now → IsTrue result ↔ IsFull S self.now.shard }
+        ensures full { (S : State) → S.dialogues ≡ dialogues_of self.now
+            → IsTrue result ↔ IsFull S self.now.shard }
         ensures room { IsTrue result ↔ (self.now.next ≡ None) }
     {
         self.next_id().is_none()
@@ -145,7 +149,8 @@ impl Dialogues {
     pub fn len(&self) -> usize
         ensures value { result ≡ count self.now }
         ensures most { result ≤ 4096 }
-        ensures of_shard { (id : List ℕ) → dialogues_of self.now id ≢ None → IsIdOf self.now.shard id }
+        ensures of_shard { (id : List ℕ) → dialogues_of self.now id ≢ None
+            → IsIdOf self.now.shard id }
     {
         self.transactions.len()
     }
@@ -159,7 +164,8 @@ impl Dialogues {
 
     /// The invocations of a dialogue by invoke id: each with its state and its deadline.
     pub fn invocations(&self, id: Tid) -> Result<Vec<(i8, Was, u64)>, AllocError>
-        ensures { IfOk result (λ told. told.items ≡ map told_of (invocations_in (dialogues_of self.now id))) }
+        ensures { IfOk result (λ told. told.items
+            ≡ map told_of (invocations_in (dialogues_of self.now id))) }
     {
         self.invocations.list(id)
     }
@@ -192,7 +198,8 @@ impl Dialogues {
         requires early { now ≤ 2 ^ 62 }
         ensures next { IfOk result (λ id. self.old.next ≡ Some id) }
         ensures opened { IfOk result (λ id. dialogues_of self.new
-            ≡ put (dialogues_of self.old) id (Some (dialogue_with (first_invoked now (invokes - 1)) dialogue.now))) }
+            ≡ put (dialogues_of self.old) id
+            (Some (dialogue_with (first_invoked now (invokes - 1)) dialogue.now))) }
         ensures shard { self.new.shard ≡ self.old.shard }
         ensures err { OnErr result (self.new ≡ self.old) }
     {
@@ -217,7 +224,8 @@ impl Dialogues {
         requires most { invokes < 128 }
         requires early { now ≤ 2 ^ 62 }
         ensures next { IfOk result (λ next. next ≡ next_use id) }
-        ensures replaced { IfOk result (λ next. dialogues_of self.new ≡ put (put (dialogues_of self.old) id None) next
+        ensures replaced { IfOk result (λ next. dialogues_of self.new
+            ≡ put (put (dialogues_of self.old) id None) next
             (Some (dialogue_with (first_invoked now (invokes - 1)) dialogue.now))) }
         ensures shard { self.new.shard ≡ self.old.shard }
         ensures err { OnErr result (self.new ≡ self.old) }

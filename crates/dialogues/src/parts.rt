@@ -68,9 +68,11 @@ pub(crate) fn begin(
 ) -> Tid
     requires room { 0 < transactions.old.room }
     requires slot { IfSome transactions.old.next (λ id. slot_of id < length talks.old.items) }
-    ensures begun { Begins transactions.old result (transaction_of dialogue.now.transaction) transactions.new }
+    ensures begun { Begins transactions.old result
+        (transaction_of dialogue.now.transaction) transactions.new }
     ensures own_slots { HaveOwnSlots transactions.new }
-    ensures kept { talks.new.items ≡ slice_set talks.old.items (slot_of result) (talk_in dialogue.now) }
+    ensures kept { talks.new.items ≡ slice_set talks.old.items (slot_of result)
+        (talk_in dialogue.now) }
 {
     let id = begin_transaction(transactions, dialogue.transaction);
     let slot = transactions.slot(id).unwrap();

@@ -45,7 +45,8 @@ fn same_ids(left: &[Tid], right: &[Tid]) -> bool
 /// Whether the same dialogues are open under these ids.
 fn same_in(left: &Dialogues, right: &Dialogues, ids: &[Tid]) -> Result<bool, AllocError>
     ensures { IfOk result (λ same. IsTrue same ↔ ((k : ℕ) → k < length ids.now
-        → dialogues_of left.now (slice_index_or ids.now k []) ≡ dialogues_of right.now (slice_index_or ids.now k []))) }
+        → dialogues_of left.now (slice_index_or ids.now k [])
+        ≡ dialogues_of right.now (slice_index_or ids.now k []))) }
 {
     for id in ids {
         if !same_at(left, right, *id)? {
@@ -57,7 +58,8 @@ fn same_in(left: &Dialogues, right: &Dialogues, ids: &[Tid]) -> Result<bool, All
 
 /// Whether the same dialogue is open under an id, or none in both.
 fn same_at(left: &Dialogues, right: &Dialogues, id: Tid) -> Result<bool, AllocError>
-    ensures { IfOk result (λ same. IsTrue same ↔ (dialogues_of left.now id ≡ dialogues_of right.now id)) }
+    ensures { IfOk result (λ same. IsTrue same
+        ↔ (dialogues_of left.now id ≡ dialogues_of right.now id)) }
 {
     let (mine, theirs) = match (left.get(id), right.get(id)) {
         (Some(mine), Some(theirs)) => (mine, theirs),

@@ -10,20 +10,20 @@ use Rattle.machine.specs.Outcome.{Outcome, send}
 use Rattle.machine.specs.Turns.{Turn, Begins, Changes, TurnsTo, concern, named}
 use Rattle.machine.specs.Keys.{shard_of}
 use Rattle.machine.specs.Routing.{route}
-use Rattle.machine.specs.Step.{Answer, Full, HasNoRoom, IsNewId, Step, TurnedAway, WouldOverflow, moved, outcome_in, subject_of, taken, ticked}
-use Rattle.frames.specs.Octets.{RawEvent, IsEvent, StepOctets}
+use Rattle.machine.specs.Step.{Answer, Full, HasNoRoom, IsNewId, WouldOverflow, moved, outcome_in, taken, ticked}
+use Rattle.frames.specs.Octets.{RawEvent}
 use Rattle.q773_comp.specs.declared.component.Component as code
 use Rattle.msgarena.specs.declared.parameter.Parameter.{Parameter}
-use Rattle.dialogues.specs.Dialogues.{OpenDialogues, IsNew}
+use Rattle.dialogues.specs.Dialogues.{IsNew}
 use Rattle.location.specs.declared.outcome.DialogueChange.{DialogueChange}
-use Rattle.location.specs.declared.outcome.DialogueChange.TheVariants.{Gone, GoesOn, Forgets}
+use Rattle.location.specs.declared.outcome.DialogueChange.TheVariants.{Closes, Opens, GoesOn, Forgets}
 use Rattle.location.specs.Seen.{opens_of}
 use Rattle.shard_state.specs.declared.answer.StepAnswer.{StepAnswer}
 use Rattle.shard_state.specs.declared.plan.Plan.{Plan}
 use Rattle.shard_state.specs.declared.plan.Named.{Named}
 use Rattle.shard_state.specs.declared.plan.Named.TheVariants.{Nothing, Open, Continued}
-use Rattle.shard_state.specs.Answers.{Says, entry_of}
-use Rattle.shard_state.specs.Plans.{CanSettle, HasRoom, IsNextId, Opens, Overflows, id_of, plan_outcome, state_after_plan}
+use Rattle.shard_state.specs.Answers.{Says}
+use Rattle.shard_state.specs.Plans.{HasRoom, IsNextId, IsOpening, Overflows, id_of, plan_outcome, state_after_plan}
 use Rattle.shard_state.specs.Shards.{ShardState, directory_of, state_of}
 use Rattle.turns.specs.Planning.{IsPlan}
 use Rattle.hlrcore.specs.Leading.{IsMine, Leads}
@@ -32,15 +32,15 @@ use Rattle.hlrcore.proofs.TurnLemmas.{IsForOpen}
 
 -- ---- whether a dialogue opens
 
-opens_in : (clock : ℕ) (stays : DialogueChange) → IsTrue (is_some (opens_of clock stays)) → Opens stays
-opens_in clock (Gone None) e = absurd cc
-opens_in clock (Gone (Some o)) e = tt
+opens_in : (clock : ℕ) (stays : DialogueChange) → IsTrue (is_some (opens_of clock stays)) → IsOpening stays
+opens_in clock Closes e = absurd cc
+opens_in clock (Opens o) e = tt
 opens_in clock GoesOn e = absurd cc
 opens_in clock (Forgets invoke) e = absurd cc
 
-opens_out : (clock : ℕ) (stays : DialogueChange) → Opens stays → IsTrue (is_some (opens_of clock stays))
-opens_out clock (Gone None) e = absurd e
-opens_out clock (Gone (Some o)) e = cc
+opens_out : (clock : ℕ) (stays : DialogueChange) → IsOpening stays → IsTrue (is_some (opens_of clock stays))
+opens_out clock Closes e = absurd e
+opens_out clock (Opens o) e = cc
 opens_out clock GoesOn e = absurd e
 opens_out clock (Forgets invoke) e = absurd e
 
@@ -73,22 +73,24 @@ pub settled_step : (s t : ShardState) (raw : RawEvent) (e : Event) (turn : Turn)
 settled_step s t raw e turn cs plan a mine turns own still is room not_over after says =
     let concerned : concern (state_of s).directory turn ≡ plan.imsi = concern_here s turn plan.imsi is.concern_is in
     taken_step (state_of s) (state_of t) s.shard raw e turn plan.new (plan_outcome s cs plan) a mine.is_event (routed_here s e mine.routed) turns is.leaves
-    (λ some. new_here s plan.new own (next_new s plan.named plan.new is.can.next_id (room (opens_in _ plan.outcome.stays some))))
-    (λ over. not_over (record { opens = opens_in _ plan.outcome.stays over.opens; beside = sym is.named_is ∙ over.beside; full = over.full }))
+    (λ some. new_here s plan.new own (next_new s plan.named plan.new is.can.next_id (room (opens_in _ plan.outcome.dialogue some))))
+    (λ over. not_over (record { opens = opens_in _ plan.outcome.dialogue over.opens; beside = sym is.named_is ∙ over.beside; full = over.full }))
     (after ∙ (λ i. moved (state_of s) (sym concerned i) (sym is.named_is i) plan.new (plan_outcome s cs plan)) ∙ sym (still _))
     (subst (λ (x : Option (List ℕ)). Says a (taken plan.new (plan_outcome s cs plan).opens) x (plan_outcome s cs plan).sent) is.subject_is says)
 
 -- ---- no room
 
-overflows_at : (s : ShardState) (n : ℕ) (turn : Turn) (cs : List (code.Component Parameter)) (plan : Plan) → n ≡ s.shard → IsPlan s turn cs plan → Overflows s plan
+overflows_at : (s : ShardState) (n : ℕ) (turn : Turn) (cs : List (code.Component Parameter)) (plan : Plan) → n ≡ s.shard → IsPlan s turn cs plan
+    → Overflows s plan
     → WouldOverflow (state_of s) n turn (outcome_in (state_of s) n turn plan.new)
 overflows_at s n turn cs plan here is over =
     subst (λ m. WouldOverflow (state_of s) m turn (outcome_in (state_of s) m turn plan.new)) (sym here)
     (subst (λ (o : Outcome). WouldOverflow (state_of s) s.shard turn o) (sym is.leaves)
-    (record { opens = opens_out _ plan.outcome.stays over.opens; beside = is.named_is ∙ over.beside; full = over.full }))
+    (record { opens = opens_out _ plan.outcome.dialogue over.opens; beside = is.named_is ∙ over.beside; full = over.full }))
 
 -- A Begin that is turned away.
-pub turned_step : (s : ShardState) (raw : RawEvent) (e : Event) (from origin : List ℕ) (name : Option (List ℕ)) (components : List Component) (plan : Plan) (a : StepAnswer)
+pub turned_step : (s : ShardState) (raw : RawEvent) (e : Event) (from origin : List ℕ) (name : Option (List ℕ)) (components : List Component) (plan : Plan)
+    (a : StepAnswer)
     → IsMine s raw e → TurnsTo (state_of s) e (Begins from origin name components)
     → IsPlan s (Begins from origin name components) [] plan → Overflows s plan
     → Says a None plan.subject (send from (SentAbort origin (Cause 4))) → Leads s raw a s
@@ -116,16 +118,18 @@ pub no_room : (s : ShardState) (imsi : List ℕ) (change : Change) (plan : Plan)
 no_room s imsi change plan here is over = (plan.new, overflows_at s (shard_of imsi) (Changes imsi change) [] plan here is over)
 
 -- An event for an open dialogue has room.
-opens_not : (clock : ℕ) (stays : DialogueChange) → opens_of clock stays ≡ None → Opens stays → ⊥
-opens_not clock (Gone None) e o = o
-opens_not clock (Gone (Some p)) e o = absurd cc
+opens_not : (clock : ℕ) (stays : DialogueChange) → opens_of clock stays ≡ None → IsOpening stays → ⊥
+opens_not clock Closes e o = o
+opens_not clock (Opens p) e o = absurd cc
 opens_not clock GoesOn e o = o
 opens_not clock (Forgets invoke) e o = o
 
-pub open_has_room : (s : ShardState) (turn : Turn) (cs : List (code.Component Parameter)) (plan : Plan) → IsPlan s turn cs plan → IsForOpen turn → HasRoom s plan
+pub open_has_room : (s : ShardState) (turn : Turn) (cs : List (code.Component Parameter)) (plan : Plan) → IsPlan s turn cs plan → IsForOpen turn
+    → HasRoom s plan
 open_has_room s turn cs plan is for opens beside =
-    absurd (opens_not _ plan.outcome.stays (sym (ap (λ (o : Outcome). o.opens) is.leaves) ∙ for (is.named_is ∙ beside) (state_of s) s.shard plan.new) opens)
+    absurd (opens_not _ plan.outcome.dialogue (sym (ap (λ (o : Outcome). o.opens) is.leaves) ∙ for (is.named_is ∙ beside) (state_of s) s.shard plan.new) opens)
 
-pub open_never_overflows : (s : ShardState) (turn : Turn) (cs : List (code.Component Parameter)) (plan : Plan) → IsPlan s turn cs plan → IsForOpen turn → Overflows s plan → ⊥
+pub open_never_overflows : (s : ShardState) (turn : Turn) (cs : List (code.Component Parameter)) (plan : Plan) → IsPlan s turn cs plan → IsForOpen turn
+    → Overflows s plan → ⊥
 open_never_overflows s turn cs plan is for over =
-    opens_not _ plan.outcome.stays (sym (ap (λ (o : Outcome). o.opens) is.leaves) ∙ for (is.named_is ∙ over.beside) (state_of s) s.shard plan.new) over.opens
+    opens_not _ plan.outcome.dialogue (sym (ap (λ (o : Outcome). o.opens) is.leaves) ∙ for (is.named_is ∙ over.beside) (state_of s) s.shard plan.new) over.opens

@@ -37,7 +37,8 @@ Keeps s = (s.current ≡ None) × (s.register ≡ None → s.purged ≡ false) �
 fresh_keeps : (c : Subscriber) → IsFresh c → Keeps (machine_subscriber c)
 fresh_keeps c is = (is.unmarked, (λ none. is.purged (no_register c.register none)), (λ w. left_none c.register (is.withdrawn w)))
 
-found_keeps : (found : Option Subscriber) (s : MachineSubscriber) → ((c : Subscriber) → found ≡ Some c → IsFresh c) → option_map machine_subscriber found ≡ Some s → Keeps s
+found_keeps : (found : Option Subscriber) (s : MachineSubscriber) → ((c : Subscriber) → found ≡ Some c → IsFresh c)
+    → option_map machine_subscriber found ≡ Some s → Keeps s
 found_keeps None s is e = absurd cc
 found_keeps (Some c) s is e =
     let same : machine_subscriber c ≡ s = cc in
@@ -52,7 +53,8 @@ opening_sound s records are fresh none = begins_sound (state_of s) (λ i. ap (λ
 pub own_part : (S T : State) (n : ℕ) → S ≡ part T n → S ≡ part S n
 own_part S T n e = e ∙ sym (part_alike n T (part T n) (part_agrees n T)) ∙ ap (λ (P : State). part P n) (sym e)
 
-pub opening_is_sound : (s : ShardState) (n : ℕ) (records : RecordMap) (directory : DirectoryMap) (hlr : List ℕ) → n < 16 → ((all : RecordMap) × (records ≡ part_of all n)) → AreFresh records
+pub opening_is_sound : (s : ShardState) (n : ℕ) (records : RecordMap) (directory : DirectoryMap) (hlr : List ℕ) → n < 16
+    → ((all : RecordMap) × (records ≡ part_of all n)) → AreFresh records
     → IsOpening n records directory hlr s
     → ((all : RecordMap) → records ≡ part_of all n → state_of s ≡ part (opening (records_of all) (directory_of directory) hlr) n)
     → IsSoundShard s
@@ -60,7 +62,8 @@ unfolding state_of
 opening_is_sound s n records directory hlr lt own fresh opens is = record {
   shard = subst (λ k. k < 16) (sym opens.shard_is) lt;
   sound = opening_sound s records opens.records_are fresh opens.none_open;
-  own = subst (λ k. state_of s ≡ part (state_of s) k) (sym opens.shard_is) (own_part (state_of s) (opening (records_of own.0) (directory_of directory) hlr) n (is own.0 own.1));
+  own = subst (λ k. state_of s ≡ part (state_of s) k) (sym opens.shard_is)
+      (own_part (state_of s) (opening (records_of own.0) (directory_of directory) hlr) n (is own.0 own.1));
 }
 
 if_found : (b : Bool) (found : Option Subscriber) (s : Subscriber) → cond b found None ≡ Some s → found ≡ Some s
@@ -71,10 +74,12 @@ if_found false found s e = absurd cc
 pub part_fresh : (all part : RecordMap) (n : ℕ) → AreFresh all → part ≡ part_of all n → AreFresh part
 part_fresh all part n fresh e = λ imsi s found.
     fresh imsi s (if_found (shard_of imsi == n) (map.get all imsi) s
-    (sym (map.get-retain_keys all (λ x. shard_of x == n) imsi (λ y tie. ap (λ x. shard_of x == n) (sym (digits_exact imsi y tie)))) ∙ ap (λ (m : RecordMap). map.get m imsi) (sym e) ∙ found))
+    (sym (map.get-retain_keys all (λ x. shard_of x == n) imsi (λ y tie. ap (λ x. shard_of x == n) (sym (digits_exact imsi y tie))))
+    ∙ ap (λ (m : RecordMap). map.get m imsi) (sym e) ∙ found))
 
 -- a step takes a sound shard to a sound shard
-pub step_keeps : (s t : ShardState) (raw : RawEvent) (a : StepAnswer) → IsSoundShard s → IsRouted (directory_of s.directory) raw s.shard → Leads s raw a t → IsSameShard s t → IsSoundShard t
+pub step_keeps : (s t : ShardState) (raw : RawEvent) (a : StepAnswer) → IsSoundShard s → IsRouted (directory_of s.directory) raw s.shard → Leads s raw a t
+    → IsSameShard s t → IsSoundShard t
 unfolding state_of
 step_keeps s t raw a is routed leads same =
     let before : LegalOctets s.shard (state_of s) [] (state_of s) = record {
@@ -90,7 +95,8 @@ step_keeps s t raw a is routed leads same =
     }
 
 -- whether the event is handled or not
-pub sound_after : {E : Type 0} (r : Result StepAnswer E) (s t : ShardState) (raw : RawEvent) → IsSoundShard s → IfOk r (λ a. Leads s raw a t) → OnOk r (IsRouted (directory_of s.directory) raw s.shard)
+pub sound_after : {E : Type 0} (r : Result StepAnswer E) (s t : ShardState) (raw : RawEvent) → IsSoundShard s → IfOk r (λ a. Leads s raw a t)
+    → OnOk r (IsRouted (directory_of s.directory) raw s.shard)
     → OnErr r (t ≡ s) → IsSameShard s t → IsSoundShard t
 sound_after (Ok a) s t raw is leads routed err same = step_keeps s t raw a is routed leads same
 sound_after (Err e) s t raw is leads routed err same = subst IsSoundShard (sym err) is

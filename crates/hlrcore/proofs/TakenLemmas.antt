@@ -1,10 +1,10 @@
 -- A turn as a step of the machine over octets.
-use Rattle.std.proofs.Common.{◌≡◌, ◌≢◌, ℕ, List, [], ◌∷◌, map, Bool, true, false, cond, Option, Some, None, is_some, IsTrue, refl, sym, ap, ◌∙◌, subst}
+use Rattle.std.proofs.Common.{◌≡◌, ℕ, List, [], cond, Option, Some, None, is_some, IsTrue, refl, sym, ap, ◌∙◌, subst}
 use Rattle.std.specs.Prelude.{Result, Ok, Err, IfOk, min, max, ◌==◌}
-use Rattle.std.proofs.Common.{◌⊎◌, inl, inr, eq-eqb}
+use Rattle.std.proofs.Common.{inl, inr, eq-eqb}
 use Rattle.std.proofs.lemmas.Bool.{cases_eq, ne_eqb}
 use Rattle.machine.specs.Keys.{put_at}
-use Rattle.machine.specs.Numbers.{latest_clock}
+use Rattle.machine.specs.declared.numbers.TheConstants.{MAX_CLOCK}
 use Rattle.machine_laws.proofs.Transfer.{put_at_same, put_at_other}
 use Rattle.machine.specs.Sent.{Out}
 use Rattle.machine.specs.Events.{Event, Clock}
@@ -12,7 +12,7 @@ use Rattle.machine.specs.State.{Dialogue, State, local_of_nobody}
 use Rattle.machine.specs.Outcome.{Outcome, unchanged}
 use Rattle.machine.specs.Turns.{Turn, Dismissed, Ticks, TurnsTo, concern, named}
 use Rattle.machine.specs.Routing.{route}
-use Rattle.machine.specs.Step.{Answer, IsNewId, Moves, Step, Taken, WouldOverflow, moved, outcome_in, subject_of, taken, ticked}
+use Rattle.machine.specs.Step.{Answer, IsNewId, Moves, Taken, WouldOverflow, moved, outcome_in, subject_of, taken, ticked}
 use Rattle.frames.specs.Octets.{RawEvent, RawClock, IsEvent, StepOctets}
 use Rattle.shard_state.specs.declared.answer.StepAnswer.{StepAnswer}
 use Rattle.shard_state.specs.Answers.{Says, entry_of}
@@ -55,7 +55,8 @@ pub dismissed_step : (s : ShardState) (raw : RawEvent) (e : Event) (sent : List 
     → TurnsTo (state_of s) e (Dismissed sent) → Says a None None sent → Leads s raw a s
 dismissed_step s raw e sent a mine turns says =
     taken_step (state_of s) (state_of s) s.shard raw e (Dismissed sent) [] (unchanged (local_of_nobody (state_of s) s.shard) sent) a
-    mine.is_event (routed_here s e mine.routed) turns refl (λ some. absurd (nothing_opens None refl some)) (λ over. nothing_opens None refl over.opens) refl says
+    mine.is_event (routed_here s e mine.routed) turns refl (λ some. absurd (nothing_opens None refl some))
+    (λ over. nothing_opens None refl over.opens) refl says
 
 -- ---- clocks
 
@@ -63,25 +64,28 @@ clock_at : (shard clock k m : ℕ) → cond (m == shard) (max clock k) 0 ≡ put
 clock_at shard clock k m = elim (cases_eq shard m) [
   | inl e ↦
       ap (λ b. cond b (max clock k) 0) (eq-eqb m shard (sym e))
-      ∙ sym (put_at_same (λ j. cond (j == shard) clock 0) shard (max (cond (shard == shard) clock 0) k) m e ∙ ap (λ b. max (cond b clock 0) k) (eq-eqb shard shard refl))
+      ∙ sym (put_at_same (λ j. cond (j == shard) clock 0) shard (max (cond (shard == shard) clock 0) k) m e
+      ∙ ap (λ b. max (cond b clock 0) k) (eq-eqb shard shard refl))
   | inr differ ↦
       ap (λ b. cond b (max clock k) 0) (ne_eqb m shard (λ e. differ (sym e)))
-      ∙ sym (put_at_other (λ j. cond (j == shard) clock 0) shard (max (cond (shard == shard) clock 0) k) m differ ∙ ap (λ b. cond b clock 0) (ne_eqb m shard (λ e. differ (sym e))))
+      ∙ sym (put_at_other (λ j. cond (j == shard) clock 0) shard (max (cond (shard == shard) clock 0) k) m differ
+      ∙ ap (λ b. cond b clock 0) (ne_eqb m shard (λ e. differ (sym e))))
 ]
 
-ticks_here : (s : ShardState) (now : ℕ) → state_of (record s { clock = max s.clock (min now latest_clock) }) ≡ ticked (Ticks s.shard now) (state_of s)
+ticks_here : (s : ShardState) (now : ℕ) → state_of (record s { clock = max s.clock (min now MAX_CLOCK) }) ≡ ticked (Ticks s.shard now) (state_of s)
 unfolding state_of
 ticks_here s now = λ i. record {
   records = records_of s.records;
   dialogues = dialogues_of s.dialogues;
-  clocks = λ m. clock_at s.shard s.clock (min now latest_clock) m i;
+  clocks = λ m. clock_at s.shard s.clock (min now MAX_CLOCK) m i;
   directory = directory_of s.directory;
   hlr = s.hlr;
 }
 
 pub tick_step : (s : ShardState) (n now : ℕ) (a : StepAnswer) → n ≡ s.shard → Says a None None []
-    → Leads s (RawClock n now) a (record s { clock = max s.clock (min now latest_clock) })
+    → Leads s (RawClock n now) a (record s { clock = max s.clock (min now MAX_CLOCK) })
 tick_step s n now a mine says =
-    taken_step (state_of s) (state_of (record s { clock = max s.clock (min now latest_clock) })) s.shard (RawClock n now) (Clock n now) (Ticks n now) []
-    (unchanged (local_of_nobody (state_of s) s.shard) []) a (refl, refl) mine refl refl (λ some. absurd (nothing_opens None refl some)) (λ over. nothing_opens None refl over.opens)
+    taken_step (state_of s) (state_of (record s { clock = max s.clock (min now MAX_CLOCK) })) s.shard (RawClock n now) (Clock n now) (Ticks n now) []
+    (unchanged (local_of_nobody (state_of s) s.shard) []) a (refl, refl) mine refl refl (λ some. absurd (nothing_opens None refl some))
+    (λ over. nothing_opens None refl over.opens)
     (ticks_here s now ∙ ap (λ m. ticked (Ticks m now) (state_of s)) (sym mine)) says

@@ -1,9 +1,9 @@
 -- Only a clock value changes a clock, and what is for no open dialogue opens none.
-use Rattle.std.proofs.Common.{◌≡◌, ℕ, List, [], Option, Some, None, refl, sym, ap, ◌∙◌, subst}
+use Rattle.std.proofs.Common.{◌≡◌, ℕ, List, Option, Some, None, refl, sym, ap, subst}
 use Rattle.machine.specs.Received.{Component}
 use Rattle.machine.specs.State.{Dialogue, State, Transaction}
 use Rattle.machine.specs.Transactions.{transact, ContinueComes}
-use Rattle.machine.specs.Turns.{Turn, Dismissed, Continues, Closes, Expires, OneDue, NoneDue, Expiry, close_at, continue_at, continue_for, for_it, named}
+use Rattle.machine.specs.Turns.{Turn, OneDue, NoneDue, Expiry, close_at, continue_at, continue_for, for_it, named}
 use Rattle.machine.specs.Step.{outcome_in, ticked}
 
 pub continue_still : (from origin id : List ℕ) (cs : List Component) (d : Option Dialogue) (S : State) → ticked (continue_at from origin id cs d) S ≡ S

@@ -1,5 +1,4 @@
 -- Events of the code, as those of the definitions.
-use Rattle.std.specs.Prelude.{ℕ, List}
 use Rattle.machine.specs.Events as machine
 use Rattle.frames.specs.Octets as frames
 use Rattle.hlrcore.specs.declared.change.Change.{Change}

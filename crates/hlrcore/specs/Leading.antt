@@ -1,5 +1,5 @@
 -- What an event leads to in a shard.
-use Rattle.std.specs.Prelude.{◌≡◌, List, Option, Some}
+use Rattle.std.specs.Prelude.{◌≡◌}
 use Rattle.machine.specs.Events.{Event}
 use Rattle.machine.specs.Routing.{route}
 use Rattle.frames.specs.Octets.{RawEvent, IsEvent, StepOctets}

@@ -159,7 +159,8 @@ fn read_frame(
     octets: &[u8],
 ) -> Result<Event, EventFault>
     ensures same { IfRead result (λ event. raw_of event ≡ frames.RawFrame from octets.now) }
-    ensures read { IfRead result (λ event. IsEvent (frames.RawFrame from octets.now) (event_of event)) }
+    ensures read { IfRead result (λ event. IsEvent (frames.RawFrame from octets.now)
+        (event_of event)) }
 {
     match Round::take(alloc, bump, from, octets) {
         Ok(indication) => Ok(Event::Frame(indication)),

@@ -14,21 +14,18 @@ ghost use Rattle.hlrcore.specs.Receiving.{Receives, IsForMe, IsClosing, IsContin
 use crate::sending::{aborted, silent};
 use crate::stepper::Stepper;
 use hlr_types::RemoteId;
-use msgarena::{Indication, Message, Parameter, Verdict};
+use machine::numbers::{RESOURCE_LIMITATION, UNRECOGNIZED_TRANSACTION_ID};
+use msgarena::{Indication, Parameter, ReadMessage, Verdict};
 use q773_comp::Component;
 use shard_state::StepAnswer;
 use std::alloc::AllocError;
 use turns::{plan_begin, plan_close, plan_continue};
 
-/// P-Abort causes (Q.773).
-const UNRECOGNIZED_TRANSACTION_ID: u8 = 1;
-
-const RESOURCE_LIMITATION: u8 = 4;
-
 impl Stepper {
     /// Handles a received frame.
     pub(crate) fn receive(&mut self, indication: &Indication) -> Result<StepAnswer, AllocError>
-        requires { route (directory_of self.old.directory) (Frame indication.now.from indication.now.verdict) ≡ self.old.shard }
+        requires { route (directory_of self.old.directory)
+            (Frame indication.now.from indication.now.verdict) ≡ self.old.shard }
         ensures received { IfOk result (λ a. Receives self.old indication.now a self.new) }
         ensures judged { IsVerdict indication.now.octets indication.now.verdict }
         ensures err { OnErr result (self.new ≡ self.old) }
@@ -47,7 +44,7 @@ impl Stepper {
     fn receive_message(
         &mut self,
         indication: &Indication,
-        message: &Message,
+        message: &ReadMessage,
     ) -> Result<StepAnswer, AllocError>
         requires mine { IsForMe self.old indication.now }
         requires message { indication.now.verdict ≡ Read (message_of message.now) }
@@ -56,18 +53,18 @@ impl Stepper {
         ensures same_shard { IsSameShard self.old self.new }
     {
         match message {
-            Message::Begin {
+            ReadMessage::Begin {
                 origin,
                 components,
                 ..
             } => self.begin(indication, *origin, components),
-            Message::Continue {
+            ReadMessage::Continue {
                 origin,
                 destination,
                 components,
                 ..
             } => self.continue_(indication, *origin, *destination, components),
-            Message::End { destination, .. } | Message::Abort { destination } => {
+            ReadMessage::End { destination, .. } | ReadMessage::Abort { destination } => {
                 self.close(indication, *destination)
             }
         }
@@ -82,7 +79,8 @@ impl Stepper {
         components: &[Component<Parameter>],
     ) -> Result<StepAnswer, AllocError>
         requires mine { IsForMe self.old indication.now }
-        requires begin { IsBeginOf indication.now.verdict origin (map (component parameter) components.now) }
+        requires begin { IsBeginOf indication.now.verdict origin
+            (map (component parameter) components.now) }
         ensures received { IfOk result (λ a. Receives self.old indication.now a self.new) }
         ensures err { OnErr result (self.new ≡ self.old) }
         ensures same_shard { IsSameShard self.old self.new }
@@ -104,7 +102,8 @@ impl Stepper {
         components: &[Component<Parameter>],
     ) -> Result<StepAnswer, AllocError>
         requires mine { IsForMe self.old indication.now }
-        requires continues { IsContinueOf indication.now.verdict origin destination (map (component parameter) components.now) }
+        requires continues { IsContinueOf indication.now.verdict origin destination
+            (map (component parameter) components.now) }
         ensures received { IfOk result (λ a. Receives self.old indication.now a self.new) }
         ensures err { OnErr result (self.new ≡ self.old) }
         ensures same_shard { IsSameShard self.old self.new }

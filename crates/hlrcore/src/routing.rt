@@ -8,12 +8,10 @@ ghost use Rattle.shard_state.specs.Shards.{directory_of};
 
 use crate::event::Event;
 use hlr_types::{Imsi, RemoteId};
-use msgarena::{Message, Verdict};
+use machine::numbers::SHARDS;
+use msgarena::{ReadMessage, Verdict};
 use records::{Directory, shard_of};
 use turns::asked;
-
-/// How many shards there are.
-const SHARDS: u8 = 16;
 
 /// The shard of a destination id, which may not have the form of a local id.
 #[tactic(auto, unfolding(machine::specs::Keys::shard_of_id))]
@@ -41,15 +39,15 @@ fn shard_asked(imsi: Option<Imsi>) -> u8
     }
 }
 
-fn route_message(directory: &Directory, said: &Message) -> u8
+fn route_message(directory: &Directory, said: &ReadMessage) -> u8
     ensures value { result ≡ route_message (directory_of directory.now) (message said.now) }
     ensures small { result < 16 }
 {
     match said {
-        Message::Begin { components, .. } => shard_asked(asked(directory, components)),
-        Message::Continue { destination, .. }
-        | Message::End { destination, .. }
-        | Message::Abort { destination } => shard_named(destination),
+        ReadMessage::Begin { components, .. } => shard_asked(asked(directory, components)),
+        ReadMessage::Continue { destination, .. }
+        | ReadMessage::End { destination, .. }
+        | ReadMessage::Abort { destination } => shard_named(destination),
     }
 }
 

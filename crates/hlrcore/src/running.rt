@@ -1,6 +1,6 @@
 //! Several events of a shard, one after the other.
 
-ghost use Rattle.std.specs.Prelude.{◌≡◌, IfOk, IfErr};
+ghost use Rattle.std.specs.Prelude.{IfOk, IfErr};
 ghost use Rattle.shard_state.specs.Shards.{IsSameShard};
 ghost use Rattle.hlrcore.specs.Running.{BreaksOff, RunsTo};
 
@@ -21,7 +21,8 @@ impl State {
     /// that runs out of memory; the state is then that after the events before it.
     pub fn run(&mut self, events: &[Event]) -> Result<Vec<StepAnswer>, RunFault>
         ensures runs { IfOk result (λ answers. RunsTo self.old events.now answers.items self.new) }
-        ensures breaks_off { IfErr result (λ refused. BreaksOff self.old events.now refused.done.items refused.fault self.new) }
+        ensures breaks_off { IfErr result
+            (λ refused. BreaksOff self.old events.now refused.done.items refused.fault self.new) }
         ensures same_shard { IsSameShard self.old self.new }
     {
         let mut done = Vec::new(self.alloc());

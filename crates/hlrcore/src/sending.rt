@@ -4,12 +4,11 @@ ghost use Rattle.std.specs.Prelude.{◌≡◌, [], None, IfOk, map};
 ghost use Rattle.machine.specs.Sent.{SentAbort, Cause};
 ghost use Rattle.machine.specs.Outcome.{send};
 ghost use Rattle.frames.specs.Octets.{spelled_out};
-ghost use Rattle.outgoing.specs.Seen.{message as said};
+ghost use Rattle.location.specs.Seen.{said};
 ghost use Rattle.shard_state.specs.Answers.{Says};
 
 use hlr_types::{Imsi, Peer, RemoteId};
-use mapdlg::Why;
-use outgoing::{SentMessage, octets_of};
+use location::{SentMessage, Why, octets_of};
 use shard_state::{Frames, Out, StepAnswer};
 use std::alloc::{AllocError, Global};
 
@@ -32,7 +31,8 @@ pub(crate) fn aborted(
     cause: u8,
     subject: Option<Imsi>,
 ) -> Result<StepAnswer, AllocError>
-    ensures { IfOk result (λ a. Says a None subject (send to (SentAbort destination (Cause cause)))) }
+    ensures { IfOk result (λ a. Says a None subject
+        (send to (SentAbort destination (Cause cause)))) }
 {
     let message = SentMessage::Abort {
         destination,

@@ -49,9 +49,11 @@ impl State {
     /// The shard that begins with its part of a records file: its records, no dialogue, and its clock at 0.
     pub fn new(alloc: Global, shard: u8, loaded: &Loaded) -> Result<State, AllocError>
         requires { shard < 16 }
-        ensures opening { IfOk result (IsOpening shard (part_of loaded.now.records shard) loaded.now.directory loaded.now.hlr) }
+        ensures opening { IfOk result (IsOpening shard
+            (part_of loaded.now.records shard) loaded.now.directory loaded.now.hlr) }
         ensures part { IfOk result (λ state. state_of state
-            ≡ part (opening (records_of loaded.now.records) (directory_of loaded.now.directory) loaded.now.hlr) shard) }
+            ≡ part (opening (records_of loaded.now.records)
+            (directory_of loaded.now.directory) loaded.now.hlr) shard) }
     {
         let records = loaded.part(shard)?;
         let directory = loaded.shared_directory()?;
@@ -72,7 +74,8 @@ impl State {
         requires fresh { AreFresh records }
         ensures opening { IfOk result (IsOpening shard records (arc_value directory) hlr) }
         ensures part { IfOk result (λ state. (all : RecordMap) → records ≡ part_of all shard
-            → state_of state ≡ part (opening (records_of all) (directory_of (arc_value directory)) hlr) shard) }
+            → state_of state ≡ part (opening (records_of all)
+            (directory_of (arc_value directory)) hlr) shard) }
     {
         let shard = ShardParts::of_part(alloc, shard, records, directory, hlr)?;
         Ok(State {
@@ -130,7 +133,8 @@ impl State {
 
     /// Whether the event is for this shard.
     pub fn is_mine(&self, event: &Event) -> bool
-        ensures { IsTrue result ↔ (shard_for (directory_of self.now.directory) (event_of event.now) ≡ self.now.shard) }
+        ensures { IsTrue result ↔ (shard_for (directory_of self.now.directory) (event_of event.now)
+            ≡ self.now.shard) }
     {
         route(self.stepper.shard.directory(), event) == self.number()
     }
@@ -140,11 +144,13 @@ impl State {
     pub fn step(&mut self, event: &Event) -> Result<StepAnswer, StepFault>
         // It is a step of the machine over octets, for an event of this shard.
         ensures stepped { IfOk result (λ a. Leads self.old (raw_of event.now) a self.new) }
-        ensures routed { OnOk result (IsRouted (directory_of self.old.directory) (raw_of event.now) self.old.shard) }
+        ensures routed { OnOk result (IsRouted (directory_of self.old.directory)
+            (raw_of event.now) self.old.shard) }
         ensures not_mine { (result ≡ Err StepFault.NotMine)
             ↔ (shard_for (directory_of self.old.directory) (event_of event.now) ≢ self.old.shard) }
         // The machine has no step for such an event, so it is never handled.
-        ensures no_room { result ≡ Err StepFault.NoRoom → HasNoRoom (state_of self.old) (event_of event.now) }
+        ensures no_room { result ≡ Err StepFault.NoRoom
+            → HasNoRoom (state_of self.old) (event_of event.now) }
         ensures room { HasNoRoom (state_of self.old) (event_of event.now) → OnOk result ⊥ }
         ensures err { OnErr result (self.new ≡ self.old) }
         ensures same_shard { IsSameShard self.old self.new }

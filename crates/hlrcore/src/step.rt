@@ -26,10 +26,12 @@ impl Stepper {
     /// Handles one event, as `State::step` says.
     pub(crate) fn step(&mut self, event: &Event) -> Result<StepAnswer, StepFault>
         ensures stepped { IfOk result (λ a. Leads self.old (raw_of event.now) a self.new) }
-        ensures routed { OnOk result (IsRouted (directory_of self.old.directory) (raw_of event.now) self.old.shard) }
+        ensures routed { OnOk result (IsRouted (directory_of self.old.directory)
+            (raw_of event.now) self.old.shard) }
         ensures not_mine { (result ≡ Err StepFault.NotMine)
             ↔ (route (directory_of self.old.directory) (event_of event.now) ≢ self.old.shard) }
-        ensures no_room { result ≡ Err StepFault.NoRoom → HasNoRoom (state_of self.old) (event_of event.now) }
+        ensures no_room { result ≡ Err StepFault.NoRoom
+            → HasNoRoom (state_of self.old) (event_of event.now) }
         ensures room { HasNoRoom (state_of self.old) (event_of event.now) → OnOk result ⊥ }
         ensures err { OnErr result (self.new ≡ self.old) }
         ensures same_shard { IsSameShard self.old self.new }
@@ -62,10 +64,13 @@ impl Stepper {
 
     /// Handles an operator's change.
     fn change(&mut self, imsi: Imsi, change: &Change) -> Result<StepAnswer, StepFault>
-        requires { IsMine self.old (RawChange imsi (said change.now)) (machine.Operator imsi (said change.now)) }
-        ensures changed { IfOk result (λ a. Leads self.old (RawChange imsi (said change.now)) a self.new) }
+        requires { IsMine self.old (RawChange imsi (said change.now))
+            (machine.Operator imsi (said change.now)) }
+        ensures changed { IfOk result (λ a. Leads self.old
+            (RawChange imsi (said change.now)) a self.new) }
         ensures mine { result ≢ Err StepFault.NotMine }
-        ensures no_room { result ≡ Err StepFault.NoRoom → HasNoRoom (state_of self.old) (machine.Operator imsi (said change.now)) }
+        ensures no_room { result ≡ Err StepFault.NoRoom
+            → HasNoRoom (state_of self.old) (machine.Operator imsi (said change.now)) }
         ensures err { OnErr result (self.new ≡ self.old) }
         ensures same_shard { IsSameShard self.old self.new }
     {

@@ -15,7 +15,7 @@ use Rattle.csl.specs.declared.offer.Effect.{Effect}
 use Rattle.csl.specs.Seen.{heard}
 use Rattle.csl.specs.Effects.{IsEffect}
 use Rattle.csl.proofs.Parameters.{parameters_have_no_effect}
-use Rattle.mapdlg.specs.Accepting.{Go, decision, decision_under}
+use Rattle.outgoing.specs.Accepting.{Go, decision, decision_under}
 
 -- without a component nothing begins
 pub none_go : (name : Option (List ℕ)) (context : Context) → Go context ≡ decision name [] → ⊥

@@ -1,7 +1,7 @@
 -- A cancelLocation to be sent, if any (TS 29.002, 8.1.3).
 use Rattle.std.specs.Prelude.{ℕ, ◌+◌, List, [], ◌++◌, Bool, cond, not, ◌&&◌, nat_lt, Option, Some, None}
 use Rattle.machine.specs.Keys.{same}
-use Rattle.machine.specs.Numbers.{most_attempts}
+use Rattle.machine.specs.declared.numbers.TheConstants.{MAX_ATTEMPTS}
 use Rattle.machine.specs.Received.{Register}
 use Rattle.machine.specs.State.{Dialogue, Local, Subscriber}
 use Rattle.machine.specs.Sent.{Out}
@@ -41,4 +41,4 @@ to_last (Some register) = Some (record { vlr = register.vlr; attempt = 1; why = 
 
 -- The next attempt of a cancel, if there is one and its register is not wanted.
 abbrev pub again : Cancelling → (wanted : Bool) → Option Cancelling
-again last wanted = cond (nat_lt last.attempt most_attempts && not wanted) (Some (record last { attempt = last.attempt + 1 })) None
+again last wanted = cond (nat_lt last.attempt MAX_ATTEMPTS && not wanted) (Some (record last { attempt = last.attempt + 1 })) None

@@ -14,12 +14,12 @@ use Rattle.records.specs.Subscriber.{Subscriber}
 use Rattle.smroute.specs.Seen.{machine_subscriber, machine_register}
 use Rattle.csl.specs.Tables.{first_invoked}
 use Rattle.dialogues.specs.Seen.{dialogue_with}
-use Rattle.outgoing.specs.Seen.{out}
+pub use Rattle.outgoing.specs.Seen.{out, message as said}
 use Rattle.outgoing.specs.declared.message.Addressed.{Addressed}
 use Rattle.location.specs.declared.outcome.After.{After}
 use Rattle.location.specs.declared.outcome.After.TheVariants.{Same, Purged, Location, NewCodes, Withdrawn}
 use Rattle.location.specs.declared.outcome.DialogueChange.{DialogueChange}
-use Rattle.location.specs.declared.outcome.DialogueChange.TheVariants.{Gone, GoesOn, Forgets}
+use Rattle.location.specs.declared.outcome.DialogueChange.TheVariants.{Closes, Opens, GoesOn, Forgets}
 use Rattle.location.specs.declared.outcome.Opening.{Opening}
 use Rattle.location.specs.declared.outcome.Outcome.{Outcome}
 
@@ -39,7 +39,8 @@ after_of codes Withdrawn before =
 
 -- The named dialogue after, if it stays. It is given as the received message leaves it.
 abbrev pub stays_of : Option machine.Dialogue → DialogueChange → Option machine.Dialogue
-stays_of named (Gone opens) = None
+stays_of named Closes = None
+stays_of named (Opens opening) = None
 stays_of named GoesOn = named
 stays_of named (Forgets invoke) = option_map (λ (d : machine.Dialogue). record d { invocations = without invoke d.invocations }) named
 
@@ -49,7 +50,8 @@ opening_of clock o = dialogue_with (first_invoked clock (o.invoked - 1)) o.dialo
 
 -- the dialogue that opens at this clock, if any
 abbrev pub opens_of : (clock : ℕ) → DialogueChange → Option machine.Dialogue
-opens_of clock (Gone opens) = option_map (opening_of clock) opens
+opens_of clock Closes = None
+opens_of clock (Opens opening) = Some (opening_of clock opening)
 opens_of clock GoesOn = None
 opens_of clock (Forgets invoke) = None
 
@@ -68,8 +70,8 @@ sent_of message (Some o) = one message ++ out o ∷ []
 abbrev pub outcome_of : Local → (named : Option machine.Dialogue) → (codes : List ℕ) → Outcome → left.Outcome
 outcome_of here named codes o = record {
   after = after_of codes o.after here.record_of;
-  stays = stays_of named o.stays;
-  opens = opens_of here.clock o.stays;
+  stays = stays_of named o.dialogue;
+  opens = opens_of here.clock o.dialogue;
   sent = sent_of o.message o.cancel;
 }
 

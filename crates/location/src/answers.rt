@@ -2,7 +2,7 @@
 
 ghost use Rattle.std.specs.Prelude.{◌≡◌, ◌∷◌, [], None, map, Option};
 ghost use Rattle.machine.specs.State.{Local};
-ghost use Rattle.machine.specs.Outcome.{continued, ended, unchanged};
+ghost use Rattle.machine.specs.Outcome.{continue_in_dialogue, end_in_dialogue, unchanged};
 ghost use Rattle.q773_comp.specs.Seen.{rejection};
 ghost use Rattle.tsl.specs.Transactions.{transaction_of};
 ghost use Rattle.outgoing.specs.Seen.{components, out};
@@ -30,7 +30,8 @@ pub(crate) fn end_in_dialogue(
     sent: Components,
 ) -> Option<Addressed>
     ensures { one result
-        ≡ ended (transaction_of transaction) transaction.remote (map rejection rejects.items) (components sent) }
+        ≡ end_in_dialogue (transaction_of transaction) transaction.remote
+        (map rejection rejects.items) (components sent) }
 {
     let to = transaction.peer;
     match transaction.remote {
@@ -53,7 +54,8 @@ pub(crate) fn continue_in_dialogue(
     transaction: Transaction,
     rejects: Vec<Rejection>,
 ) -> Option<Addressed>
-    ensures { one result ≡ continued id (transaction_of transaction) transaction.remote (map rejection rejects.items) }
+    ensures { one result ≡ continue_in_dialogue id (transaction_of transaction) transaction.remote
+        (map rejection rejects.items) }
 {
     let to = transaction.peer;
     match transaction.remote {
@@ -73,12 +75,13 @@ pub(crate) fn continue_in_dialogue(
 
 /// Nothing changes, and this is sent.
 pub(crate) fn only(message: Addressed) -> Outcome
-    ensures leaves { (here : Local) → outcome_of here None [] result ≡ unchanged here (out message ∷ []) }
+    ensures leaves { (here : Local) → outcome_of here None [] result
+        ≡ unchanged here (out message ∷ []) }
     ensures writable { (s : Option Subscriber) → CanBeWritten result.after s }
 {
     Outcome {
         after: After::Same,
-        stays: DialogueChange::Gone { opens: None },
+        dialogue: DialogueChange::Closes,
         message: Some(message),
         cancel: None,
     }

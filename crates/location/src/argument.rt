@@ -10,7 +10,8 @@ use q773_comp::Component;
 
 /// The argument of the first component, if that is an Invoke with a parameter of its type.
 pub fn first_argument(components: &[Component<Parameter>]) -> Option<Argument>
-    ensures { option_map argument result ≡ first_argument (map (component parameter) components.now) }
+    ensures { option_map argument result
+        ≡ first_argument (map (component parameter) components.now) }
 {
     match components {
         [

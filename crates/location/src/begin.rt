@@ -7,71 +7,72 @@ ghost use Rattle.machine.specs.Outcome.{unchanged};
 ghost use Rattle.machine.specs.State.{Local};
 ghost use Rattle.machine.specs.Received as machine;
 ghost use Rattle.machine.specs.Received.{Read};
-ghost use Rattle.machine.specs.Begins.{answered, begins, begins_in, begun, offer_in, procedure, route_component};
+ghost use Rattle.machine.specs.Begins.{end_of_begin, begins, begins_in, begun, offer_in, procedure, route_component};
 ghost use Rattle.mapctx.specs.Seen.{context};
 ghost use Rattle.q773_comp.specs.Seen.{component, rejection};
 ghost use Rattle.msgarena.specs.Seen.{argument, parameter};
 ghost use Rattle.outgoing.specs.Seen.{component as component_of};
 ghost use Rattle.csl.specs.Effects.{offered};
-ghost use Rattle.location.specs.Asking.{IsBeginOf, asker_of, source_with};
+ghost use Rattle.location.specs.Asking.{IsBeginOf, initiator_of, source_with};
 ghost use Rattle.location.specs.Seen.{known, outcome_of};
 ghost use Rattle.location.specs.Writing.{CanBeWritten};
 ghost use Rattle.records.specs.Subscriber.{Subscriber};
 
 use crate::answers::only;
 use crate::argument::first_argument;
-use crate::asker::{Asker, Source};
-use crate::components::{UNEXPECTED_DATA_VALUE, error, route_answer};
+use crate::components::{error, route_answer};
+use crate::initiator::{Initiator, Source};
 use crate::outcome::Outcome;
 use crate::purge::purge;
 use crate::update::update;
 use csl::{Effect, Offer, effect_of_begin};
 use dialogues::InvokeId;
 use hlr_types::{RemoteId, Tid};
+use machine::numbers::UNEXPECTED_DATA_VALUE;
 use mapctx::{Context, operation_of};
-use mapdlg::{Accepted, accept};
 use msgarena::{Argument, Indication, Parameter};
-use outgoing::{Addressed, Components, SentComponent, SentMessage};
+use outgoing::{Accepted, Addressed, Components, SentComponent, SentMessage, accept};
 use q773_comp::{Component, Rejection};
 use records::Record;
 use smroute::route_sm;
 use std::alloc::{AllocError, Global};
 
 /// The End with this component only; nothing changes.
-fn answered(who: Asker, component: SentComponent) -> Outcome
+fn end_of_begin(who: Initiator, component: SentComponent) -> Outcome
     ensures leaves { (here : Local) → outcome_of here None [] result
-        ≡ unchanged here (answered (asker_of who) (component_of component ∷ [])) }
+        ≡ unchanged here (end_of_begin (initiator_of who) (component_of component ∷ [])) }
     ensures writable { (s : Option Subscriber) → CanBeWritten result.after s }
 {
     only(who.answers(component))
 }
 
 /// The End with this error.
-pub(crate) fn failed(who: Asker, code: u8) -> Outcome
+pub(crate) fn failed(who: Initiator, code: u8) -> Outcome
     ensures leaves { (here : Local) → outcome_of here None [] result
-        ≡ unchanged here (answered (asker_of who) (SentError who.invoke code ∷ [])) }
+        ≡ unchanged here (end_of_begin (initiator_of who) (SentError who.invoke code ∷ [])) }
     ensures writable { (s : Option Subscriber) → CanBeWritten result.after s }
 {
     let component = error(who.invoke, code);
-    answered(who, component)
+    end_of_begin(who, component)
 }
 
 /// sendRoutingInfoForSM (TS 29.002, 12.1).
-fn route(who: Asker, subscriber: Option<&Record>) -> Outcome
+fn route(who: Initiator, subscriber: Option<&Record>) -> Outcome
     ensures leaves { (here : Local) → IfSome subscriber.entry (λ s. s.now.imsi ≡ here.imsi)
         → outcome_of here None [] result ≡ unchanged here
-        (answered (asker_of who) (route_component who.invoke (sm_route here.imsi (known subscriber.entry)) ∷ [])) }
+        (end_of_begin (initiator_of who) (route_component who.invoke (sm_route here.imsi (known subscriber.entry)) ∷ [])) }
     ensures writable { (s : Option Subscriber) → CanBeWritten result.after s }
 {
     let component = route_answer(who.invoke, route_sm(subscriber));
-    answered(who, component)
+    end_of_begin(who, component)
 }
 
 /// The procedure of an Invoke that was accepted.
-fn procedure(who: Asker, asked: &Argument, subscriber: Option<&Record>, new: Tid) -> Outcome
+fn procedure(who: Initiator, asked: &Argument, subscriber: Option<&Record>, new: Tid) -> Outcome
     ensures leaves { (here : Local) → IfSome subscriber.entry (λ s. s.now.imsi ≡ here.imsi)
         → here.record_of ≡ known subscriber.entry
-        → outcome_of here None [] result ≡ procedure here (asker_of who) who.invoke (argument asked.now) new }
+        → outcome_of here None [] result
+        ≡ procedure here (initiator_of who) who.invoke (argument asked.now) new }
     ensures writable { CanBeWritten result.after (option_copied subscriber.entry) }
 {
     match asked {
@@ -97,7 +98,7 @@ fn offer_in(of: Context, components: &[Component<Parameter>]) -> Offer
 /// The End with the Rejects only, if nothing started.
 fn not_started(source: Source, rejects: Vec<Rejection>) -> Outcome
     ensures leaves { (here : Local) → outcome_of here None [] result
-        ≡ unchanged here (answered (source_with source (map rejection rejects.items)) []) }
+        ≡ unchanged here (end_of_begin (source_with source (map rejection rejects.items)) []) }
     ensures writable { (s : Option Subscriber) → CanBeWritten result.after s }
 {
     only(source.end_of_begin(rejects, Components::Nothing))
@@ -113,12 +114,13 @@ fn started_in(
 ) -> Outcome
     ensures leaves { (here : Local) → IfSome subscriber.entry (λ s. s.now.imsi ≡ here.imsi)
         → here.record_of ≡ known subscriber.entry → outcome_of here None [] result
-        ≡ begun here (source_with source (map rejection effect.rejects.items)) effect.started (option_map argument asked) new }
+        ≡ begun here (source_with source (map rejection effect.rejects.items)) effect.started
+        (option_map argument asked) new }
     ensures writable { CanBeWritten result.after (option_copied subscriber.entry) }
 {
     match (effect.started, asked) {
         (Some(invoke), Some(asked)) => {
-            let who = Asker {
+            let who = Initiator {
                 source,
                 rejects: effect.rejects,
                 invoke: InvokeId::new(invoke),
@@ -141,9 +143,12 @@ fn begins_in(
     requires early { now ≤ 2 ^ 62 }
     requires some { components.now ≢ [] }
     ensures leaves { IfOk result (λ left. (here : Local) → here.clock ≡ now
-        → IfSome subscriber.entry (λ s. s.now.imsi ≡ here.imsi) → here.record_of ≡ known subscriber.entry → outcome_of here None [] left
-        ≡ begins_in here source.from source.origin (context source.context) (map (component parameter) components.now) new) }
-    ensures writable { IfOk result (λ left. CanBeWritten left.after (option_copied subscriber.entry)) }
+        → IfSome subscriber.entry (λ s. s.now.imsi ≡ here.imsi)
+        → here.record_of ≡ known subscriber.entry → outcome_of here None [] left
+        ≡ begins_in here source.from source.origin (context source.context)
+        (map (component parameter) components.now) new) }
+    ensures writable { IfOk result (λ left. CanBeWritten left.after
+        (option_copied subscriber.entry)) }
 {
     let offer = offer_in(source.context, components);
     let effect = effect_of_begin(alloc, &offer, components, now)?;
@@ -163,13 +168,17 @@ pub fn begins(
     new: Tid,
 ) -> Result<Outcome, AllocError>
     requires early { now ≤ 2 ^ 62 }
-    requires begin { IsBeginOf indication.now.verdict origin (map (component parameter) components.now) }
+    requires begin { IsBeginOf indication.now.verdict origin
+        (map (component parameter) components.now) }
     ensures leaves { IfOk result (λ left. (here : Local) (name : Option (List ℕ)) → here.clock ≡ now
-        → indication.now.verdict ≡ Read (machine.Begin origin name (map (component parameter) components.now))
+        → indication.now.verdict ≡ Read (machine.Begin origin name
+        (map (component parameter) components.now))
         → IfSome subscriber.entry (λ s. s.now.imsi ≡ here.imsi)
         → here.record_of ≡ known subscriber.entry → outcome_of here None [] left
-        ≡ begins here indication.now.from origin name (map (component parameter) components.now) new) }
-    ensures writable { IfOk result (λ left. CanBeWritten left.after (option_copied subscriber.entry)) }
+        ≡ begins here indication.now.from origin name
+        (map (component parameter) components.now) new) }
+    ensures writable { IfOk result (λ left. CanBeWritten left.after
+        (option_copied subscriber.entry)) }
 {
     let from = indication.from();
     match accept(indication) {

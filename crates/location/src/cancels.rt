@@ -46,7 +46,8 @@ fn cancel(imsi: Imsi, vlr: Peer, attempt: u8, why: CancellationType) -> Opening
 
 /// Its Begin.
 fn cancel_begin(imsi: Imsi, vlr: Peer, why: CancellationType, new: Tid) -> Addressed
-    ensures { (here : Local) → imsi ≡ here.imsi → out result ∷ [] ≡ cancel_begin here vlr (cancellation why) new }
+    ensures { (here : Local) → imsi ≡ here.imsi
+        → out result ∷ [] ≡ cancel_begin here vlr (cancellation why) new }
 {
     let cancel = SentComponent::Cancel { id: 1, imsi, why };
     Addressed {
@@ -67,23 +68,23 @@ pub(crate) fn then_cancel(
     next: Option<Cancelling>,
     new: Tid,
 ) -> Outcome
-    ensures leaves { (here : Local) (named : Option machine.Dialogue) (codes : List ℕ) → imsi ≡ here.imsi
-        → outcome_of here named codes result ≡ then_cancel here (after_of codes after here.record_of) (one message) next new }
+    ensures leaves { (here : Local) (named : Option machine.Dialogue) (codes : List ℕ)
+        → imsi ≡ here.imsi
+        → outcome_of here named codes result
+        ≡ then_cancel here (after_of codes after here.record_of) (one message) next new }
     ensures record_after { result.after ≡ after }
-    ensures keeps { ForgetsNothing result.stays }
+    ensures keeps { ForgetsNothing result.dialogue }
 {
     match &next {
         Some(sent) => Outcome {
             after,
-            stays: DialogueChange::Gone {
-                opens: Some(cancel(imsi, sent.vlr, sent.attempt, sent.why)),
-            },
+            dialogue: DialogueChange::Opens(cancel(imsi, sent.vlr, sent.attempt, sent.why)),
             message,
             cancel: Some(cancel_begin(imsi, sent.vlr, sent.why, new)),
         },
         None => Outcome {
             after,
-            stays: DialogueChange::Gone { opens: None },
+            dialogue: DialogueChange::Closes,
             message,
             cancel: None,
         },

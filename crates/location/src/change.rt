@@ -27,12 +27,13 @@ use tsl::Transaction;
 
 /// Nothing changes, and nothing is sent.
 fn nothing() -> Outcome
-    ensures leaves { (here : Local) (codes : List ℕ) → outcome_of here None codes result ≡ unchanged here [] }
+    ensures leaves { (here : Local) (codes : List ℕ)
+        → outcome_of here None codes result ≡ unchanged here [] }
     ensures writable { (s : Option Subscriber) → CanBeWritten result.after s }
 {
     Outcome {
         after: After::Same,
-        stays: DialogueChange::Gone { opens: None },
+        dialogue: DialogueChange::Closes,
         message: None,
         cancel: None,
     }
@@ -59,7 +60,8 @@ fn data_to(imsi: Imsi, register: &Register, codes: &[u8]) -> Opening
 fn data_begin(subscriber: &Record, register: &Register, codes: &[u8], new: Tid) -> Addressed
     requires { length codes.now ≤ 32 }
     ensures { (here : Local) → subscriber.now.imsi ≡ here.imsi → out result ∷ []
-        ≡ send register.now.vlr (SentBegin new SubscriberDataMngt (inserts (Some here.imsi) subscriber.now.msisdn codes.now)) }
+        ≡ send register.now.vlr (SentBegin new SubscriberDataMngt
+        (inserts (Some here.imsi) subscriber.now.msisdn codes.now)) }
 {
     Addressed {
         to: peer_of(&register.vlr),
@@ -77,21 +79,20 @@ fn codes_to(subscriber: &Record, codes: &[u8], new: Tid) -> Outcome
     ensures leaves { (here : Local) → subscriber.now.imsi ≡ here.imsi
         → here.record_of ≡ Some (machine_subscriber subscriber.now)
         → outcome_of here None codes.now result
-        ≡ codes_to here (machine_subscriber subscriber.now) codes.now new (option_map machine_register subscriber.now.register) }
+        ≡ codes_to here (machine_subscriber subscriber.now) codes.now new
+        (option_map machine_register subscriber.now.register) }
     ensures writable { CanBeWritten result.after (Some subscriber.now) }
 {
     match subscriber.register {
         Some(register) if !subscriber.purged => Outcome {
             after: After::NewCodes,
-            stays: DialogueChange::Gone {
-                opens: Some(data_to(subscriber.imsi, &register, codes)),
-            },
+            dialogue: DialogueChange::Opens(data_to(subscriber.imsi, &register, codes)),
             message: Some(data_begin(subscriber, &register, codes, new)),
             cancel: None,
         },
         _ => Outcome {
             after: After::NewCodes,
-            stays: DialogueChange::Gone { opens: None },
+            dialogue: DialogueChange::Closes,
             message: None,
             cancel: None,
         },
@@ -104,7 +105,8 @@ pub fn new_codes(subscriber: Option<&Record>, codes: &[u8], new: Tid) -> Outcome
     requires { length codes.now ≤ 32 }
     ensures leaves { (here : Local) → IfSome subscriber.entry (λ s. s.now.imsi ≡ here.imsi)
         → here.record_of ≡ known subscriber.entry
-        → outcome_of here None codes.now result ≡ changes here (events.Codes codes.now) (known subscriber.entry) new }
+        → outcome_of here None codes.now result
+        ≡ changes here (events.Codes codes.now) (known subscriber.entry) new }
     ensures writable { CanBeWritten result.after (option_copied subscriber.entry) }
 {
     match subscriber {
@@ -132,7 +134,8 @@ fn withdraw_from(subscriber: &Record, new: Tid) -> Outcome
     ensures leaves { (here : Local) → subscriber.now.imsi ≡ here.imsi
         → here.record_of ≡ Some (machine_subscriber subscriber.now)
         → outcome_of here None [] result
-        ≡ withdraw_from here (machine_subscriber subscriber.now) new (option_map machine_register subscriber.now.register) }
+        ≡ withdraw_from here (machine_subscriber subscriber.now) new
+        (option_map machine_register subscriber.now.register) }
     ensures writable { CanBeWritten result.after (Some subscriber.now) }
 {
     let next = to_last(subscriber.register);
@@ -144,7 +147,8 @@ fn withdraw_from(subscriber: &Record, new: Tid) -> Outcome
 pub fn withdraws(subscriber: Option<&Record>, new: Tid) -> Outcome
     ensures leaves { (here : Local) → IfSome subscriber.entry (λ s. s.now.imsi ≡ here.imsi)
         → here.record_of ≡ known subscriber.entry
-        → outcome_of here None [] result ≡ changes here events.Withdraw (known subscriber.entry) new }
+        → outcome_of here None [] result
+        ≡ changes here events.Withdraw (known subscriber.entry) new }
     ensures writable { CanBeWritten result.after (option_copied subscriber.entry) }
 {
     match subscriber {

@@ -13,13 +13,14 @@ use records::Record;
 
 /// An End or an Abort: the dialogue closes, whatever components the End carries, and nothing is sent (profile).
 pub fn closes(subscriber: Option<&Record>, id: Tid) -> Outcome
-    ensures leaves { (here : Local) (named : Option Dialogue) → here.record_of ≡ known subscriber.entry
+    ensures leaves { (here : Local) (named : Option Dialogue)
+        → here.record_of ≡ known subscriber.entry
         → outcome_of here named [] result ≡ closes here id }
     ensures writable { CanBeWritten result.after (option_copied subscriber.entry) }
 {
     Outcome {
         after: unmarked(subscriber, id),
-        stays: DialogueChange::Gone { opens: None },
+        dialogue: DialogueChange::Closes,
         message: None,
         cancel: None,
     }

@@ -11,15 +11,6 @@ use hlr_types::IsdnAddress;
 use outgoing::SentComponent;
 use smroute::RouteAnswer;
 
-// Errors (TS 29.002, 17.6.6).
-pub(crate) const ROAMING_NOT_ALLOWED: u8 = 8;
-
-pub(crate) const SYSTEM_FAILURE: u8 = 34;
-
-pub(crate) const DATA_MISSING: u8 = 35;
-
-pub(crate) const UNEXPECTED_DATA_VALUE: u8 = 36;
-
 /// A ReturnError.
 pub(crate) fn error(invoke: InvokeId, code: u8) -> SentComponent
     ensures { component result ≡ machine.SentError invoke code }

@@ -19,7 +19,7 @@ use crate::update_end::{Updating, update_completes, update_fails};
 use csl::{Conclusion, Effect, Offer};
 use dialogues::{Dialogue, Kind};
 use hlr_types::{IsdnAddress, Tid};
-use mapctx::UPDATE_LOCATION;
+use machine::numbers::UPDATE_LOCATION;
 use outgoing::Components;
 use q773_comp::Rejection;
 use records::Record;
@@ -46,11 +46,11 @@ fn goes_on(id: Tid, dialogue: &Dialogue, rejects: Vec<Rejection>) -> Outcome
         → outcome_of here (Some (dialogue_with after dialogue.now)) [] result
         ≡ goes_on here id (dialogue_with vs dialogue.now) (map rejection rejects.items) after }
     ensures writable { (s : Option Subscriber) → CanBeWritten result.after s }
-    ensures keeps { ForgetsNothing result.stays }
+    ensures keeps { ForgetsNothing result.dialogue }
 {
     Outcome {
         after: After::Same,
-        stays: DialogueChange::GoesOn,
+        dialogue: DialogueChange::GoesOn,
         message: continue_in_dialogue(id, dialogue.transaction, rejects),
         cancel: None,
     }
@@ -60,15 +60,16 @@ fn goes_on(id: Tid, dialogue: &Dialogue, rejects: Vec<Rejection>) -> Outcome
 fn other_continues(id: Tid, dialogue: &Dialogue, effect: Effect) -> Outcome
     ensures leaves { (here : Local) (vs after : List Invocation)
         → outcome_of here (Some (dialogue_with after dialogue.now)) [] result
-        ≡ other_continues here id (dialogue_with vs dialogue.now) (effect_with after effect) (concluded effect.conclusion) }
+        ≡ other_continues here id (dialogue_with vs dialogue.now) (effect_with after effect)
+        (concluded effect.conclusion) }
     ensures writable { (s : Option Subscriber) → CanBeWritten result.after s }
-    ensures keeps { ForgetsNothing result.stays }
+    ensures keeps { ForgetsNothing result.dialogue }
 {
     match effect.conclusion {
         Conclusion::GoesOn => goes_on(id, dialogue, effect.rejects),
         Conclusion::HasFailed | Conclusion::HasSucceeded => Outcome {
             after: After::Same,
-            stays: DialogueChange::Gone { opens: None },
+            dialogue: DialogueChange::Closes,
             message: end_in_dialogue(dialogue.transaction, effect.rejects, Components::Nothing),
             cancel: None,
         },
@@ -85,12 +86,15 @@ fn update_continues(
     effect: Effect,
     new: Tid,
 ) -> Outcome
-    ensures leaves { (here : Local) (vs after : List Invocation) → dialogue.now.subscriber ≡ here.imsi → here.hlr ≡ hlr
-        → here.record_of ≡ known subscriber.entry → outcome_of here (Some (dialogue_with after dialogue.now)) [] result
-        ≡ update_continues here id (dialogue_with vs dialogue.now) (register_of update.register) update.invoke
+    ensures leaves { (here : Local) (vs after : List Invocation)
+        → dialogue.now.subscriber ≡ here.imsi → here.hlr ≡ hlr
+        → here.record_of ≡ known subscriber.entry
+        → outcome_of here (Some (dialogue_with after dialogue.now)) [] result
+        ≡ update_continues here id (dialogue_with vs dialogue.now)
+        (register_of update.register) update.invoke
         (effect_with after effect) (concluded effect.conclusion) new }
     ensures writable { CanBeWritten result.after (option_copied subscriber.entry) }
-    ensures keeps { ForgetsNothing result.stays }
+    ensures keeps { ForgetsNothing result.dialogue }
 {
     let rejects = effect.rejects;
     match effect.conclusion {
@@ -111,11 +115,14 @@ fn continues_by(
     effect: Effect,
     new: Tid,
 ) -> Outcome
-    ensures leaves { (here : Local) (vs after : List Invocation) → dialogue.now.subscriber ≡ here.imsi → here.hlr ≡ hlr
-        → here.record_of ≡ known subscriber.entry → outcome_of here (Some (dialogue_with after dialogue.now)) [] result
-        ≡ continues_as here id (dialogue_with vs dialogue.now) (kind_of dialogue.now.kind) (effect_with after effect) new }
+    ensures leaves { (here : Local) (vs after : List Invocation)
+        → dialogue.now.subscriber ≡ here.imsi → here.hlr ≡ hlr
+        → here.record_of ≡ known subscriber.entry
+        → outcome_of here (Some (dialogue_with after dialogue.now)) [] result
+        ≡ continues_as here id (dialogue_with vs dialogue.now) (kind_of dialogue.now.kind)
+        (effect_with after effect) new }
     ensures writable { CanBeWritten result.after (option_copied subscriber.entry) }
-    ensures keeps { ForgetsNothing result.stays }
+    ensures keeps { ForgetsNothing result.dialogue }
 {
     match dialogue.kind {
         Kind::Update { register, invoke } => {
@@ -137,11 +144,12 @@ pub fn continues(
     new: Tid,
 ) -> Outcome
     ensures leaves { (here : Local) (vs : List Invocation) (did : effects.Effect)
-        → dialogue.now.subscriber ≡ here.imsi → here.hlr ≡ hlr → here.record_of ≡ known subscriber.entry → IsEffect effect did
+        → dialogue.now.subscriber ≡ here.imsi → here.hlr ≡ hlr
+        → here.record_of ≡ known subscriber.entry → IsEffect effect did
         → outcome_of here (Some (dialogue_with did.invocations dialogue.now)) [] result
         ≡ continues_as here id (dialogue_with vs dialogue.now) (kind_of dialogue.now.kind) did new }
     ensures writable { CanBeWritten result.after (option_copied subscriber.entry) }
-    ensures keeps { ForgetsNothing result.stays }
+    ensures keeps { ForgetsNothing result.dialogue }
 {
     continues_by(hlr, subscriber, id, dialogue, effect, new)
 }

@@ -20,18 +20,17 @@ use crate::update_end::update_fails;
 use csl::{Due, Was};
 use dialogues::{Dialogue, InvokeId, Kind};
 use hlr_types::{Imsi, Peer, Register, Tid};
+use machine::numbers::MAX_ATTEMPTS;
 use mapargs_loc::CancellationType;
 use outgoing::Components;
 use records::Record;
 use std::alloc::Global;
 
-/// How often a cancel is attempted (profile).
-const MAX_ATTEMPTS: u8 = 3;
-
 /// The register of the dialogue, if it is an update of this subscriber.
 pub fn register_of(imsi: Imsi, dialogue: Option<Dialogue>) -> Option<Register>
     ensures { (vs : List Invocation)
-        → option_map machine_register result ≡ register_of (if_of imsi (option_map (dialogue_with vs) dialogue)) }
+        → option_map machine_register result
+        ≡ register_of (if_of imsi (option_map (dialogue_with vs) dialogue)) }
 {
     match dialogue {
         Some(dialogue) if dialogue.subscriber == imsi => match dialogue.kind {
@@ -55,7 +54,8 @@ fn is_register(vlr: &Peer, register: Option<Register>) -> bool
 /// Whether the digits are those of the serving register, purged or not, or of the current update's.
 fn is_wanted(vlr: &Peer, subscriber: Option<&Record>, current: Option<Register>) -> bool
     ensures { (here : Local)
-        → IfSome subscriber.entry (λ s. current_register here s.now.current ≡ option_map machine_register current)
+        → IfSome subscriber.entry (λ s. current_register here s.now.current
+        ≡ option_map machine_register current)
         → result ≡ is_wanted here vlr.now (known subscriber.entry) }
 {
     match subscriber {
@@ -90,9 +90,11 @@ fn cancel_expires(
     ensures leaves { (here : Local) (named : Option machine.Dialogue) (vs : List Invocation)
         → dialogue.now.subscriber ≡ here.imsi
         → here.record_of ≡ known subscriber.entry
-        → IfSome subscriber.entry (λ s. current_register here s.now.current ≡ option_map machine_register current)
+        → IfSome subscriber.entry (λ s. current_register here s.now.current
+        ≡ option_map machine_register current)
         → outcome_of here named [] result
-        ≡ cancel_expires here (dialogue_with vs dialogue.now) last.vlr last.attempt (cancellation last.why) new }
+        ≡ cancel_expires here (dialogue_with vs dialogue.now) last.vlr last.attempt
+        (cancellation last.why) new }
     ensures writable { (s : Option Subscriber) → CanBeWritten result.after s }
 {
     let message = end_in_dialogue(dialogue.transaction, Vec::new(alloc), Components::Nothing);
@@ -113,7 +115,8 @@ fn sent_expires(
     ensures leaves { (here : Local) (named : Option machine.Dialogue) (vs : List Invocation)
         → dialogue.now.subscriber ≡ here.imsi
         → here.record_of ≡ known subscriber.entry
-        → IfSome subscriber.entry (λ s. current_register here s.now.current ≡ option_map machine_register current)
+        → IfSome subscriber.entry (λ s. current_register here s.now.current
+        ≡ option_map machine_register current)
         → outcome_of here named [] result
         ≡ sent_expires here id (dialogue_with vs dialogue.now) (kind_of dialogue.now.kind) new }
     ensures writable { CanBeWritten result.after (option_copied subscriber.entry) }
@@ -128,7 +131,7 @@ fn sent_expires(
         }
         Kind::Data => Outcome {
             after: After::Same,
-            stays: DialogueChange::Gone { opens: None },
+            dialogue: DialogueChange::Closes,
             message: end_in_dialogue(dialogue.transaction, Vec::new(alloc), Components::Nothing),
             cancel: None,
         },
@@ -147,7 +150,8 @@ pub fn expires(
 ) -> Outcome
     ensures leaves { (here : Local) (vs : List Invocation) → dialogue.now.subscriber ≡ here.imsi
         → here.record_of ≡ known subscriber.entry
-        → IfSome subscriber.entry (λ s. current_register here s.now.current ≡ option_map machine_register current)
+        → IfSome subscriber.entry (λ s. current_register here s.now.current
+        ≡ option_map machine_register current)
         → outcome_of here (Some (dialogue_with vs dialogue.now)) [] result
         ≡ expires here due.id (dialogue_with vs dialogue.now) due.invoke (was_of due.was) new }
     ensures writable { CanBeWritten result.after (option_copied subscriber.entry) }
@@ -156,7 +160,7 @@ pub fn expires(
         Was::Sent => sent_expires(alloc, subscriber, current, due.id, dialogue, new),
         Was::Waiting => Outcome {
             after: After::Same,
-            stays: DialogueChange::Forgets(InvokeId::new(due.invoke)),
+            dialogue: DialogueChange::Forgets(InvokeId::new(due.invoke)),
             message: None,
             cancel: None,
         },

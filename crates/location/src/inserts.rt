@@ -9,10 +9,8 @@ ghost use Rattle.location.specs.Seen.{opening_of};
 use crate::outcome::Opening;
 use dialogues::Dialogue;
 use hlr_types::{Imsi, IsdnAddress, ShortList};
+use machine::numbers::MAX_CODES_IN_INSERT;
 use outgoing::{Components, SubscriberData};
-
-/// How many codes one insert carries (profile).
-const CODES_IN_INSERT: usize = 8;
 
 /// How many inserts carry these codes: at least one, since the first has the MSISDN.
 fn insert_count(codes: &[u8]) -> u8
@@ -21,13 +19,14 @@ fn insert_count(codes: &[u8]) -> u8
     ensures some { 0 < result }
     ensures most { result ≤ 4 }
 {
-    (codes.len().saturating_sub(1) / CODES_IN_INSERT) as u8 + 1
+    (codes.len().saturating_sub(1) / MAX_CODES_IN_INSERT) as u8 + 1
 }
 
 /// A dialogue that opens with inserts of these codes.
 pub(crate) fn inserting(dialogue: Dialogue, codes: &[u8]) -> Opening
     requires { length codes.now ≤ 32 }
-    ensures { (clock : ℕ) → opening_of clock result ≡ dialogue_with (inserts_invoked clock codes.now) dialogue }
+    ensures { (clock : ℕ) → opening_of clock result
+        ≡ dialogue_with (inserts_invoked clock codes.now) dialogue }
 {
     Opening {
         dialogue,

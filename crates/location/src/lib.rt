@@ -7,7 +7,6 @@
 
 mod answers;
 mod argument;
-mod asker;
 mod begin;
 mod cancels;
 mod change;
@@ -15,6 +14,7 @@ mod closing;
 mod components;
 mod continuing;
 mod expiry;
+mod initiator;
 mod inserts;
 mod outcome;
 mod purge;
@@ -28,3 +28,4 @@ pub use closing::closes;
 pub use continuing::{continues, offer_to};
 pub use expiry::{expires, register_of};
 pub use outcome::{After, DialogueChange, Opening, Outcome};
+pub use outgoing::{Addressed, SentMessage, Why, octets_of};

@@ -35,23 +35,25 @@ pub struct Opening {
     ghost most: { invoked ≤ 4 },
 }
 
-/// What happens to the dialogue that an event names. Another may open only if it closes or none is named.
+/// What happens to the dialogue that an event names, if it names one.
 #[derive(Clone, Copy)]
 pub enum DialogueChange {
-    /// It closes, or none is named.
-    Gone { opens: Option<Opening> },
+    /// It closes.
+    Closes,
+    /// This one opens: in the place of the named one, which closes, or beside all others if none is named.
+    Opens(Opening),
     /// It goes on; its transaction and invocations are as the received message leaves them.
     GoesOn,
     /// It goes on without the invocation of this id.
     Forgets(InvokeId),
 }
 
-/// The outcome of a procedure: the change of the record, what happens to the named dialogue, the dialogue that opens, a
-/// message, and the Begin of a cancel that follows it. Building it does not allocate.
+/// The outcome of a procedure: the change of the record, what happens to the dialogues, a message, and the Begin of a cancel
+/// that follows it. Building it does not allocate.
 #[derive(Drop)]
 pub struct Outcome {
     pub after: After,
-    pub stays: DialogueChange,
+    pub dialogue: DialogueChange,
     pub message: Option<Addressed>,
     pub cancel: Option<Addressed>,
 }

@@ -4,24 +4,24 @@ ghost use Rattle.std.specs.Prelude.{◌≡◌, [], Some, option_map, option_copi
 ghost use Rattle.machine.specs.State.{Local};
 ghost use Rattle.machine.specs.Begins.{purge, purge_at};
 ghost use Rattle.smroute.specs.Seen.{machine_register, machine_subscriber};
-ghost use Rattle.location.specs.Asking.{asker_of};
+ghost use Rattle.location.specs.Asking.{initiator_of};
 ghost use Rattle.location.specs.Seen.{known, outcome_of};
 ghost use Rattle.location.specs.Writing.{CanBeWritten};
 
-use crate::asker::Asker;
 use crate::begin::failed;
-use crate::components::{DATA_MISSING, purge_result};
+use crate::components::purge_result;
+use crate::initiator::Initiator;
 use crate::outcome::{After, DialogueChange, Outcome};
 use hlr_types::IsdnAddress;
+use machine::numbers::{DATA_MISSING, UNKNOWN_SUBSCRIBER};
 use mapargs_loc::PurgeArg;
 use records::Record;
-use smroute::UNKNOWN_SUBSCRIBER;
 
 /// The purge of a subscriber who is not withdrawn: only the stored register, compared by its digits, sets the purged flag.
-fn purge_known(who: Asker, vlr: IsdnAddress, subscriber: &Record) -> Outcome
+fn purge_known(who: Initiator, vlr: IsdnAddress, subscriber: &Record) -> Outcome
     ensures leaves { (here : Local) → here.record_of ≡ Some (machine_subscriber subscriber.now)
         → outcome_of here None [] result
-        ≡ purge_at here (asker_of who) who.invoke (machine_subscriber subscriber.now) vlr
+        ≡ purge_at here (initiator_of who) who.invoke (machine_subscriber subscriber.now) vlr
         (option_map machine_register subscriber.now.register) }
     ensures writable { CanBeWritten result.after (Some subscriber.now) }
 {
@@ -32,16 +32,17 @@ fn purge_known(who: Asker, vlr: IsdnAddress, subscriber: &Record) -> Outcome
     let result = purge_result(who.invoke, purges);
     Outcome {
         after: if purges { After::Purged } else { After::Same },
-        stays: DialogueChange::Gone { opens: None },
+        dialogue: DialogueChange::Closes,
         message: Some(who.answers(result)),
         cancel: None,
     }
 }
 
 /// purgeMS. Without a VLR number the error is dataMissing, even for an unknown subscriber (profile).
-pub(crate) fn purge(who: Asker, asked: &PurgeArg, subscriber: Option<&Record>) -> Outcome
-    ensures leaves { (here : Local) → here.record_of ≡ known subscriber.entry → outcome_of here None [] result
-        ≡ purge here (asker_of who) who.invoke asked.now.vlr (known subscriber.entry) }
+pub(crate) fn purge(who: Initiator, asked: &PurgeArg, subscriber: Option<&Record>) -> Outcome
+    ensures leaves { (here : Local) → here.record_of ≡ known subscriber.entry
+        → outcome_of here None [] result
+        ≡ purge here (initiator_of who) who.invoke asked.now.vlr (known subscriber.entry) }
     ensures writable { CanBeWritten result.after (option_copied subscriber.entry) }
 {
     let Some(vlr) = asked.vlr else {

@@ -13,21 +13,20 @@ ghost use Rattle.q773_comp.specs.Seen.{rejection};
 ghost use Rattle.outgoing.specs.Seen.{out};
 ghost use Rattle.records.specs.Roam.{prefixes_of};
 ghost use Rattle.smroute.specs.Seen.{machine_subscriber};
-ghost use Rattle.location.specs.Asking.{asker_of};
+ghost use Rattle.location.specs.Asking.{initiator_of};
 ghost use Rattle.location.specs.Seen.{known, outcome_of};
 ghost use Rattle.location.specs.Writing.{CanBeWritten};
 
-use crate::asker::{Asker, Source};
 use crate::begin::failed;
-use crate::components::ROAMING_NOT_ALLOWED;
+use crate::initiator::{Initiator, Source};
 use crate::inserts::{inserting, subscriber_data};
 use crate::outcome::{After, DialogueChange, Outcome};
 use dialogues::{Dialogue, Kind};
 use hlr_types::{Digits, IsdnAddress, Register, Tid};
+use machine::numbers::{ROAMING_NOT_ALLOWED, UNKNOWN_SUBSCRIBER};
 use outgoing::{Addressed, SentMessage};
 use q773_comp::Rejection;
 use records::{Record, Roam};
-use smroute::UNKNOWN_SUBSCRIBER;
 use tsl::Transaction;
 
 /// Whether the VLR is allowed: all are, or its digits begin with one of the prefixes.
@@ -61,7 +60,8 @@ fn is_prefix(prefix: &Digits, digits: &Digits) -> bool
 
 /// The Continue that carries the subscriber data (insertSubscriberData).
 fn data_sent(source: Source, rejects: Vec<Rejection>, subscriber: &Record, new: Tid) -> Addressed
-    ensures { out result ∷ [] ≡ send source.from (SentContinue new source.origin (Some (context source.context))
+    ensures { out result ∷ [] ≡ send source.from
+        (SentContinue new source.origin (Some (context source.context))
         (map rejection rejects.items) (inserts None subscriber.now.msisdn subscriber.now.codes)) }
 {
     let Source {
@@ -82,15 +82,16 @@ fn data_sent(source: Source, rejects: Vec<Rejection>, subscriber: &Record, new: 
 }
 
 /// The update begins. It becomes the subscriber's current update, in place of any other.
-fn update_opens(who: Asker, register: Register, subscriber: &Record, new: Tid) -> Outcome
+fn update_opens(who: Initiator, register: Register, subscriber: &Record, new: Tid) -> Outcome
     requires { subscriber.now.withdrawn ≡ false }
     ensures leaves { (here : Local) → subscriber.now.imsi ≡ here.imsi
         → here.record_of ≡ Some (machine_subscriber subscriber.now)
         → outcome_of here None [] result
-        ≡ update_opened here (asker_of who) who.invoke (register_of register) (machine_subscriber subscriber.now) new }
+        ≡ update_opened here (initiator_of who) who.invoke (register_of register)
+        (machine_subscriber subscriber.now) new }
     ensures writable { CanBeWritten result.after (Some subscriber.now) }
 {
-    let Asker {
+    let Initiator {
         source,
         rejects,
         invoke,
@@ -110,21 +111,20 @@ fn update_opens(who: Asker, register: Register, subscriber: &Record, new: Tid) -
             purged: subscriber.purged,
             current: Some(new),
         },
-        stays: DialogueChange::Gone {
-            opens: Some(inserting(dialogue, &subscriber.codes)),
-        },
+        dialogue: DialogueChange::Opens(inserting(dialogue, &subscriber.codes)),
         message: Some(data_sent(source, rejects, subscriber, new)),
         cancel: None,
     }
 }
 
 /// The update of a subscriber who is not withdrawn.
-fn update_known(who: Asker, register: Register, subscriber: &Record, new: Tid) -> Outcome
+fn update_known(who: Initiator, register: Register, subscriber: &Record, new: Tid) -> Outcome
     requires { subscriber.now.withdrawn ≡ false }
     ensures leaves { (here : Local) → subscriber.now.imsi ≡ here.imsi
         → here.record_of ≡ Some (machine_subscriber subscriber.now)
         → outcome_of here None [] result
-        ≡ update_begins here (asker_of who) who.invoke (register_of register) (Some (machine_subscriber subscriber.now)) new }
+        ≡ update_begins here (initiator_of who) who.invoke (register_of register)
+        (Some (machine_subscriber subscriber.now)) new }
     ensures writable { CanBeWritten result.after (Some subscriber.now) }
 {
     if is_allowed(&subscriber.roam, &register.vlr) {
@@ -136,7 +136,7 @@ fn update_known(who: Asker, register: Register, subscriber: &Record, new: Tid) -
 
 /// updateLocation. Refused with unknownSubscriber, or with roamingNotAllowed at a VLR that the record does not allow.
 pub(crate) fn update(
-    who: Asker,
+    who: Initiator,
     register: Register,
     subscriber: Option<&Record>,
     new: Tid,
@@ -144,7 +144,8 @@ pub(crate) fn update(
     ensures leaves { (here : Local) → IfSome subscriber.entry (λ s. s.now.imsi ≡ here.imsi)
         → here.record_of ≡ known subscriber.entry
         → outcome_of here None [] result
-        ≡ update_begins here (asker_of who) who.invoke (register_of register) (known subscriber.entry) new }
+        ≡ update_begins here (initiator_of who) who.invoke (register_of register)
+        (known subscriber.entry) new }
     ensures writable { CanBeWritten result.after (option_copied subscriber.entry) }
 {
     match subscriber {

@@ -4,7 +4,7 @@ ghost use Rattle.std.specs.Prelude.{◌≡◌, ◌∷◌, [], ℕ, List, Option,
 ghost use Rattle.machine.specs.State as machine;
 ghost use Rattle.machine.specs.State.{Invocation, Local};
 ghost use Rattle.machine.specs.Sent.{UpdateResult};
-ghost use Rattle.machine.specs.Outcome.{ended, is_marked, unmarked};
+ghost use Rattle.machine.specs.Outcome.{end_in_dialogue, is_marked, unmarked};
 ghost use Rattle.machine.specs.Dialogues.{update_completes, update_done, update_fails};
 ghost use Rattle.q773_comp.specs.Seen.{rejection};
 ghost use Rattle.tsl.specs.Transactions.{transaction_of};
@@ -18,10 +18,11 @@ ghost use Rattle.location.specs.Writing.{CanBeWritten};
 
 use crate::answers::{end_in_dialogue, peer_of};
 use crate::cancels::{Cancelling, then_cancel};
-use crate::components::{SYSTEM_FAILURE, error, update_result};
+use crate::components::{error, update_result};
 use crate::outcome::{After, DialogueChange, Outcome};
 use dialogues::{Dialogue, InvokeId};
 use hlr_types::{IsdnAddress, Register, Tid};
+use machine::numbers::SYSTEM_FAILURE;
 use mapargs_loc::CancellationType;
 use outgoing::Components;
 use q773_comp::Rejection;
@@ -68,14 +69,15 @@ pub(crate) fn update_fails(
 ) -> Outcome
     ensures leaves { (here : Local) (named : Option machine.Dialogue) (vs : List Invocation)
         → here.record_of ≡ known subscriber.entry → outcome_of here named [] result
-        ≡ update_fails here id (dialogue_with vs dialogue.now) invoke (map rejection rejects.items) }
+        ≡ update_fails here id (dialogue_with vs dialogue.now) invoke
+        (map rejection rejects.items) }
     ensures writable { CanBeWritten result.after (option_copied subscriber.entry) }
-    ensures keeps { ForgetsNothing result.stays }
+    ensures keeps { ForgetsNothing result.dialogue }
 {
     let failure = Components::One(error(invoke, SYSTEM_FAILURE));
     Outcome {
         after: unmarked(subscriber, id),
-        stays: DialogueChange::Gone { opens: None },
+        dialogue: DialogueChange::Closes,
         message: end_in_dialogue(dialogue.transaction, rejects, failure),
         cancel: None,
     }
@@ -107,14 +109,16 @@ fn update_done(
     new: Tid,
 ) -> Outcome
     requires { subscriber.now.withdrawn ≡ false }
-    ensures leaves { (here : Local) (named : Option machine.Dialogue) → dialogue.now.subscriber ≡ here.imsi
-        → here.record_of ≡ Some (machine_subscriber subscriber.now) → outcome_of here named [] result
+    ensures leaves { (here : Local) (named : Option machine.Dialogue)
+        → dialogue.now.subscriber ≡ here.imsi
+        → here.record_of ≡ Some (machine_subscriber subscriber.now)
+        → outcome_of here named [] result
         ≡ update_done here (register_of update.register) (machine_subscriber subscriber.now)
-        (ended (transaction_of dialogue.now.transaction) dialogue.now.transaction.remote (map rejection rejects.items)
+        (end_in_dialogue (transaction_of dialogue.now.transaction) dialogue.now.transaction.remote (map rejection rejects.items)
         (UpdateResult update.invoke hlr ∷ []))
         new (option_map machine_register subscriber.now.register) }
     ensures writable { CanBeWritten result.after (Some subscriber.now) }
-    ensures keeps { ForgetsNothing result.stays }
+    ensures keeps { ForgetsNothing result.dialogue }
 {
     let after = After::Location {
         register: Some(update.register),
@@ -138,11 +142,13 @@ pub(crate) fn update_completes(
     new: Tid,
 ) -> Outcome
     ensures leaves { (here : Local) (named : Option machine.Dialogue) (vs : List Invocation)
-        → dialogue.now.subscriber ≡ here.imsi → here.hlr ≡ hlr → here.record_of ≡ known subscriber.entry → outcome_of here named [] result
-        ≡ update_completes here id (dialogue_with vs dialogue.now) (register_of update.register) update.invoke
+        → dialogue.now.subscriber ≡ here.imsi → here.hlr ≡ hlr
+        → here.record_of ≡ known subscriber.entry → outcome_of here named [] result
+        ≡ update_completes here id (dialogue_with vs dialogue.now)
+        (register_of update.register) update.invoke
         (map rejection rejects.items) new (known subscriber.entry) }
     ensures writable { CanBeWritten result.after (option_copied subscriber.entry) }
-    ensures keeps { ForgetsNothing result.stays }
+    ensures keeps { ForgetsNothing result.dialogue }
 {
     match subscriber {
         Some(found) if is_marked(found, id) => {

@@ -22,7 +22,8 @@ seen_if f false o = refl
 
 record_at : (records : RecordMap) (n : ℕ) (x : List ℕ) → records_of (part_of records n) x ≡ cond (keys.shard_of x == n) (records_of records x) None
 record_at records n x =
-    ap (option_map machine_subscriber) (map.get-retain_keys records (λ imsi. shard_of imsi == n) x (λ y tie. ap (λ imsi. shard_of imsi == n) (sym (digits_exact x y tie))))
+    ap (option_map machine_subscriber) (map.get-retain_keys records (λ imsi. shard_of imsi == n) x
+    (λ y tie. ap (λ imsi. shard_of imsi == n) (sym (digits_exact x y tie))))
     ∙ seen_if machine_subscriber (shard_of x == n) (map.get records x)
     ∙ ap (λ k. cond (k == n) (records_of records x) None) (same_shard x)
 

@@ -20,13 +20,16 @@ use Rattle.shard_state.specs.Shards.{record_at, records_of}
 
 -- ---- one record more
 
-pub put_insert : (records : RecordMap) (x : List ℕ) (r : Subscriber) → records_of (finite.insert records x r) ≡ put (records_of records) x (Some (machine_subscriber r))
+pub put_insert : (records : RecordMap) (x : List ℕ) (r : Subscriber)
+    → records_of (finite.insert records x r) ≡ put (records_of records) x (Some (machine_subscriber r))
 put_insert records x r = λ i q. each q i
   where
     each : (q : List ℕ) → records_of (finite.insert records x r) q ≡ put (records_of records) x (Some (machine_subscriber r)) q
     each q = sym (put_cases (records_of records) x (Some (machine_subscriber r)) q (λ v. v ≡ records_of (finite.insert records x r) q)
-        (λ e. sym (ap (option_map machine_subscriber) (finite.get-insert digits_total records x r q ∙ ap (λ b. cond b (Some r) (finite.get records q)) (eq_octets q x (sym e)))))
-        (λ h. sym (ap (option_map machine_subscriber) (finite.get-insert digits_total records x r q ∙ ap (λ b. cond b (Some r) (finite.get records q)) (ne_octets q x (λ e. h (sym e)))))))
+        (λ e. sym (ap (option_map machine_subscriber) (finite.get-insert digits_total records x r q
+        ∙ ap (λ b. cond b (Some r) (finite.get records q)) (eq_octets q x (sym e)))))
+        (λ h. sym (ap (option_map machine_subscriber) (finite.get-insert digits_total records x r q
+        ∙ ap (λ b. cond b (Some r) (finite.get records q)) (ne_octets q x (λ e. h (sym e)))))))
 
 get_inserted : (records : RecordMap) (x : List ℕ) (r : Subscriber) → finite.get (finite.insert records x r) x ≡ Some r
 get_inserted records x r = finite.get-insert digits_total records x r x ∙ ap (λ b. cond b (Some r) (finite.get records x)) (eq_octets x x refl)
@@ -41,7 +44,8 @@ put_twice m k v w = λ i q. cond_twice (same k q) v w (m q) i
 
 -- ---- what a procedure writes
 
-written_at : (codes : List ℕ) (after a : After) (imsi : Option (List ℕ)) (x : List ℕ) (records : List ℕ → Option machine.Subscriber) (new : List ℕ → Option machine.Subscriber)
+written_at : (codes : List ℕ) (after a : After) (imsi : Option (List ℕ)) (x : List ℕ) (records : List ℕ → Option machine.Subscriber)
+    (new : List ℕ → Option machine.Subscriber)
     → imsi ≡ Some x → after ≡ a → new ≡ put records x (after_of codes a (records x)) → new ≡ written codes after imsi records
 written_at codes after a imsi x records new at is e =
     e ∙ ap (λ b. put records x (after_of codes b (records x))) (sym is) ∙ ap (λ o. written codes after o records) (sym at)
@@ -76,7 +80,8 @@ written_by codes after a imsi x records new g at is changes can made inserts =
   where
     go : (o : Option Subscriber) → finite.get records x ≡ o → CanBeWritten a o → records_of new ≡ written codes after imsi (records_of records)
     go None e can_be = absurd (not_written a can_be changes)
-    go (Some s) e can_be = written_at codes after a imsi x (records_of records) (records_of new) at is (inserted_as codes a records new x s (g s) e (made s) (inserts s e))
+    go (Some s) e can_be = written_at codes after a imsi x (records_of records) (records_of new) at is
+        (inserted_as codes a records new x s (g s) e (made s) (inserts s e))
 
 pub purged_as : (records new : RecordMap) (x : List ℕ) (s : Subscriber) (register : Option Register) (current : Option (List ℕ)) → finite.get records x ≡ Some s
     → register ≡ s.register → current ≡ s.current → new ≡ finite.insert records x (placed s register true current)
@@ -88,7 +93,8 @@ purged_as records new x s register current there same_register same_current e =
 -- ---- new codes
 
 -- The codes are put first, and then the record without a current update.
-module _ (records mid : RecordMap) (x codes : List ℕ) (s : Subscriber) (withdrawn : Bool) (put_so : mid ≡ finite.insert records x (allowed s codes withdrawn)) where
+module _ (records mid : RecordMap) (x codes : List ℕ) (s : Subscriber) (withdrawn : Bool)
+    (put_so : mid ≡ finite.insert records x (allowed s codes withdrawn)) where
   pub put_there : finite.get mid x ≡ Some (allowed s codes withdrawn)
   put_there = ap (λ m. finite.get m x) put_so ∙ get_inserted records x (allowed s codes withdrawn)
 

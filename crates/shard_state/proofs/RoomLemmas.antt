@@ -4,7 +4,7 @@ use Rattle.std.specs.Prelude.{◌↔◌}
 use Rattle.machine.specs.State.{State, IsFull}
 use Rattle.dialogues.specs.Dialogues.{OpenDialogues, dialogues_of}
 use Rattle.shard_state.specs.declared.plan.Plan.{Plan}
-use Rattle.shard_state.specs.Plans.{Opens, Overflows, id_of}
+use Rattle.shard_state.specs.Plans.{IsOpening, Overflows, id_of}
 use Rattle.shard_state.specs.Shards.{ShardState, state_of}
 
 own_dialogues : (s : ShardState) (d : OpenDialogues) → d ≡ s.dialogues → (state_of s).dialogues ≡ dialogues_of d
@@ -13,7 +13,7 @@ own_dialogues s d e = ap dialogues_of (sym e)
 
 pub overflows : (s : ShardState) (plan : Plan) (d : OpenDialogues) (is_full : Bool) → d ≡ s.dialogues → s.dialogues.shard ≡ s.shard
     → ((S : State) → S.dialogues ≡ dialogues_of d → IsTrue is_full ↔ IsFull S d.shard)
-    → (Opens plan.outcome.stays × (id_of plan.named ≡ None))
+    → (IsOpening plan.outcome.dialogue × (id_of plan.named ≡ None))
     → (not is_full ≡ false) ↔ Overflows s plan
 overflows s plan d is_full e own full beside =
     let number : d.shard ≡ s.shard = ap (λ (x : OpenDialogues). x.shard) e ∙ own in

@@ -28,7 +28,8 @@ named_among clock components (Continued id peer remote) open_ones =
     option_map (gone_on peer remote clock (map heard components)) (open_ones id)
 
 -- the open dialogues after: the named one as it stays, and the one that opens
-abbrev pub changed : (clock : ℕ) → List (Component Parameter) → Named → DialogueChange → (new : List ℕ) → (List ℕ → Option machine.Dialogue) → List ℕ → Option machine.Dialogue
+abbrev pub changed : (clock : ℕ) → List (Component Parameter) → Named → DialogueChange → (new : List ℕ) → (List ℕ → Option machine.Dialogue) → List ℕ
+    → Option machine.Dialogue
 changed clock components named stays new open_ones =
     new_opens new (opens_of clock stays) (named_stays (id_of named) (stays_of (named_among clock components named open_ones) stays) open_ones)
 

@@ -12,7 +12,7 @@ use Rattle.dialogues.specs.Dialogues.{IsNew, dialogues_of, gone_on}
 use Rattle.records.specs.Subscriber.{AreAllowed}
 use Rattle.location.specs.declared.outcome.After.TheVariants.{NewCodes}
 use Rattle.location.specs.declared.outcome.DialogueChange.{DialogueChange}
-use Rattle.location.specs.declared.outcome.DialogueChange.TheVariants.{Gone, Forgets}
+use Rattle.location.specs.declared.outcome.DialogueChange.TheVariants.{Opens, Forgets}
 use Rattle.location.specs.Seen.{outcome_of}
 use Rattle.location.specs.Writing.{CanBeWritten}
 use Rattle.shard_state.specs.declared.plan.Named.{Named}
@@ -46,9 +46,9 @@ abbrev pub state_after_plan : ShardState → List (Component Parameter) → Plan
 state_after_plan s components plan = moved (state_of s) plan.imsi (id_of plan.named) plan.new (plan_outcome s components plan)
 
 -- whether a dialogue opens
-abbrev pub Opens : DialogueChange → Type 0
-Opens (Gone (Some opening)) = Unit {0}
-Opens _ = ⊥
+abbrev pub IsOpening : DialogueChange → Type 0
+IsOpening (Opens opening) = Unit {0}
+IsOpening _ = ⊥
 
 -- An invocation is forgotten only in a dialogue that is otherwise unchanged.
 abbrev pub IsForgetting : Named → DialogueChange → Type 0
@@ -70,16 +70,16 @@ pub record CanSettle (s : ShardState) (plan : Plan) : Type 0 where
   pub is_open : IfSome (id_of plan.named) (λ id. dialogues_of s.dialogues id ≢ None)
   pub writable : CanBeWritten plan.outcome.after (record_at s.records plan.imsi)
   pub codes : plan.outcome.after ≡ NewCodes → AreAllowed plan.codes.items
-  pub forgetting : IsForgetting plan.named plan.outcome.stays
+  pub forgetting : IsForgetting plan.named plan.outcome.dialogue
   pub next_id : IsNextId s plan.named plan.new
-  pub concerned : plan.imsi ≡ None → (plan.named ≡ Nothing) × (Opens plan.outcome.stays → ⊥)
+  pub concerned : plan.imsi ≡ None → (plan.named ≡ Nothing) × (IsOpening plan.outcome.dialogue → ⊥)
 
 -- There is room: a dialogue that would open beside the open ones has an id.
 abbrev pub HasRoom : ShardState → Plan → Type 0
-HasRoom s plan = Opens plan.outcome.stays → id_of plan.named ≡ None → s.dialogues.next ≢ None
+HasRoom s plan = IsOpening plan.outcome.dialogue → id_of plan.named ≡ None → s.dialogues.next ≢ None
 
 -- A dialogue would open beside the open ones, and the shard is full.
 pub record Overflows (s : ShardState) (plan : Plan) : Type 0 where
-  pub opens : Opens plan.outcome.stays
+  pub opens : IsOpening plan.outcome.dialogue
   pub beside : id_of plan.named ≡ None
   pub full : IsFull (state_of s) s.shard

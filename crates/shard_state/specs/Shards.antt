@@ -6,7 +6,7 @@ use Rattle.records.specs.Subscriber.{Subscriber, coded_digits}
 use Rattle.records.specs.Maps.{RecordMap, record_map_code, DirectoryMap, directory_map_code}
 use Rattle.smroute.specs.Seen.{machine_subscriber}
 use Rattle.dialogues.specs.Dialogues.{OpenDialogues, open_dialogues_code, dialogues_of}
-use Rattle.machine.specs.Numbers.{shards, latest_clock}
+use Rattle.machine.specs.declared.numbers.TheConstants.{SHARDS, MAX_CLOCK}
 use Rattle.machine.specs.State as machine
 
 -- The shard's number, its clock, its records and its open dialogues; the directory and the HLR number, which all shards share.
@@ -32,8 +32,8 @@ shard_of_fields shard clock records dialogues directory hlr =
 
 -- There is such a shard, its clock is at most 2^62, and its dialogues have its ids.
 pub record IsShardState (s : ShardState) : Type 0 where
-  pub shard : s.shard < shards
-  pub clock : s.clock ≤ latest_clock
+  pub shard : s.shard < SHARDS
+  pub clock : s.clock ≤ MAX_CLOCK
   pub dialogues : s.dialogues.shard ≡ s.shard
 
 abbrev pub records_of : RecordMap → List ℕ → Option machine.Subscriber

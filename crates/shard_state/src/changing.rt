@@ -6,7 +6,7 @@ ghost use Rattle.machine.specs.Step.{named_stays, taken};
 ghost use Rattle.dialogues.specs.Dialogues.{dialogues_of, forgotten};
 ghost use Rattle.location.specs.Seen.{opening_of, opens_of};
 ghost use Rattle.shard_state.specs.Changing.{IsNext, changed, named_among};
-ghost use Rattle.shard_state.specs.Plans.{IsForgetting, Opens, id_of};
+ghost use Rattle.shard_state.specs.Plans.{IsForgetting, IsOpening, id_of};
 ghost use Rattle.q773_comp.specs.declared.component.Component as component;
 ghost use Rattle.msgarena.specs.declared.parameter.Parameter as parameter;
 
@@ -30,7 +30,8 @@ fn open(
     requires room { place ≡ None → dialogues.old.next ≢ None }
     ensures next { IfOk result (λ id. (new : List ℕ) → IsNext dialogues.old place new → id ≡ new) }
     ensures opened { IfOk result (λ id. dialogues_of dialogues.new
-        ≡ put (named_stays place None (dialogues_of dialogues.old)) id (Some (opening_of clock opening.now))) }
+        ≡ put (named_stays place None (dialogues_of dialogues.old)) id
+        (Some (opening_of clock opening.now))) }
     ensures shard { dialogues.new.shard ≡ dialogues.old.shard }
     ensures err { OnErr result (dialogues.new ≡ dialogues.old) }
 {
@@ -62,7 +63,8 @@ fn go_on(
     requires early { clock ≤ 2 ^ 62 }
     requires is_open { IfSome (id_of named) (λ id. dialogues_of dialogues.old id ≢ None) }
     ensures ok { OnOk result (dialogues_of dialogues.new
-        ≡ named_stays (id_of named) (named_among clock components.now named (dialogues_of dialogues.old)) (dialogues_of dialogues.old)) }
+        ≡ named_stays (id_of named) (named_among clock components.now named
+        (dialogues_of dialogues.old)) (dialogues_of dialogues.old)) }
     ensures shard { dialogues.new.shard ≡ dialogues.old.shard }
     ensures err { OnErr result (dialogues.new ≡ dialogues.old) }
 {
@@ -78,8 +80,11 @@ fn go_on(
 /// An invocation of the named dialogue, if any, becomes Idle. The rest of the dialogue stays the same.
 fn forget(dialogues: &mut Dialogues, named: Named, invoke: InvokeId)
     requires { IsForgetting named (DialogueChange.Forgets invoke) }
-    ensures forgotten { (clock : ℕ) (cs : List (component.Component parameter.Parameter)) → dialogues_of dialogues.new
-        ≡ named_stays (id_of named) (option_map (forgotten invoke) (named_among clock cs named (dialogues_of dialogues.old))) (dialogues_of dialogues.old) }
+    ensures forgotten { (clock : ℕ) (cs : List (component.Component parameter.Parameter))
+        → dialogues_of dialogues.new
+        ≡ named_stays (id_of named) (option_map (forgotten invoke)
+        (named_among clock cs named (dialogues_of dialogues.old)))
+        (dialogues_of dialogues.old) }
     ensures shard { dialogues.new.shard ≡ dialogues.old.shard }
 {
     if let Named::Open(id) = named {
@@ -99,19 +104,18 @@ pub(crate) fn change(
     requires early { clock ≤ 2 ^ 62 }
     requires is_open { IfSome (id_of named) (λ id. dialogues_of dialogues.old id ≢ None) }
     requires forgetting { IsForgetting named stays.now }
-    requires room { Opens stays.now → id_of named ≡ None → dialogues.old.next ≢ None }
+    requires room { IsOpening stays.now → id_of named ≡ None → dialogues.old.next ≢ None }
     ensures taken { IfOk result (λ id. (new : List ℕ) → IsNext dialogues.old (id_of named) new
         → id ≡ taken new (opens_of clock stays.now)) }
     ensures changed { OnOk result ((new : List ℕ) → IsNext dialogues.old (id_of named) new
-        → dialogues_of dialogues.new ≡ changed clock components.now named stays.now new (dialogues_of dialogues.old)) }
+        → dialogues_of dialogues.new ≡ changed clock components.now named stays.now new
+        (dialogues_of dialogues.old)) }
     ensures shard { dialogues.new.shard ≡ dialogues.old.shard }
     ensures err { OnErr result (dialogues.new ≡ dialogues.old) }
 {
     match stays {
-        DialogueChange::Gone {
-            opens: Some(opening),
-        } => Ok(Some(open(dialogues, clock, named.id(), opening)?)),
-        DialogueChange::Gone { opens: None } => {
+        DialogueChange::Opens(opening) => Ok(Some(open(dialogues, clock, named.id(), opening)?)),
+        DialogueChange::Closes => {
             close(dialogues, named.id());
             Ok(None)
         }

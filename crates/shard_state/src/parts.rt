@@ -2,7 +2,7 @@
 
 ghost use Rattle.std.specs.Prelude.{◌≡◌, ◌<◌, ◌≤◌, IfOk, min, max};
 ghost use Rattle.std.specs.Arc.{arc_value};
-ghost use Rattle.machine.specs.Numbers.{latest_clock};
+ghost use Rattle.machine.specs.declared.numbers.TheConstants.{MAX_CLOCK};
 ghost use Rattle.machine.specs.Opening.{opening};
 ghost use Rattle.machine.specs.Parts.{part};
 ghost use Rattle.records.specs.Maps.{RecordMap, part_of};
@@ -10,13 +10,11 @@ ghost use Rattle.shard_state.specs.Shards.{IsOpening, state_of, records_of, dire
 
 use dialogues::Dialogues;
 use hlr_types::IsdnAddress;
+use machine::numbers::MAX_CLOCK;
 use records::{Directory, Records};
 use std::alloc::{AllocError, Global};
 use std::marker::Model;
 use std::sync::Arc;
-
-/// A greater clock value counts as this one, 2^62 (profile).
-const MAX_CLOCK: u64 = 1 << 62;
 
 /// The state of one shard: its records, its open dialogues and its clock, with the directory, which all shards share, and the
 /// HLR number.
@@ -39,9 +37,12 @@ impl Model for ShardParts {
 
     ghost coded = { shard_state_code };
 
-    ghost view = { λ s. shard_of_fields s.number s.clock s.records s.dialogues (arc_value s.directory) s.hlr };
+    ghost view = { λ s. shard_of_fields s.number s.clock s.records s.dialogues
+        (arc_value s.directory) s.hlr };
 
-    ghost invariant = { λ s. IsShardState (shard_of_fields s.number s.clock s.records s.dialogues (arc_value s.directory) s.hlr) };
+    ghost invariant = { λ s. IsShardState
+        (shard_of_fields s.number s.clock s.records s.dialogues
+        (arc_value s.directory) s.hlr) };
 }
 
 impl ShardParts {
@@ -57,7 +58,8 @@ impl ShardParts {
         requires { number < 16 }
         ensures opening { IfOk result (IsOpening number records (arc_value directory) hlr) }
         ensures part { IfOk result (λ shard. (all : RecordMap) → records ≡ part_of all number
-            → state_of shard ≡ part (opening (records_of all) (directory_of (arc_value directory)) hlr) number) }
+            → state_of shard ≡ part (opening (records_of all)
+            (directory_of (arc_value directory)) hlr) number) }
     {
         Ok(ShardParts {
             alloc,
@@ -81,7 +83,7 @@ impl ShardParts {
     /// Its clock.
     pub fn clock(&self) -> u64
         ensures value { result ≡ self.now.clock }
-        ensures early { result ≤ latest_clock }
+        ensures early { result ≤ MAX_CLOCK }
     {
         self.clock
     }
@@ -132,7 +134,7 @@ impl ShardParts {
 
     /// Sets the clock to `now`, if that is later. It never goes back (profile).
     pub fn tick(&mut self, now: u64)
-        ensures { self.new ≡ record self.old { clock = max self.old.clock (min now latest_clock) } }
+        ensures { self.new ≡ record self.old { clock = max self.old.clock (min now MAX_CLOCK) } }
     {
         self.clock = self.clock.max(now.min(MAX_CLOCK));
     }

@@ -47,14 +47,15 @@ impl Named {
 }
 
 impl Plan {
-    ghost use Rattle.shard_state.specs.Plans.{Opens, id_of};
+    ghost use Rattle.shard_state.specs.Plans.{IsOpening, id_of};
 
     /// Whether a dialogue opens beside the open ones.
     pub(crate) fn opens_beside(&self) -> bool
-        ensures { IsTrue result ↔ (Opens self.now.outcome.stays × (id_of self.now.named ≡ None)) }
+        ensures { IsTrue result ↔ (IsOpening self.now.outcome.dialogue
+            × (id_of self.now.named ≡ None)) }
     {
-        match (self.outcome.stays, self.named) {
-            (DialogueChange::Gone { opens: Some(_) }, Named::Nothing) => true,
+        match (self.outcome.dialogue, self.named) {
+            (DialogueChange::Opens(_), Named::Nothing) => true,
             _ => false,
         }
     }

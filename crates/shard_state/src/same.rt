@@ -25,7 +25,8 @@ impl ShardParts {
 
 /// Whether the clocks, the HLR numbers and the directories are equal.
 fn same_fixed(left: &ShardParts, right: &ShardParts) -> bool
-    ensures { IsTrue result ↔ ((left.now.clock ≡ right.now.clock) × (left.now.hlr ≡ right.now.hlr) × (left.now.directory ≡ right.now.directory)) }
+    ensures { IsTrue result ↔ ((left.now.clock ≡ right.now.clock) × (left.now.hlr ≡ right.now.hlr)
+        × (left.now.directory ≡ right.now.directory)) }
 {
     left.clock() == right.clock()
         && left.hlr() == right.hlr()

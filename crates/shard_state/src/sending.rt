@@ -2,13 +2,12 @@
 
 ghost use Rattle.std.specs.Prelude.{◌≡◌, ◌++◌, IfOk, OnOk, map};
 ghost use Rattle.frames.specs.Octets.{spelled_out};
-ghost use Rattle.outgoing.specs.Seen.{out};
-ghost use Rattle.location.specs.Seen.{one, sent_of};
+ghost use Rattle.location.specs.Seen.{one, out, sent_of};
 ghost use Rattle.shard_state.specs.Frames.{raw_out};
 
 use crate::answer::Out;
 use crate::sent_frames::Frames;
-use outgoing::{Addressed, octets_of};
+use location::{Addressed, octets_of};
 use std::alloc::{AllocError, Global};
 
 /// A message as a frame.
@@ -26,7 +25,8 @@ fn spelled(alloc: Global, sent: &Addressed) -> Result<Out, AllocError>
 
 /// Appends the frame of a message, if there is one.
 fn push(outs: &mut Vec<Out>, alloc: Global, sent: &Option<Addressed>) -> Result<(), AllocError>
-    ensures { OnOk result (map raw_out outs.new.items ≡ map raw_out outs.old.items ++ map spelled_out (one sent.now)) }
+    ensures { OnOk result (map raw_out outs.new.items
+        ≡ map raw_out outs.old.items ++ map spelled_out (one sent.now)) }
 {
     if let Some(sent) = sent {
         outs.push(spelled(alloc, sent)?)?;

@@ -38,8 +38,10 @@ impl ShardParts {
     ) -> Result<StepAnswer, AllocError>
         requires can { CanSettle self.old plan }
         requires room { HasRoom self.old plan }
-        ensures settled { OnOk result (state_of self.new ≡ state_after_plan self.old components.now plan) }
-        ensures says { IfOk result (λ a. Says a (taken plan.new (plan_outcome self.old components.now plan).opens) plan.subject
+        ensures settled { OnOk result (state_of self.new
+            ≡ state_after_plan self.old components.now plan) }
+        ensures says { IfOk result (λ a. Says a
+            (taken plan.new (plan_outcome self.old components.now plan).opens) plan.subject
             (plan_outcome self.old components.now plan).sent) }
         // Its dialogues have ids of its own number.
         ensures own { self.old.dialogues.shard ≡ self.old.shard }
@@ -60,7 +62,7 @@ impl ShardParts {
             &mut self.dialogues,
             clock,
             named,
-            &outcome.stays,
+            &outcome.dialogue,
             components,
         )?;
         write(&mut self.records, imsi, outcome.after, codes);

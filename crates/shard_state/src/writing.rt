@@ -1,6 +1,6 @@
 //! Writing the record of a subscriber (TS 23.012).
 
-ghost use Rattle.std.specs.Prelude.{◌≡◌, [], IsSome, Some, option_map, true};
+ghost use Rattle.std.specs.Prelude.{◌≡◌, [], IsSome, Some, true};
 ghost use Rattle.std.specs.FinMap as finite;
 ghost use Rattle.machine.specs.Keys.{put};
 ghost use Rattle.records.specs.Subscriber.{AreAllowed};
@@ -17,7 +17,8 @@ use records::Records;
 fn purge(records: &mut Records, imsi: &Imsi)
     requires { CanBeWritten After.Purged (finite.get records.old imsi.now) }
     ensures { records_of records.new
-        ≡ put (records_of records.old) imsi.now (after_of [] After.Purged (records_of records.old imsi.now)) }
+        ≡ put (records_of records.old) imsi.now
+        (after_of [] After.Purged (records_of records.old imsi.now)) }
 {
     let Some(found) = records.get(imsi) else {
         return;
@@ -32,7 +33,8 @@ fn recode(records: &mut Records, imsi: &Imsi, codes: Vec<u8>)
     requires known { IsSome (finite.get records.old imsi.now) }
     requires codes { AreAllowed codes.items }
     ensures { records_of records.new
-        ≡ put (records_of records.old) imsi.now (after_of codes.items After.NewCodes (records_of records.old imsi.now)) }
+        ≡ put (records_of records.old) imsi.now
+        (after_of codes.items After.NewCodes (records_of records.old imsi.now)) }
 {
     let Some(found) = records.get(imsi) else {
         return;

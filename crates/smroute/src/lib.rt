@@ -5,4 +5,4 @@ mod answer;
 mod route;
 
 pub use answer::RouteAnswer;
-pub use route::{ABSENT_SUBSCRIBER_SM, TELESERVICE_NOT_PROVISIONED, UNKNOWN_SUBSCRIBER, route_sm};
+pub use route::route_sm;

@@ -2,27 +2,16 @@
 
 ghost use Rattle.std.specs.Prelude.{◌≡◌, ℕ, List, IfSome, option_map, if◌then◌else◌};
 ghost use Rattle.machine.specs.SmRoute.{NoRoute, sm_route, route_by, has_short_messages};
-ghost use Rattle.machine.specs.Numbers.{teleservice_not_provisioned};
+ghost use Rattle.machine.specs.declared.numbers.TheConstants.{TELESERVICE_NOT_PROVISIONED};
 ghost use Rattle.smroute.specs.Seen.{machine_subscriber, machine_register, machine_answer};
 
 use crate::answer::RouteAnswer;
 use hlr_types::{Imsi, Register};
+use machine::numbers::{
+    ABSENT_SUBSCRIBER_SM, ALL_SHORT_MESSAGE_SERVICES, SHORT_MESSAGE_MT_PP,
+    TELESERVICE_NOT_PROVISIONED, UNKNOWN_SUBSCRIBER,
+};
 use records::Record;
-
-/// unknownSubscriber (TS 29.002, 17.6.6).
-pub const UNKNOWN_SUBSCRIBER: u8 = 1;
-
-/// absentSubscriberSM (TS 29.002, 17.6.6).
-pub const ABSENT_SUBSCRIBER_SM: u8 = 6;
-
-/// teleserviceNotProvisioned (TS 29.002, 17.6.6).
-pub const TELESERVICE_NOT_PROVISIONED: u8 = 11;
-
-/// The group of all short message services (TS 29.002, TeleserviceCode).
-const SHORT_MESSAGE_SERVICES: u8 = 0x20;
-
-/// Short message to a mobile station (TS 29.002, TeleserviceCode).
-const SHORT_MESSAGE_TO_MOBILE: u8 = 0x21;
 
 /// The SM route of a subscriber (TS 29.002, 12.1). Does not allocate.
 ///
@@ -31,7 +20,8 @@ const SHORT_MESSAGE_TO_MOBILE: u8 = 0x21;
 /// subscriber.
 pub fn route_sm(subscriber: Option<&Record>) -> RouteAnswer
     ensures { (imsi : List ℕ) → IfSome subscriber.entry (λ s. s.now.imsi ≡ imsi)
-        → machine_answer result ≡ sm_route imsi (option_map (λ s. machine_subscriber s.now) subscriber.entry) }
+        → machine_answer result ≡ sm_route imsi
+        (option_map (λ s. machine_subscriber s.now) subscriber.entry) }
 {
     match subscriber {
         Some(subscriber) if !subscriber.withdrawn => route_of(subscriber),
@@ -43,7 +33,7 @@ pub fn route_sm(subscriber: Option<&Record>) -> RouteAnswer
 fn route_of(subscriber: &Record) -> RouteAnswer
     ensures { machine_answer result ≡ (if has_short_messages subscriber.now.codes
         then route_by subscriber.now.imsi subscriber.now.purged (option_map machine_register subscriber.now.register)
-        else NoRoute teleservice_not_provisioned) }
+        else NoRoute TELESERVICE_NOT_PROVISIONED) }
 {
     if !has_short_messages(&subscriber.codes) {
         return RouteAnswer::NoRoute(TELESERVICE_NOT_PROVISIONED);
@@ -55,7 +45,7 @@ fn route_of(subscriber: &Record) -> RouteAnswer
 fn has_short_messages(codes: &[u8]) -> bool
     ensures { result ≡ has_short_messages codes.now }
 {
-    codes.iter().any(|code| *code == SHORT_MESSAGE_SERVICES || *code == SHORT_MESSAGE_TO_MOBILE)
+    codes.iter().any(|code| *code == ALL_SHORT_MESSAGE_SERVICES || *code == SHORT_MESSAGE_MT_PP)
 }
 
 /// The route through the serving register, if there is one.

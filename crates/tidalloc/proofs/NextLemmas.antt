@@ -32,14 +32,17 @@ unused_past slots = ap is_unused (slice_get_past slots (length slots) (omega ari
 none_at_unused : (shard : ℕ) (q : List ℕ) (o : Option Slot) → is_unused o ≡ true → is_at shard q o ≡ false
 unfolding is_unused
 none_at_unused shard q None e = refl
-none_at_unused shard q (Some s) e = elim s.is_live as (λ b. cond b false true ≡ true → (b && eq_by_cmp octets_cmp q (id_at shard (slot_of q) s.generation)) ≡ false) [ true ↦ λ e. cc | false ↦ λ e. refl ] e
+none_at_unused shard q (Some s) e = elim s.is_live as (λ b. cond b false true ≡ true
+    → (b && eq_by_cmp octets_cmp q (id_at shard (slot_of q) s.generation)) ≡ false) [ true ↦ λ e. cc | false ↦ λ e. refl ] e
 
 -- an unused slot whose id was freed last has that id's generation
-own_unused : (shard k : ℕ) (id : List ℕ) (o : Option Slot) → is_unused o ≡ true → was_at shard id o ≡ true → slot_of id ≡ k → id ≡ id_at shard k (generation_in o)
+own_unused : (shard k : ℕ) (id : List ℕ) (o : Option Slot) → is_unused o ≡ true → was_at shard id o ≡ true → slot_of id ≡ k
+    → id ≡ id_at shard k (generation_in o)
 unfolding is_unused
 own_unused shard k id None free was here = cc
 own_unused shard k id (Some s) free was here =
-    elim s.is_live as (λ b. cond b false true ≡ true → cond b true (eq_by_cmp octets_cmp id (id_at shard (slot_of id) s.generation)) ≡ true → id ≡ id_at shard k s.generation) [
+    elim s.is_live as (λ b. cond b false true ≡ true → cond b true (eq_by_cmp octets_cmp id (id_at shard (slot_of id) s.generation)) ≡ true
+    → id ≡ id_at shard k s.generation) [
       | true ↦ λ f w. cc
       | false ↦ λ f w. same_octets id _ w ∙ ap (λ n. id_at shard n s.generation) here
     ] free was
@@ -62,7 +65,8 @@ module _ (shard : ℕ) (slots : List Slot) (free : List ℕ) (freed : Option (Li
         let is = next_generation-is g (a.generations k) in
         record {
           of_shard = IsIdOf-id_at shard k h a.in_range small is.0 is.1;
-          not_live = contains-live_of shard (id_at shard k h) slots a.few ∙ ap (λ n. is_at shard (id_at shard k h) (slice_get slots n)) (slot_of-id_at shard k h small)
+          not_live = contains-live_of shard (id_at shard k h) slots a.few
+              ∙ ap (λ n. is_at shard (id_at shard k h) (slice_get slots n)) (slot_of-id_at shard k h small)
               ∙ none_at_unused shard (id_at shard k h) (slice_get slots k) unused;
           not_freed_last = λ e. another (id_at shard k h) e refl;
         }
@@ -72,7 +76,8 @@ next_slot-push slots free k =
     let last : length (free ++ k ∷ []) - 1 ≡ length free = omega (arith, length-append free (k ∷ [])) in
     ap (λ i. get_or (free ++ k ∷ []) i (length slots)) last ∙ get_or-append_seam free k [] (length slots)
 
-pub next_in-small : (shard : ℕ) (slots : List Slot) (k : ℕ) → k < 4096 → next_in shard slots k ≡ Some (id_at shard k (next_generation (generation_in (slice_get slots k))))
+pub next_in-small : (shard : ℕ) (slots : List Slot) (k : ℕ) → k < 4096
+    → next_in shard slots k ≡ Some (id_at shard k (next_generation (generation_in (slice_get slots k))))
 next_in-small shard slots k small = ap (λ b. cond b (Some (id_at shard k (next_generation (generation_in (slice_get slots k))))) None) (lt-ltb k 4096 small)
 
 get_or-default : (xs : List ℕ) (i d e : ℕ) → i < length xs → get_or xs i d ≡ get_or xs i e
@@ -81,7 +86,8 @@ get_or-default (x ∷ xs) zero d e h = refl
 get_or-default (x ∷ xs) (suc i) d e h = get_or-default xs i d e (omega arith)
 
 -- the slot that is used next is unused
-pub unused_next : (shard : ℕ) (slots : List Slot) (free : List ℕ) (freed : Option (List ℕ)) (room : ℕ) → AreSlots shard slots free freed room → is_unused (slice_get slots (next_slot slots free)) ≡ true
+pub unused_next : (shard : ℕ) (slots : List Slot) (free : List ℕ) (freed : Option (List ℕ)) (room : ℕ) → AreSlots shard slots free freed room
+    → is_unused (slice_get slots (next_slot slots free)) ≡ true
 unused_next shard slots [] freed room a = unused_past slots
 unused_next shard slots (f ∷ fs) freed room a =
     let last : length (f ∷ fs) - 1 < length (f ∷ fs) = omega arith in
@@ -93,7 +99,8 @@ pub next_small : (shard : ℕ) (slots : List Slot) (free : List ℕ) (freed : Op
     → ((next_slot slots free < 4096) × (set.len (live_of shard slots) ≡ 4096 → ⊥)) ⊎ ((next_slot slots free ≡ 4096) × (set.len (live_of shard slots) ≡ 4096))
 next_small shard slots [] freed room a = by_room (ltb (length slots) 4096) refl
   where
-    by_room : (b : Bool) → ltb (length slots) 4096 ≡ b → ((length slots < 4096) × (set.len (live_of shard slots) ≡ 4096 → ⊥)) ⊎ ((length slots ≡ 4096) × (set.len (live_of shard slots) ≡ 4096))
+    by_room : (b : Bool) → ltb (length slots) 4096 ≡ b → ((length slots < 4096) × (set.len (live_of shard slots) ≡ 4096 → ⊥))
+        ⊎ ((length slots ≡ 4096) × (set.len (live_of shard slots) ≡ 4096))
     by_room true e = let few = ltb-true _ _ e in inl (few, λ all. omega (arith, a.counted, few, all))
     by_room false e =
         let most : 4096 ≤ length slots = ltb-false _ _ e in
@@ -111,7 +118,8 @@ next_may shard slots free freed room a id e = elim (next_small shard slots free 
   | inl few ↦
       let is = next_in-small shard slots (next_slot slots free) few.0 in
       let same : id_at shard (next_slot slots free) (next_generation (generation_in (slice_get slots (next_slot slots free)))) ≡ id = cc in
-      subst (MayBeTaken (ids_of shard slots free freed)) same (may_take shard slots free freed room a (next_slot slots free) few.0 (unused_next shard slots free freed room a))
+      subst (MayBeTaken (ids_of shard slots free freed)) same (may_take shard slots free freed room a (next_slot slots free) few.0
+      (unused_next shard slots free freed room a))
   | inr full ↦ absurd (none full.0)
 ]
   where

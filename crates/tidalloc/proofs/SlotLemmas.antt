@@ -45,7 +45,8 @@ module _ (shard : ℕ) (q : List ℕ) where
   skipped true c d e = ap (λ c. c || d) e
   skipped false c d e = refl
 
-  found : (n : ℕ) (slots : List Slot) (d : ℕ) → n + length slots ≤ 4096 → slot_of q ≡ n + d → list_any (eq_by_cmp octets_cmp q) (ids_from shard n slots) ≡ is_at shard q (slice_get slots d)
+  found : (n : ℕ) (slots : List Slot) (d : ℕ) → n + length slots ≤ 4096 → slot_of q ≡ n + d
+      → list_any (eq_by_cmp octets_cmp q) (ids_from shard n slots) ≡ is_at shard q (slice_get slots d)
   found n [] d few e = refl
   found n (s ∷ slots) zero few e =
       let rest = none_below (n + 1) slots (omega arith) (omega arith) in
@@ -122,7 +123,8 @@ live_of-give_back shard old new number g puts was =
 -- a slot that is free has no live id
 pub none_at_free : (shard : ℕ) (q : List ℕ) (o : Option Slot) → is_free o ≡ true → is_at shard q o ≡ false
 none_at_free shard q None e = refl
-none_at_free shard q (Some s) e = elim s.is_live as (λ b. cond b false true ≡ true → (b && eq_by_cmp octets_cmp q (id_at shard (slot_of q) s.generation)) ≡ false) [ true ↦ λ e. cc | false ↦ λ e. refl ] e
+none_at_free shard q (Some s) e = elim s.is_live as (λ b. cond b false true ≡ true
+    → (b && eq_by_cmp octets_cmp q (id_at shard (slot_of q) s.generation)) ≡ false) [ true ↦ λ e. cc | false ↦ λ e. refl ] e
 
 pub within_free : (slots : List Slot) (k : ℕ) → is_free (slice_get slots k) ≡ true → k < length slots
 within_free [] k e = cc
@@ -158,7 +160,8 @@ puts-push slots s few = record {
 }
 
 -- a slot that was never used stands for no id
-pub live_of-reserve : (shard : ℕ) (slots : List Slot) → length slots < 4096 → live_of shard (slots ++ record { generation = 0; is_live = false } ∷ []) ≡ live_of shard slots
+pub live_of-reserve : (shard : ℕ) (slots : List Slot) → length slots < 4096
+    → live_of shard (slots ++ record { generation = 0; is_live = false } ∷ []) ≡ live_of shard slots
 live_of-reserve shard slots few =
     let puts = puts-push slots (record { generation = 0; is_live = false }) few in
     set.same_set octets_total octets_exact _ _ (λ q.

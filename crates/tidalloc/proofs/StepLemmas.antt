@@ -50,7 +50,8 @@ module _ (shard : ℕ) (slots : List Slot) (freed : Option (List ℕ)) (room : �
       let there = puts_unused.there (slot_of id) (λ e. omega arith) in
       record { not_live = ap (is_at shard id) there ∙ w.not_live; own = ap (was_at shard id) there ∙ w.own }
 
-  one_free : (i : ℕ) → i < length (length slots ∷ []) → is_free (slice_get (slots ++ record { generation = 0; is_live = false } ∷ []) (get_or (length slots ∷ []) i 0)) ≡ true
+  one_free : (i : ℕ) → i < length (length slots ∷ []) → is_free (slice_get (slots ++ record { generation = 0; is_live = false } ∷ [])
+      (get_or (length slots ∷ []) i 0)) ≡ true
   one_free zero h = ap is_free puts_unused.here
   one_free (suc i) h = absurd (omega arith)
 
@@ -66,18 +67,23 @@ module _ (shard : ℕ) (slots : List Slot) (freed : Option (List ℕ)) (room : �
     freed = λ id e. kept_by_reserve id (a.freed id e);
   }
 
-  next-reserve : next_in shard (slots ++ record { generation = 0; is_live = false } ∷ []) (next_slot (slots ++ record { generation = 0; is_live = false } ∷ []) (length slots ∷ [])) ≡ next_in shard slots (next_slot slots [])
+  next-reserve : next_in shard (slots ++ record { generation = 0; is_live = false } ∷ [])
+      (next_slot (slots ++ record { generation = 0; is_live = false } ∷ []) (length slots ∷ [])) ≡ next_in shard slots (next_slot slots [])
   next-reserve =
-      ap (next_in shard (slots ++ record { generation = 0; is_live = false } ∷ [])) (next_slot-push (slots ++ record { generation = 0; is_live = false } ∷ []) [] (length slots))
+      ap (next_in shard (slots ++ record { generation = 0; is_live = false } ∷ []))
+      (next_slot-push (slots ++ record { generation = 0; is_live = false } ∷ []) [] (length slots))
       ∙ next_in-small shard (slots ++ record { generation = 0; is_live = false } ∷ []) (length slots) few
       ∙ ap (λ o. Some (id_at shard (length slots) (next_generation (generation_in o)))) (puts_unused.here)
-      ∙ sym (next_in-small shard slots (length slots) few ∙ ap (λ o. Some (id_at shard (length slots) (next_generation (generation_in o)))) (slice_get_past slots (length slots) (omega arith)))
+      ∙ sym (next_in-small shard slots (length slots) few ∙ ap (λ o. Some (id_at shard (length slots) (next_generation (generation_in o))))
+      (slice_get_past slots (length slots) (omega arith)))
 
-  pub ids_of-reserve : ids_of shard (slots ++ record { generation = 0; is_live = false } ∷ []) (length slots ∷ []) freed ≡ record (ids_of shard slots [] freed) { room = 1 }
+  pub ids_of-reserve : ids_of shard (slots ++ record { generation = 0; is_live = false } ∷ []) (length slots ∷ []) freed
+      ≡ record (ids_of shard slots [] freed) { room = 1 }
   ids_of-reserve = same _ _ _ _ (live_of-reserve shard slots few) next-reserve
     where
       same : (l m : set.FinSet octets_cmp) (x y : Option (List ℕ)) → l ≡ m → x ≡ y
-          → ◌≡◌ {A = LiveIds} (record { shard = shard; live = l; freed_last = freed; next = x; room = 1 }) (record { shard = shard; live = m; freed_last = freed; next = y; room = 1 })
+          → ◌≡◌ {A = LiveIds} (record { shard = shard; live = l; freed_last = freed; next = x; room = 1 })
+          (record { shard = shard; live = m; freed_last = freed; next = y; room = 1 })
       same l m x y e f = cc
 
 -- ---- the slot on top of the free ones is taken
@@ -119,7 +125,8 @@ module _ (shard : ℕ) (slots : List Slot) (free : List ℕ) (number : ℕ) (fre
   pub taken_generation : s.generation < 4096
   taken_generation = subst (λ o. generation_in o < 4096) stands (a.generations number)
 
-  pub puts_taken : Puts slots (set slots number (record { generation = next_generation s.generation; is_live = true })) number (record { generation = next_generation s.generation; is_live = true })
+  pub puts_taken : Puts slots (set slots number (record { generation = next_generation s.generation; is_live = true })) number
+      (record { generation = next_generation s.generation; is_live = true })
   puts_taken = puts-set slots number _ a.few (within_free slots number free_there)
 
   may_taken : MayBeTaken (ids_of shard slots (free ++ number ∷ []) freed) (id_at shard number (next_generation s.generation))
@@ -127,10 +134,12 @@ module _ (shard : ℕ) (slots : List Slot) (free : List ℕ) (number : ℕ) (fre
       subst (λ o. MayBeTaken (ids_of shard slots (free ++ number ∷ []) freed) (id_at shard number (next_generation (generation_in o)))) stands
       (may_take shard slots (free ++ number ∷ []) freed room a number puts_taken.small (unused_free _ free_there))
 
-  live_taken : live_of shard (set slots number (record { generation = next_generation s.generation; is_live = true })) ≡ set.insert (live_of shard slots) (id_at shard number (next_generation s.generation))
+  live_taken : live_of shard (set slots number (record { generation = next_generation s.generation; is_live = true }))
+      ≡ set.insert (live_of shard slots) (id_at shard number (next_generation s.generation))
   live_taken = live_of-take shard slots _ number (next_generation s.generation) puts_taken (λ q. none_at_free shard q (slice_get slots number) free_there)
 
-  one_more : set.len (live_of shard (set slots number (record { generation = next_generation s.generation; is_live = true }))) ≡ set.len (live_of shard slots) + 1
+  one_more : set.len (live_of shard (set slots number (record { generation = next_generation s.generation; is_live = true })))
+      ≡ set.len (live_of shard slots) + 1
   one_more =
       ap set.len live_taken
       ∙ set.len-insert octets_total (live_of shard slots) (id_at shard number (next_generation s.generation))
@@ -146,7 +155,8 @@ module _ (shard : ℕ) (slots : List Slot) (free : List ℕ) (number : ℕ) (fre
       shard = shard;
       live = l;
       freed_last = freed;
-      next = next_in shard (set slots number (record { generation = next_generation s.generation; is_live = true })) (next_slot (set slots number (record { generation = next_generation s.generation; is_live = true })) free);
+      next = next_in shard (set slots number (record { generation = next_generation s.generation; is_live = true }))
+          (next_slot (set slots number (record { generation = next_generation s.generation; is_live = true })) free);
       room = length free;
     }) live_taken;
   }
@@ -156,7 +166,14 @@ module _ (shard : ℕ) (slots : List Slot) (free : List ℕ) (number : ℕ) (fre
     in_range = a.in_range;
     few = puts_taken.still_few;
     room_for_all = a.room_for_all;
-    counted = omega (arith, a.counted, one_more, length-append free (number ∷ []), length-set slots number (record { generation = next_generation s.generation; is_live = true }));
+    counted = omega (
+      arith,
+      a.counted,
+      one_more,
+      length-append free (number ∷ []),
+      length-set slots number
+          (record { generation = next_generation s.generation; is_live = true }),
+    );
     generations = kept_generations slots _ number _ puts_taken (next_generation-is s.generation taken_generation).1 a.generations;
     free_ones = λ i h.
         let longer : i < length (free ++ number ∷ []) = omega (arith, length-append free (number ∷ [])) in
@@ -167,15 +184,18 @@ module _ (shard : ℕ) (slots : List Slot) (free : List ℕ) (number : ℕ) (fre
     different = λ i j h k.
         let longer : j < length (free ++ number ∷ []) = omega (arith, length-append free (number ∷ [])) in
         λ e. a.different i j h longer (get_or-append free (number ∷ []) 0 i (omega arith) ∙ e ∙ sym (get_or-append free (number ∷ []) 0 j k));
-    freed = λ id e. kept_freed shard slots _ number (next_generation s.generation) id puts_taken (λ same. may_taken.not_freed_last (e ∙ ap Some same)) (a.freed id e);
+    freed = λ id e. kept_freed shard slots _ number (next_generation s.generation) id puts_taken (λ same. may_taken.not_freed_last (e ∙ ap Some same))
+        (a.freed id e);
   }
 
 -- ---- an id is given back
 
 -- the slot of a live id, whose id it is
-live_slot : (shard : ℕ) (id : List ℕ) (s : Slot) → is_at shard id (Some s) ≡ true → (s ≡ record { generation = s.generation; is_live = true }) × (id ≡ id_at shard (slot_of id) s.generation)
+live_slot : (shard : ℕ) (id : List ℕ) (s : Slot) → is_at shard id (Some s) ≡ true
+    → (s ≡ record { generation = s.generation; is_live = true }) × (id ≡ id_at shard (slot_of id) s.generation)
 live_slot shard id s at =
-    elim s.is_live as (λ b. (b && eq_by_cmp octets_cmp id (id_at shard (slot_of id) s.generation)) ≡ true → (record { generation = s.generation; is_live = b } ≡ record { generation = s.generation; is_live = true }) × (id ≡ id_at shard (slot_of id) s.generation)) [
+    elim s.is_live as (λ b. (b && eq_by_cmp octets_cmp id (id_at shard (slot_of id) s.generation)) ≡ true → (record { generation = s.generation; is_live = b }
+    ≡ record { generation = s.generation; is_live = true }) × (id ≡ id_at shard (slot_of id) s.generation)) [
       | true ↦ λ e. (refl, same_octets id _ e)
       | false ↦ λ e. cc
     ] at
@@ -187,7 +207,8 @@ not_empty shard slots q there none =
     cc
 
 module _ (shard : ℕ) (slots : List Slot) (free : List ℕ) (freed : Option (List ℕ)) (room : ℕ) (id : List ℕ) (s : Slot)
-    (a : AreSlots shard slots free freed room) (stands : slice_get slots (slot_of id) ≡ Some s) (live : is_at shard id (slice_get slots (slot_of id)) ≡ true) where
+    (a : AreSlots shard slots free freed room) (stands : slice_get slots (slot_of id) ≡ Some s)
+    (live : is_at shard id (slice_get slots (slot_of id)) ≡ true) where
   is_own : (s ≡ record { generation = s.generation; is_live = true }) × (id ≡ id_at shard (slot_of id) s.generation)
   is_own = live_slot shard id s (ap (is_at shard id) (sym stands) ∙ live)
 
@@ -199,7 +220,8 @@ module _ (shard : ℕ) (slots : List Slot) (free : List ℕ) (freed : Option (Li
       let some : set.len (live_of shard slots) ≡ 0 → ⊥ = not_empty shard slots id contained in
       omega (arith, a.counted, a.few, a.room_for_all)
 
-  pub puts_spent : Puts slots (set slots (slot_of id) (record { generation = s.generation; is_live = false })) (slot_of id) (record { generation = s.generation; is_live = false })
+  pub puts_spent : Puts slots (set slots (slot_of id) (record { generation = s.generation; is_live = false })) (slot_of id)
+      (record { generation = s.generation; is_live = false })
   puts_spent = puts-set slots (slot_of id) _ a.few (within_at shard id slots (slot_of id) live)
 
   live_spent : live_of shard (set slots (slot_of id) (record { generation = s.generation; is_live = false })) ≡ set.remove (live_of shard slots) id
@@ -217,29 +239,41 @@ module _ (shard : ℕ) (slots : List Slot) (free : List ℕ) (freed : Option (Li
 
   not_listed : (i : ℕ) → i < length free → get_or free i 0 ≡ slot_of id → ⊥
   not_listed i h e =
-      let none : is_at shard id (slice_get slots (slot_of id)) ≡ false = none_at_free shard id _ (ap (λ n. is_free (slice_get slots n)) (sym e) ∙ a.free_ones i h) in
+      let none : is_at shard id (slice_get slots (slot_of id)) ≡ false = none_at_free shard id _
+      (ap (λ n. is_free (slice_get slots n)) (sym e) ∙ a.free_ones i h) in
       cc
 
-  pub AreSlots-give_back : AreSlots shard (set slots (slot_of id) (record { generation = s.generation; is_live = false })) (free ++ slot_of id ∷ []) (Some id) room
+  pub AreSlots-give_back : AreSlots shard (set slots (slot_of id) (record { generation = s.generation; is_live = false })) (free ++ slot_of id ∷ [])
+      (Some id) room
   AreSlots-give_back = record {
     in_range = a.in_range;
     few = puts_spent.still_few;
     room_for_all = a.room_for_all;
-    counted = omega (arith, a.counted, one_less, length-append free (slot_of id ∷ []), length-set slots (slot_of id) (record { generation = s.generation; is_live = false }));
+    counted = omega (
+      arith,
+      a.counted,
+      one_less,
+      length-append free (slot_of id ∷ []),
+      length-set slots (slot_of id)
+          (record { generation = s.generation; is_live = false }),
+    );
     generations = kept_generations slots _ (slot_of id) _ puts_spent (subst (λ o. generation_in o < 4096) stands (a.generations (slot_of id))) a.generations;
     free_ones = λ i h. elim (cases_eq i (length free)) [
-      | inl e ↦ ap (λ j. is_free (slice_get (set slots (slot_of id) (record { generation = s.generation; is_live = false })) (get_or (free ++ slot_of id ∷ []) j 0))) e
+      | inl e ↦ ap (λ j. is_free (slice_get (set slots (slot_of id) (record { generation = s.generation; is_live = false }))
+          (get_or (free ++ slot_of id ∷ []) j 0))) e
           ∙ ap (λ n. is_free (slice_get (set slots (slot_of id) (record { generation = s.generation; is_live = false })) n)) (last_of free (slot_of id))
           ∙ ap is_free puts_spent.here
       | inr ne ↦
           let before : i < length free = omega (arith, length-append free (slot_of id ∷ [])) in
-          ap (λ n. is_free (slice_get (set slots (slot_of id) (record { generation = s.generation; is_live = false })) n)) (get_or-append free (slot_of id ∷ []) 0 i before)
+          ap (λ n. is_free (slice_get (set slots (slot_of id) (record { generation = s.generation; is_live = false })) n))
+          (get_or-append free (slot_of id ∷ []) 0 i before)
           ∙ ap is_free (puts_spent.there (get_or free i 0) (not_listed i before)) ∙ a.free_ones i before
     ];
     different = λ i j h k. λ e.
         let before : i < length free = omega (arith, length-append free (slot_of id ∷ [])) in
         elim (cases_eq j (length free)) [
-          | inl last ↦ not_listed i before (sym (get_or-append free (slot_of id ∷ []) 0 i before) ∙ e ∙ ap (λ n. get_or (free ++ slot_of id ∷ []) n 0) last ∙ last_of free (slot_of id))
+          | inl last ↦ not_listed i before (sym (get_or-append free (slot_of id ∷ []) 0 i before) ∙ e ∙ ap (λ n. get_or (free ++ slot_of id ∷ []) n 0) last
+              ∙ last_of free (slot_of id))
           | inr ne ↦
               let inner : j < length free = omega (arith, length-append free (slot_of id ∷ [])) in
               a.different i j h inner (sym (get_or-append free (slot_of id ∷ []) 0 i before) ∙ e ∙ get_or-append free (slot_of id ∷ []) 0 j inner)
@@ -259,18 +293,22 @@ module _ (shard : ℕ) (slots : List Slot) (free : List ℕ) (freed : Option (Li
       let generation : generation_of id ≡ s.generation = ap generation_of is_own.1 ∙ generation_of-id_at shard (slot_of id) s.generation puts_spent.small in
       ap (λ n. id_at n (slot_of id) (next_generation (generation_of id))) first ∙ ap (λ g. id_at shard (slot_of id) (next_generation g)) generation
 
-  next-give_back : next_in shard (set slots (slot_of id) (record { generation = s.generation; is_live = false })) (next_slot (set slots (slot_of id) (record { generation = s.generation; is_live = false })) (free ++ slot_of id ∷ [])) ≡ Some (next_use id)
+  next-give_back : next_in shard (set slots (slot_of id) (record { generation = s.generation; is_live = false }))
+      (next_slot (set slots (slot_of id) (record { generation = s.generation; is_live = false })) (free ++ slot_of id ∷ [])) ≡ Some (next_use id)
   next-give_back =
-      ap (next_in shard (set slots (slot_of id) (record { generation = s.generation; is_live = false }))) (next_slot-push (set slots (slot_of id) (record { generation = s.generation; is_live = false })) free (slot_of id))
+      ap (next_in shard (set slots (slot_of id) (record { generation = s.generation; is_live = false })))
+      (next_slot-push (set slots (slot_of id) (record { generation = s.generation; is_live = false })) free (slot_of id))
       ∙ next_in-small shard (set slots (slot_of id) (record { generation = s.generation; is_live = false })) (slot_of id) puts_spent.small
       ∙ ap (λ o. Some (id_at shard (slot_of id) (next_generation (generation_in o)))) puts_spent.here
       ∙ ap Some (sym next_use-own)
 
-  pub ids_of-give_back : ids_of shard (set slots (slot_of id) (record { generation = s.generation; is_live = false })) (free ++ slot_of id ∷ []) (Some id) ≡ given_back (ids_of shard slots free freed) id
+  pub ids_of-give_back : ids_of shard (set slots (slot_of id) (record { generation = s.generation; is_live = false })) (free ++ slot_of id ∷ []) (Some id)
+      ≡ given_back (ids_of shard slots free freed) id
   ids_of-give_back = same _ _ _ _ _ _ live_spent next-give_back (length-append free (slot_of id ∷ []))
     where
       same : (l m : set.FinSet octets_cmp) (x y : Option (List ℕ)) (r t : ℕ) → l ≡ m → x ≡ y → r ≡ t
-          → ◌≡◌ {A = LiveIds} (record { shard = shard; live = l; freed_last = Some id; next = x; room = r }) (record { shard = shard; live = m; freed_last = Some id; next = y; room = t })
+          → ◌≡◌ {A = LiveIds} (record { shard = shard; live = l; freed_last = Some id; next = x; room = r })
+          (record { shard = shard; live = m; freed_last = Some id; next = y; room = t })
       same l m x y r t e f h = cc
 
   -- after it is freed, its slot's next id may be taken
@@ -291,7 +329,8 @@ next_after_may shard slots free freed room id a live = at (slice_get slots (slot
     differ e = cc
 
     at : (o : Option Slot) → slice_get slots (slot_of id) ≡ o → MayBeTaken (given_back (ids_of shard slots free freed) id) (next_use id)
-    at None e = let none : is_at shard id (slice_get slots (slot_of id)) ≡ false = ap (is_at shard id) e in differ (sym (sym (contains-live_of shard id slots a.few) ∙ live) ∙ none)
+    at None e = let none : is_at shard id (slice_get slots (slot_of id))
+        ≡ false = ap (is_at shard id) e in differ (sym (sym (contains-live_of shard id slots a.few) ∙ live) ∙ none)
     at (Some s) e = next_use-may shard slots free freed room id s a e (sym (contains-live_of shard id slots a.few) ∙ live)
 
 pub no_items : (xs : List ℕ) → length xs ≡ 0 → xs ≡ []
@@ -301,9 +340,11 @@ no_items (x ∷ xs) e = absurd (omega arith)
 -- ---- looking at ids
 
 -- two live ids of one slot are the same
-pub own_slots : (shard : ℕ) (slots : List Slot) (few : length slots ≤ 4096) (p q : List ℕ) → set.contains (live_of shard slots) p ≡ true → set.contains (live_of shard slots) q ≡ true → slot_of p ≡ slot_of q → p ≡ q
+pub own_slots : (shard : ℕ) (slots : List Slot) (few : length slots ≤ 4096) (p q : List ℕ) → set.contains (live_of shard slots) p ≡ true
+    → set.contains (live_of shard slots) q ≡ true → slot_of p ≡ slot_of q → p ≡ q
 own_slots shard slots few p q live_p live_q same =
-    one (slice_get slots (slot_of p)) (sym (contains-live_of shard p slots few) ∙ live_p) (ap (λ n. is_at shard q (slice_get slots n)) same ∙ sym (contains-live_of shard q slots few) ∙ live_q)
+    one (slice_get slots (slot_of p)) (sym (contains-live_of shard p slots few) ∙ live_p)
+    (ap (λ n. is_at shard q (slice_get slots n)) same ∙ sym (contains-live_of shard q slots few) ∙ live_q)
   where
     one : (o : Option Slot) → is_at shard p o ≡ true → is_at shard q o ≡ true → p ≡ q
     one None e f = cc
@@ -317,11 +358,13 @@ live_here shard slots id n s few here stands =
     ∙ ap (λ m. s.is_live && eq_by_cmp octets_cmp id (id_at shard m s.generation)) (sym here)
 
 -- the slot of a live id has that id
-pub slot_of_live : (shard : ℕ) (slots : List Slot) (id : List ℕ) → length slots ≤ 4096 → set.contains (live_of shard slots) id ≡ true → is_at shard id (slice_get slots (slot_of id)) ≡ true
+pub slot_of_live : (shard : ℕ) (slots : List Slot) (id : List ℕ) → length slots ≤ 4096 → set.contains (live_of shard slots) id ≡ true
+    → is_at shard id (slice_get slots (slot_of id)) ≡ true
 slot_of_live shard slots id few live = sym (contains-live_of shard id slots few) ∙ live
 
 -- the id taken after memory was reserved is the one that was next before
-pub takes_reserved : (old between : LiveIds) (id : List ℕ) (new : LiveIds) → between ≡ record old { room = between.room } → Takes between id new → Takes old id new
+pub takes_reserved : (old between : LiveIds) (id : List ℕ) (new : LiveIds) → between ≡ record old { room = between.room } → Takes between id new
+    → Takes old id new
 takes_reserved old between id new same t =
     let next : between.next ≡ old.next = ap (λ (v : LiveIds). v.next) same in
     let of_shard : between.shard ≡ old.shard = ap (λ (v : LiveIds). v.shard) same in

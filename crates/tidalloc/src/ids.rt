@@ -1,11 +1,12 @@
 //! The ids of a shard.
 
-ghost use Rattle.std.specs.Prelude.{◌≡◌, ◌≢◌, ◌+◌, ◌<◌, ◌≤◌, ◌↔◌, true, IsTrue, Some, None, IfOk, IfSome, OnOk, OnErr, IsErr, IsNone, Err};
+ghost use Rattle.std.specs.Prelude.{◌≡◌, ◌+◌, ◌<◌, ◌↔◌, true, Some, None, IfOk, IfSome, OnOk, OnErr, IsNone, Err};
 ghost use Rattle.std.specs.FinSet as set;
 ghost use Rattle.tidalloc.specs.LiveIds.{LiveIds, MayBeTaken, Takes, is_live, no_ids, given_back, slot_of, slot_if_live, next_use, HaveOwnSlots};
 
 use crate::slot::{Slot, id_at, next_generation, next_use, slot_of};
 use hlr_types::Tid;
+use machine::numbers::MAX_DIALOGUES;
 use std::alloc::{AllocError, AllocFailed, Global};
 use std::marker::Model;
 use thiserror::Error;
@@ -53,12 +54,13 @@ impl Model for Ids {
 
     ghost view = { λ a. ids_of a.shard a.slots.items a.free.items a.freed_last };
 
-    ghost invariant = { λ a. AreSlots a.shard a.slots.items a.free.items a.freed_last (vec_capacity a.free) };
+    ghost invariant = { λ a. AreSlots a.shard a.slots.items a.free.items a.freed_last
+        (vec_capacity a.free) };
 }
 
 impl Ids {
-    /// How many ids can be live at once; also the number of slots.
-    pub const MAX_IDS: usize = 4096;
+    /// How many ids can be live at once, one for each dialogue; also the number of slots.
+    pub const MAX_IDS: usize = MAX_DIALOGUES;
 
     /// The ids of a shard, none of which is live. Allocates what `give_back` needs.
     pub fn new(alloc: Global, shard: u8) -> Result<Self, AllocError>

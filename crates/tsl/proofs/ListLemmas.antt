@@ -32,7 +32,8 @@ abbrev ids_from : ℕ → List (Option Entry) → List (List ℕ)
 ids_from first slots = map (λ (e : ℕ × Entry). e.1.id) (entries_from first slots)
 
 -- an id that some slot has
-has_id : (first : ℕ) (slots : List (Option Entry)) (k : ℕ) (q : List ℕ) → id_in (slice_index_or slots k None) ≡ Some q → list_any (is_id q) (ids_from first slots) ≡ true
+has_id : (first : ℕ) (slots : List (Option Entry)) (k : ℕ) (q : List ℕ) → id_in (slice_index_or slots k None) ≡ Some q
+    → list_any (is_id q) (ids_from first slots) ≡ true
 has_id first [] k q e = cc
 has_id first (None ∷ slots) zero q e = cc
 has_id first (None ∷ slots) (suc k) q e = has_id (first + 1) slots k q e
@@ -46,7 +47,8 @@ slot_with : (first : ℕ) (slots : List (Option Entry)) (q : List ℕ) → list_
 slot_with first [] q h = cc
 slot_with first (None ∷ slots) q h = let rest = slot_with (first + 1) slots q h in (suc rest.0, rest.1, rest.2, rest.3)
 slot_with first (Some x ∷ slots) q h =
-    elim (is_id q x.id) as (λ b. is_id q x.id ≡ b → (b || list_any (is_id q) (ids_from (first + 1) slots)) ≡ true → (k : ℕ) × (e : Entry) × (slice_index_or (Some x ∷ slots) k None ≡ Some e) × (q ≡ e.id)) [
+    elim (is_id q x.id) as (λ b. is_id q x.id ≡ b → (b || list_any (is_id q) (ids_from (first + 1) slots)) ≡ true → (k : ℕ) ×
+    (e : Entry) × (slice_index_or (Some x ∷ slots) k None ≡ Some e) × (q ≡ e.id)) [
       | true ↦ λ e _. (0, x, refl, same_octets q x.id e)
       | false ↦ λ _ more. let rest = slot_with (first + 1) slots q more in (suc rest.0, rest.1, rest.2, rest.3)
     ] refl h
@@ -60,12 +62,14 @@ module _ (keys : List ℕ) where
   later : (first : ℕ) (slot : Option Entry) (slots : List (Option Entry)) → LeadTo first (slot ∷ slots) → LeadTo (first + 1) slots
   later first slot slots lead = λ k e stands. let here = lead (suc k) e stands in omega arith
 
-  not_before : (first : ℕ) (slots : List (Option Entry)) (q : List ℕ) → LeadTo first slots → get_or keys (slot_of q) 0 < first → count_by (is_id q) (ids_from first slots) ≡ 0
+  not_before : (first : ℕ) (slots : List (Option Entry)) (q : List ℕ) → LeadTo first slots → get_or keys (slot_of q) 0 < first
+      → count_by (is_id q) (ids_from first slots) ≡ 0
   not_before first [] q lead before = refl
   not_before first (None ∷ slots) q lead before = not_before (first + 1) slots q (later first None slots lead) (omega arith)
   not_before first (Some x ∷ slots) q lead before =
       let rest = not_before (first + 1) slots q (later first (Some x) slots lead) (omega arith) in
-      let other : is_id q x.id ≡ false = ne_octets q x.id (λ same. let here = lead 0 x refl in let key : get_or keys (slot_of q) 0 ≡ get_or keys (slot_of x.id) 0 = ap (λ i. get_or keys (slot_of i) 0) same in absurd (omega arith)) in
+      let other : is_id q x.id ≡ false = ne_octets q x.id (λ same. let here = lead 0 x refl in let key : get_or keys (slot_of q) 0
+      ≡ get_or keys (slot_of x.id) 0 = ap (λ i. get_or keys (slot_of i) 0) same in absurd (omega arith)) in
       let none : ◌≡◌ {A = ℕ} (cond (is_id q x.id) 1 0) 0 = ap (λ b. cond b 1 0) other in
       omega (arith, count-cons q x.id (ids_from (first + 1) slots), none, rest)
 
@@ -116,7 +120,8 @@ module _ (v : List ℕ → Transaction) where
   abbrev paired : List (List ℕ) → List (List ℕ × Transaction)
   paired xs = map (λ (k : List ℕ). (k, v k)) xs
 
-  below : (x : List ℕ) (xs : List (List ℕ)) → ((j : ℕ) → j < length xs → is_lt (octets_cmp (get_or xs j []) x) ≡ false) → count_by (is_id x) xs ≡ 0 → T (below_all octets_cmp x (paired xs))
+  below : (x : List ℕ) (xs : List (List ℕ)) → ((j : ℕ) → j < length xs → is_lt (octets_cmp (get_or xs j []) x) ≡ false) → count_by (is_id x) xs ≡ 0
+      → T (below_all octets_cmp x (paired xs))
   below x [] far none = tt
   below x (y ∷ ys) far none =
       let split = count-none x y ys none in
@@ -126,9 +131,11 @@ module _ (v : List ℕ → Transaction) where
   strictly [] up each = tt
   strictly (x ∷ xs) up each =
       T-and (below_all octets_cmp x (paired xs)) (finite.is_sorted octets_cmp (paired xs))
-      (below x xs (λ j h. sorted_far (λ x y. is_lt (octets_cmp x y)) (ranks_by octets_total (λ x. x)) (x ∷ xs) up 0 (suc j) [] (omega arith) (omega arith)) (count-first x xs (each x)))
+      (below x xs (λ j h. sorted_far (λ x y. is_lt (octets_cmp x y)) (ranks_by octets_total (λ x. x)) (x ∷ xs) up 0 (suc j) [] (omega arith) (omega arith))
+      (count-first x xs (each x)))
       (strictly xs
-      (λ k d low high. let shift : suc k + 1 ≡ suc (k + 1) = omega arith in subst (λ n. is_lt (octets_cmp (slice_index_or (x ∷ xs) n d) (slice_index_or xs k d)) ≡ false) shift (up (suc k) d (omega arith) (omega arith)))
+      (λ k d low high. let shift : suc k + 1 ≡ suc (k + 1) = omega arith in subst
+      (λ n. is_lt (octets_cmp (slice_index_or (x ∷ xs) n d) (slice_index_or xs k d)) ≡ false) shift (up (suc k) d (omega arith) (omega arith)))
       (λ q. count-rest q x xs (each q)))
     where
       T-and : (a b : Bool) → T a → T b → T (a && b)
@@ -138,7 +145,8 @@ module _ (v : List ℕ → Transaction) where
   find-paired : (q : List ℕ) (xs : List (List ℕ)) → finite.find octets_cmp q (paired xs) ≡ cond (list_any (is_id q) xs) (Some (v q)) None
   find-paired q [] = refl
   find-paired q (x ∷ xs) =
-      elim (is_id q x) as (λ b. is_id q x ≡ b → cond b (Some (v x)) (finite.find octets_cmp q (paired xs)) ≡ cond (b || list_any (is_id q) xs) (Some (v q)) None) [
+      elim (is_id q x) as (λ b. is_id q x ≡ b → cond b (Some (v x)) (finite.find octets_cmp q (paired xs))
+      ≡ cond (b || list_any (is_id q) xs) (Some (v q)) None) [
         | true ↦ λ e. ap (λ i. Some (v i)) (sym (same_octets q x e))
         | false ↦ λ _. find-paired q xs
       ] refl
@@ -148,7 +156,8 @@ module _ (v : List ℕ → Transaction) where
   keys-paired (x ∷ xs) = ap (λ ys. x ∷ ys) (keys-paired xs)
 
 -- ---- the ids of all entries, sorted
-module _ (ids : LiveIds) (keys : List ℕ) (slab : Slab Entry) (room : ℕ) (a : AreEntries ids keys slab room) (listed : List (List ℕ)) (moved : IsPermutation (ids_of_entries slab) listed) (up : IsSorted octets_cmp listed) where
+module _ (ids : LiveIds) (keys : List ℕ) (slab : Slab Entry) (room : ℕ) (a : AreEntries ids keys slab room) (listed : List (List ℕ))
+    (moved : IsPermutation (ids_of_entries slab) listed) (up : IsSorted octets_cmp listed) where
   lead : LeadTo keys 0 slab.slots
   lead = λ k e stands. (a.no_other k e stands).found ∙ (let e : k ≡ 0 + k = omega arith in e)
 
@@ -184,4 +193,5 @@ module _ (ids : LiveIds) (keys : List ℕ) (slab : Slab Entry) (room : ℕ) (a :
       ∙ find-paired value q listed
       ∙ ap (λ b. cond b (Some (value q)) None) (sym (list_any-IsPermutation (is_id q) (ids_of_entries slab) listed moved) ∙ any-live q)
       ∙ there q) in
-      sym (keys-paired value listed) ∙ ap (map (λ (e : List ℕ × Transaction). e.0)) (sym (finite.entries-from_sorted octets_cmp (paired value listed) rises)) ∙ ap finite.keys same
+      sym (keys-paired value listed) ∙ ap (map (λ (e : List ℕ × Transaction). e.0)) (sym (finite.entries-from_sorted octets_cmp (paired value listed) rises))
+      ∙ ap finite.keys same

@@ -40,7 +40,8 @@ module _ (old new : OpenTransactions) (id : List ℕ) where
   own_close None h = absurd h
   own_close (Some t) h = ap (λ r. transact (Some (record { peer = t.peer; remote = r })) OwnClose) h
 
-  pub row_of_own_close : (t : Transaction) → at old id ≡ Some t → new ≡ closed old id → IsInitiated (at old id) → transact (at old id) OwnClose ≡ row (at new id) Nothing
+  pub row_of_own_close : (t : Transaction) → at old id ≡ Some t → new ≡ closed old id → IsInitiated (at old id)
+      → transact (at old id) OwnClose ≡ row (at new id) Nothing
   row_of_own_close t was closes initiated = own_close (at old id) initiated ∙ ap (λ o. row o Nothing) (sym (closed_at closes))
 
   own_end : (o : Option Transaction) → IsActive o → transact o OwnEnd ≡ row None IsSent
@@ -76,7 +77,8 @@ module _ (t : OpenTransactions) (from origin destination : List ℕ) where
         | false ↦ sym (same_again t destination s there)
       ]
 
-  after_any : (o : Option Transaction) → at t destination ≡ o → activated t destination from origin o ≡ put_back t destination (transact o (ContinueComes from origin))
+  after_any : (o : Option Transaction) → at t destination ≡ o → activated t destination from origin o
+      ≡ put_back t destination (transact o (ContinueComes from origin))
   after_any None e = refl
   after_any (Some s) e = after_open s e s.remote refl
 
@@ -91,20 +93,24 @@ not_same : (p q : List ℕ) → p ≢ q → same p q ≡ false
 not_same p q other = pointwise-octets p q ∙ ne_octets p q other
 
 module _ (t : OpenTransactions) (from id : List ℕ) where
-  told_at_open : (head : Head) → ((s : Transaction) → told_of head (transact (Some s) CloseComes) ≡ For id) → (o : Option Transaction) → o ≢ None → told_of head (transact o CloseComes) ≡ For id
+  told_at_open : (head : Head) → ((s : Transaction) → told_of head (transact (Some s) CloseComes) ≡ For id) → (o : Option Transaction) → o ≢ None
+      → told_of head (transact o CloseComes) ≡ For id
   told_at_open head each None some = absurd (some refl)
   told_at_open head each (Some s) some = each s
 
   pub of_the_peer : (peer origin : List ℕ) → at t id ≡ Some (active peer origin) → IsReceived t from (Continue origin id) (For id) t
   of_the_peer peer origin e =
       let whole : transact (at t id) (ContinueComes from origin) ≡ row (Some (active peer origin)) ForIt =
-      ap (λ o. transact o (ContinueComes from origin)) e ∙ ap (λ b. cond b (row (Some (active peer origin)) ForIt) (row (Some (active peer origin)) Unassigned)) (same_twice origin) in
+      ap (λ o. transact o (ContinueComes from origin)) e ∙ ap (λ b. cond b (row (Some (active peer origin)) ForIt) (row (Some (active peer origin)) Unassigned))
+      (same_twice origin) in
       record { told = ap (told_of (Continue origin id)) whole; left = ap (put_back t id) whole ∙ same_again t id (active peer origin) e }
 
-  pub of_another : (peer known origin : List ℕ) → at t id ≡ Some (active peer known) → known ≢ origin → IsReceived t from (Continue origin id) (NotAssigned origin) t
+  pub of_another : (peer known origin : List ℕ) → at t id ≡ Some (active peer known) → known ≢ origin
+      → IsReceived t from (Continue origin id) (NotAssigned origin) t
   of_another peer known origin e other =
       let whole : transact (at t id) (ContinueComes from origin) ≡ row (Some (active peer known)) Unassigned =
-      ap (λ o. transact o (ContinueComes from origin)) e ∙ ap (λ b. cond b (row (Some (active peer known)) ForIt) (row (Some (active peer known)) Unassigned)) (not_same known origin other) in
+      ap (λ o. transact o (ContinueComes from origin)) e ∙ ap (λ b. cond b (row (Some (active peer known)) ForIt) (row (Some (active peer known)) Unassigned))
+      (not_same known origin other) in
       record { told = ap (told_of (Continue origin id)) whole; left = ap (put_back t id) whole ∙ same_again t id (active peer known) e }
 
 pub received_rows : AreReceivedRows

@@ -21,7 +21,8 @@ use Rattle.tsl.proofs.ViewLemmas.{transaction_in, id_in, stored, at-open_of, not
 
 -- ---- room
 pub AreEntries-room : (ids : LiveIds) (keys : List ℕ) (slab : Slab Entry) (room in_ids in_slab room' : ℕ) → AreEntries ids keys slab room
-    → room' ≤ in_ids → slab_len slab + room' ≤ in_slab → set.len ids.live + room' ≤ 4096 → AreEntries (record ids { room = in_ids }) keys (record slab { capacity = in_slab }) room'
+    → room' ≤ in_ids → slab_len slab + room' ≤ in_slab → set.len ids.live + room' ≤ 4096 → AreEntries (record ids { room = in_ids }) keys
+    (record slab { capacity = in_slab }) room'
 AreEntries-room ids keys slab room in_ids in_slab room' a few_ids few_slab few = record {
   all_slots = a.all_slots;
   of_shard = a.of_shard;
@@ -47,7 +48,8 @@ or-true : (a b : Bool) → b ≡ true → (a || b) ≡ true
 or-true true b e = refl
 or-true false b e = e
 
-module _ (ids ids' : LiveIds) (keys keys' : List ℕ) (slab slab' : Slab Entry) (room room' key : ℕ) (entry : Entry) (adds : Adds ids ids' keys keys' slab slab' key entry) (a : AreEntries ids keys slab room) where
+module _ (ids ids' : LiveIds) (keys keys' : List ℕ) (slab slab' : Slab Entry) (room room' key : ℕ) (entry : Entry)
+    (adds : Adds ids ids' keys keys' slab slab' key entry) (a : AreEntries ids keys slab room) where
   entry_new : entry_at keys' slab' entry.id ≡ Some entry
   entry_new = ap (get slab') adds.key_here ∙ adds.here
 
@@ -111,8 +113,10 @@ module _ (ids ids' : LiveIds) (keys keys' : List ℕ) (slab slab' : Slab Entry) 
 
 -- ---- a transaction begins
 module _ (ids new : LiveIds) (keys : List ℕ) (slab slab' : Slab Entry) (room slot key : ℕ) (entry : Entry)
-    (a : AreEntries ids keys slab room) (t : Takes ids entry.id new) (less : new.room + 1 ≡ ids.room) (own : HaveOwnSlots new) (there : Some slot ≡ slot_if_live new entry.id) (small : slot < 4096)
-    (vacant : get slab key ≡ None) (u : Updates slab slab' key (Some entry)) (len : slab_len slab' ≡ slab_len slab + 1) (capacity : slab'.capacity ≡ slab.capacity) (some : 0 < room) where
+    (a : AreEntries ids keys slab room) (t : Takes ids entry.id new) (less : new.room + 1 ≡ ids.room) (own : HaveOwnSlots new)
+    (there : Some slot ≡ slot_if_live new entry.id) (small : slot < 4096)
+    (vacant : get slab key ≡ None) (u : Updates slab slab' key (Some entry)) (len : slab_len slab' ≡ slab_len slab + 1)
+    (capacity : slab'.capacity ≡ slab.capacity) (some : 0 < room) where
   live-take : (q : List ℕ) → is_live new q ≡ (eq_by_cmp octets_cmp q entry.id || is_live ids q)
   live-take q = ap (λ (v : LiveIds). is_live v q) t.after ∙ set.contains-insert octets_total ids.live entry.id q
 
@@ -147,7 +151,8 @@ module _ (ids new : LiveIds) (keys : List ℕ) (slab slab' : Slab Entry) (room s
     room_in_slab = omega (arith, a.room_in_slab, len, capacity);
     few =
         let more : set.len new.live ≡ set.len ids.live + 1 =
-        ap (λ (v : LiveIds). set.len v.live) t.after ∙ set.len-insert octets_total ids.live entry.id ∙ ap (λ b. cond b (set.len ids.live) (set.len ids.live + 1)) t.may.not_live in
+        ap (λ (v : LiveIds). set.len v.live) t.after ∙ set.len-insert octets_total ids.live entry.id
+        ∙ ap (λ b. cond b (set.len ids.live) (set.len ids.live + 1)) t.may.not_live in
         omega (arith, a.few, more);
   }
 
@@ -166,7 +171,8 @@ module _ (ids new : LiveIds) (keys : List ℕ) (slab slab' : Slab Entry) (room s
 
 -- ---- an entry goes, with its id
 module _ (ids : LiveIds) (keys : List ℕ) (slab slab' : Slab Entry) (room key : ℕ) (id : List ℕ)
-    (a : AreEntries ids keys slab room) (live : is_live ids id ≡ true) (at_slot : key ≡ get_or keys (slot_of id) 0) (u : Updates slab slab' key None) (len : slab_len slab' + 1 ≡ slab_len slab) (capacity : slab'.capacity ≡ slab.capacity) where
+    (a : AreEntries ids keys slab room) (live : is_live ids id ≡ true) (at_slot : key ≡ get_or keys (slot_of id) 0) (u : Updates slab slab' key None)
+    (len : slab_len slab' + 1 ≡ slab_len slab) (capacity : slab'.capacity ≡ slab.capacity) where
   live-give : (q : List ℕ) → is_live (given_back ids id) q ≡ (not (eq_by_cmp octets_cmp q id) && is_live ids q)
   live-give q = set.contains-remove octets_total ids.live id q
 
@@ -203,8 +209,10 @@ module _ (ids : LiveIds) (keys : List ℕ) (slab slab' : Slab Entry) (room key :
     room_in_ids = omega (arith, a.room_in_ids);
     room_in_slab = omega (arith, a.room_in_slab, len, capacity);
     few =
-        let less : set.len (given_back ids id).live ≡ set.len ids.live - 1 = set.len-remove octets_total ids.live id ∙ ap (λ b. cond b (set.len ids.live - 1) (set.len ids.live)) live in
-        let some : set.len ids.live ≢ 0 = λ none. let x : is_live ids id ≡ false = ap (λ s. set.contains s id) (set.empty_of_len ids.live none) ∙ set.contains-empty octets_cmp id in cc in
+        let less : set.len (given_back ids id).live ≡ set.len ids.live - 1 = set.len-remove octets_total ids.live id
+        ∙ ap (λ b. cond b (set.len ids.live - 1) (set.len ids.live)) live in
+        let some : set.len ids.live ≢ 0 = λ none. let x : is_live ids id
+        ≡ false = ap (λ s. set.contains s id) (set.empty_of_len ids.live none) ∙ set.contains-empty octets_cmp id in cc in
         omega (arith, a.few, less, some);
   }
 
@@ -237,7 +245,8 @@ slots_within (x ∷ xs) zero v e = omega arith
 slots_within (x ∷ xs) (suc k) v e = let rest = slots_within xs k v e in omega arith
 
 module _ (ids : LiveIds) (keys : List ℕ) (slab : Slab Entry) (room key : ℕ) (entry old : Entry)
-    (a : AreEntries ids keys slab room) (live : is_live ids entry.id ≡ true) (at_slot : key ≡ get_or keys (slot_of entry.id) 0) (stood : get slab key ≡ Some old) where
+    (a : AreEntries ids keys slab room) (live : is_live ids entry.id ≡ true) (at_slot : key ≡ get_or keys (slot_of entry.id) 0)
+    (stood : get slab key ≡ Some old) where
   changed_here : get (with_value slab key entry) key ≡ Some entry
   changed_here = get_or-set_same slab.slots key (Some entry) None (slots_within slab.slots key old stood)
 
@@ -283,16 +292,19 @@ module _ (ids : LiveIds) (keys : List ℕ) (slab : Slab Entry) (room key : ℕ) 
   pub sets : open_of ids keys (with_value slab key entry) room ≡ with_transaction (open_of ids keys slab room) entry.id (transaction_in entry)
   sets = λ i. record (open_of ids keys slab room) { open_ones = open_ones i }
     where
-      kept : (q : List ℕ) → q ≢ entry.id → (b : Bool) → is_live ids q ≡ b → cond b (stored keys (with_value slab key entry) q) None ≡ cond b (stored keys slab q) None
+      kept : (q : List ℕ) → q ≢ entry.id → (b : Bool) → is_live ids q ≡ b
+          → cond b (stored keys (with_value slab key entry) q) None ≡ cond b (stored keys slab q) None
       kept q other true e = ap (option_map transaction_in) (entry_of_others q e other)
       kept q other false e = refl
 
-      open_ones : (open_of ids keys (with_value slab key entry) room).open_ones ≡ map.insert (open_of ids keys slab room).open_ones entry.id (transaction_in entry)
+      open_ones : (open_of ids keys (with_value slab key entry) room).open_ones
+          ≡ map.insert (open_of ids keys slab room).open_ones entry.id (transaction_in entry)
       open_ones = map.same_map octets_total octets_exact _ _ (λ q.
           at-open_of ids keys (with_value slab key entry) room q
           ∙ elim (cases_octets q entry.id) [
             | inl e ↦
-                ap (λ p. cond (is_live ids p) (stored keys (with_value slab key entry) p) None) e ∙ ap (λ b. cond b (stored keys (with_value slab key entry) entry.id) None) live
+                ap (λ p. cond (is_live ids p) (stored keys (with_value slab key entry) p) None) e
+                ∙ ap (λ b. cond b (stored keys (with_value slab key entry) entry.id) None) live
                 ∙ ap (option_map transaction_in) entry_of_it
                 ∙ sym (ap (λ b. cond b (Some (transaction_in entry)) (at (open_of ids keys slab room) q)) (eq_octets q entry.id e))
             | inr other ↦
@@ -325,7 +337,8 @@ module _ (ids : LiveIds) (keys : List ℕ) (slab : Slab Entry) (room : ℕ) (a :
           | inr other ↦
               let dead : is_live ids next ≡ false =
               sym (ap (λ b. not b && is_live ids next) (ne_octets next id other)) ∙ sym (set.contains-remove octets_total ids.live id next) ∙ may.not_live in
-              open_ones ∙ ap (λ b. cond b None (at (open_of ids keys slab room) next)) (ne_octets next id other) ∙ not_open_if_not_live ids keys slab room a next dead
+              open_ones ∙ ap (λ b. cond b None (at (open_of ids keys slab room) next)) (ne_octets next id other)
+              ∙ not_open_if_not_live ids keys slab room a next dead
         ];
         not_freed_last = may.not_freed_last;
       }

@@ -33,7 +33,8 @@ module _ (keys : List ℕ) (slab : Slab Entry) (q : List ℕ) where
   find_here id None rest b x more here = look (eq_by_cmp octets_cmp q id) refl
     where
       look : (e : Bool) → eq_by_cmp octets_cmp q id ≡ e → map.find octets_cmp q rest ≡ cond (e || b) x None
-      look true e = elim b as (λ b. map.find octets_cmp q rest ≡ cond b x None → map.find octets_cmp q rest ≡ x) [ true ↦ λ m. m | false ↦ λ m. m ∙ here e ] more
+      look true e = elim b as (λ b. map.find octets_cmp q rest ≡ cond b x None
+          → map.find octets_cmp q rest ≡ x) [ true ↦ λ m. m | false ↦ λ m. m ∙ here e ] more
       look false e = more
   find_here id (Some entry) rest b x more here = look (eq_by_cmp octets_cmp q id) refl
     where
@@ -41,14 +42,17 @@ module _ (keys : List ℕ) (slab : Slab Entry) (q : List ℕ) where
       look true e = here e
       look false e = more
 
-  pub find-transactions_of : (ids : List (List ℕ)) → map.find octets_cmp q (transactions_of keys slab ids) ≡ cond (list_any (eq_by_cmp octets_cmp q) ids) (stored keys slab q) None
+  pub find-transactions_of : (ids : List (List ℕ)) → map.find octets_cmp q (transactions_of keys slab ids)
+      ≡ cond (list_any (eq_by_cmp octets_cmp q) ids) (stored keys slab q) None
   find-transactions_of [] = refl
   find-transactions_of (id ∷ ids) =
-      find_here id (entry_at keys slab id) (transactions_of keys slab ids) (list_any (eq_by_cmp octets_cmp q) ids) (stored keys slab q) (find-transactions_of ids)
+      find_here id (entry_at keys slab id) (transactions_of keys slab ids) (list_any (eq_by_cmp octets_cmp q) ids) (stored keys slab q)
+      (find-transactions_of ids)
       (λ e. ap (stored keys slab) (sym (same_octets q id e)))
 
 -- what is open at an id
-pub at-open_of : (ids : LiveIds) (keys : List ℕ) (slab : Slab Entry) (room : ℕ) (q : List ℕ) → at (open_of ids keys slab room) q ≡ cond (is_live ids q) (stored keys slab q) None
+pub at-open_of : (ids : LiveIds) (keys : List ℕ) (slab : Slab Entry) (room : ℕ) (q : List ℕ)
+    → at (open_of ids keys slab room) q ≡ cond (is_live ids q) (stored keys slab q) None
 at-open_of ids keys slab room q =
     map.get-from_entries octets_total (transactions_of keys slab (set.items ids.live)) q
     ∙ find-transactions_of keys slab q (set.items ids.live)
@@ -63,7 +67,8 @@ is_some-cond : (b : Bool) (o : Option Transaction) → is_some o ≡ true → is
 is_some-cond true o e = e
 is_some-cond false o e = refl
 
-len-list : (keys : List ℕ) (slab : Slab Entry) (ids : List (List ℕ)) → ((id : List ℕ) → list_any (eq_by_cmp octets_cmp id) ids ≡ true → is_some (entry_at keys slab id) ≡ true)
+len-list : (keys : List ℕ) (slab : Slab Entry) (ids : List (List ℕ))
+    → ((id : List ℕ) → list_any (eq_by_cmp octets_cmp id) ids ≡ true → is_some (entry_at keys slab id) ≡ true)
     → map.len (map.from_entries {R = octets_cmp} (transactions_of keys slab ids)) ≡ set.len (set.from_list {R = octets_cmp} ids)
 len-list keys slab [] each = map.len-empty octets_cmp Transaction ∙ sym (set.len-empty octets_cmp)
 len-list keys slab (id ∷ ids) each =
@@ -73,7 +78,8 @@ len-list keys slab (id ∷ ids) each =
   where
     look : (o : Option Entry) → entry_at keys slab id ≡ o → is_some o ≡ true
         → map.len (map.from_entries {R = octets_cmp} (transactions_of keys slab ids)) ≡ set.len (set.from_list {R = octets_cmp} ids)
-        → map.len (map.from_entries {R = octets_cmp} (with_entry id o (transactions_of keys slab ids))) ≡ set.len (set.insert (set.from_list {R = octets_cmp} ids) id)
+        → map.len (map.from_entries {R = octets_cmp} (with_entry id o (transactions_of keys slab ids)))
+        ≡ set.len (set.insert (set.from_list {R = octets_cmp} ids) id)
     look None e none rest = cc
     look (Some entry) e some rest =
         let m = map.from_entries {R = octets_cmp} (transactions_of keys slab ids) in
@@ -100,7 +106,8 @@ module _ (ids : LiveIds) (keys : List ℕ) (slab : Slab Entry) (room : ℕ) (a :
   pub count-open_of : count (open_of ids keys slab room) ≡ set.len ids.live
   count-open_of =
       len-list keys slab (set.items ids.live) (λ q e. has_entry q (set.contains-items ids.live q ∙ e))
-      ∙ ap set.len (set.same_set octets_total octets_exact _ _ (λ q. set.contains-from_list octets_total (set.items ids.live) q ∙ sym (set.contains-items ids.live q)))
+      ∙ ap set.len (set.same_set octets_total octets_exact _ _ (λ q. set.contains-from_list octets_total (set.items ids.live) q
+      ∙ sym (set.contains-items ids.live q)))
 
   pub is_live_if_open : (id : List ℕ) → at (open_of ids keys slab room) id ≢ None → is_live ids id ≡ true
   is_live_if_open id some = look (is_live ids id) (at-open_of ids keys slab room id)
@@ -163,7 +170,8 @@ index_is [] i n h e = absurd (omega arith)
 index_is (x ∷ xs) zero n h e = e
 index_is (x ∷ xs) (suc i) n h e = index_is xs i n (omega arith) e
 
-module _ (ids : LiveIds) (keys : List ℕ) (slab : Slab Entry) (room : ℕ) (a : AreEntries ids keys slab room) (id : List ℕ) (slot key : ℕ) (there : Some slot ≡ slot_if_live ids id) (small : slot < 4096) (read : key ≡ get_or keys slot key) where
+module _ (ids : LiveIds) (keys : List ℕ) (slab : Slab Entry) (room : ℕ) (a : AreEntries ids keys slab room) (id : List ℕ) (slot key : ℕ)
+    (there : Some slot ≡ slot_if_live ids id) (small : slot < 4096) (read : key ≡ get_or keys slot key) where
   -- the key of the id's slot
   pub key_is : key ≡ get_or keys (slot_of id) 0
   key_is = index_is keys slot key (omega (arith, a.all_slots)) read ∙ ap (λ n. get_or keys n 0) (slot_is ids id slot there)
@@ -190,12 +198,14 @@ module _ (ids : LiveIds) (keys : List ℕ) (slab : Slab Entry) (room : ℕ) (a :
 -- ---- nothing open
 pub AreEntries-none : (shard : ℕ) (keys : List ℕ) (slab : Slab Entry) → length keys ≡ 4096 → slab.slots ≡ [] → AreEntries (no_ids shard) keys slab 0
 AreEntries-none shard keys slab all empty =
-    let dead : (id : List ℕ) → is_live (no_ids shard) id ≡ true → ⊥ = λ id live. let none : is_live (no_ids shard) id ≡ false = set.contains-empty octets_cmp id in cc in
+    let dead : (id : List ℕ) → is_live (no_ids shard) id ≡ true → ⊥ = λ id live. let none : is_live (no_ids shard) id
+    ≡ false = set.contains-empty octets_cmp id in cc in
     record {
       all_slots = all;
       of_shard = λ id live. absurd (dead id live);
       own = λ id live. absurd (dead id live);
-      no_other = λ key e stands. let none : get slab key ≡ None = ap (λ s. slice_index_or s key None) empty in absurd (let x : Some e ≡ None = sym stands ∙ none in cc);
+      no_other = λ key e stands. let none : get slab key ≡ None = ap (λ s. slice_index_or s key None) empty in absurd
+          (let x : Some e ≡ None = sym stands ∙ none in cc);
       room_in_ids = omega arith;
       room_in_slab = let n : slab_len slab ≡ 0 = ap (λ s. slab_len (record slab { slots = s })) empty in omega (arith, n);
       few = let n : set.len (no_ids shard).live ≡ 0 = set.len-empty octets_cmp in omega (arith, n);
@@ -206,7 +216,8 @@ open_of-none shard keys slab = λ i. record (none_open shard) { open_ones = empt
   where
     empty : (open_of (no_ids shard) keys slab 0).open_ones ≡ map.empty
     empty = map.same_map octets_total octets_exact _ _ (λ q.
-        at-open_of (no_ids shard) keys slab 0 q ∙ ap (λ b. cond b (stored keys slab q) None) (set.contains-empty octets_cmp q) ∙ sym (map.get-empty octets_cmp q))
+        at-open_of (no_ids shard) keys slab 0 q ∙ ap (λ b. cond b (stored keys slab q) None) (set.contains-empty octets_cmp q)
+        ∙ sym (map.get-empty octets_cmp q))
 
 -- ---- a copy
 some_same : {T : Type 0} (C : T → T → Type 0) → ((x y : T) → C x y → y ≡ x) → (v : T) (y : Option T) → IsSomeAnd y (C v) → y ≡ Some v
@@ -225,11 +236,13 @@ slots_same C exact (x ∷ xs) [] h = absurd h
 slots_same C exact (x ∷ xs) (y ∷ ys) h = λ i. slot_same C exact x y h.0 i ∷ slots_same C exact xs ys h.1 i
 
 -- the same slots, the same transactions
-pub open_of-slots : (ids : LiveIds) (keys : List ℕ) (slab slab' : Slab Entry) (room : ℕ) → slab'.slots ≡ slab.slots → open_of ids keys slab' room ≡ open_of ids keys slab room
+pub open_of-slots : (ids : LiveIds) (keys : List ℕ) (slab slab' : Slab Entry) (room : ℕ) → slab'.slots ≡ slab.slots
+    → open_of ids keys slab' room ≡ open_of ids keys slab room
 open_of-slots ids keys slab slab' room e = λ i. open_of ids keys (record slab { slots = e i }) room
 
 -- and as much room as is needed
-pub AreEntries-slots : (ids : LiveIds) (keys : List ℕ) (slab slab' : Slab Entry) (room : ℕ) → slab'.slots ≡ slab.slots → slab_len slab' + room ≤ slab'.capacity → AreEntries ids keys slab room → AreEntries ids keys slab' room
+pub AreEntries-slots : (ids : LiveIds) (keys : List ℕ) (slab slab' : Slab Entry) (room : ℕ) → slab'.slots ≡ slab.slots → slab_len slab' + room ≤ slab'.capacity
+    → AreEntries ids keys slab room → AreEntries ids keys slab' room
 AreEntries-slots ids keys slab slab' room e fits a = record {
   all_slots = a.all_slots;
   of_shard = a.of_shard;

@@ -1,7 +1,7 @@
 -- Which open transaction a received message is for (Q.774, transaction sublayer). Source addresses are not compared (profile).
 use Rattle.std.specs.Prelude.{◌≡◌, ◌≢◌, ℕ, List, Bool, true, Option, Some, None, if◌then◌else◌}
 use Rattle.machine.specs.Keys.{same}
-use Rattle.machine.specs.Transactions.{Primitive, ContinueComes, CloseComes, Fate, ForIt, Unassigned, Row, transact}
+use Rattle.machine.specs.Transactions.{Primitive, ContinueComes, CloseComes, Disposition, ForIt, Unassigned, Row, transact}
 use Rattle.tsl.specs.declared.received.Head.{Head}
 use Rattle.tsl.specs.declared.received.Head.TheVariants.{Continue, End, Abort}
 use Rattle.tsl.specs.declared.received.Received.{Received}
@@ -26,14 +26,14 @@ abbrev pub row_of : OpenTransactions → List ℕ → Head → Option Row
 row_of t from head = transact (at t (destination_of head)) (primitive_of from head)
 
 -- What `receive` returns for a row: only a Continue is ever unassigned.
-abbrev pub told : Head → Fate → Received
+abbrev pub told : Head → Disposition → Received
 told head ForIt = For (destination_of head)
 told (Continue origin destination) Unassigned = NotAssigned origin
-told head fate = Nothing
+told head disposition = Nothing
 
 abbrev pub told_of : Head → Option Row → Received
 told_of head None = Nothing
-told_of head (Some row) = told head row.fate
+told_of head (Some row) = told head row.disposition
 
 -- The transaction that it is for.
 abbrev pub received : OpenTransactions → List ℕ → Head → Received

@@ -46,7 +46,8 @@ abbrev pub open_transactions_code : Coded OpenTransactions
 open_transactions_code =
     code_by
     (ℕ × (map.FinMap octets_cmp Transaction × (Option (List ℕ) × (Option (List ℕ) × ℕ))))
-    (coded× coded_ℕ (coded× (map.code (coded_list coded_ℕ) coded_transaction) (coded× (coded_option (coded_list coded_ℕ)) (coded× (coded_option (coded_list coded_ℕ)) coded_ℕ))))
+    (coded× coded_ℕ (coded× (map.code (coded_list coded_ℕ) coded_transaction)
+    (coded× (coded_option (coded_list coded_ℕ)) (coded× (coded_option (coded_list coded_ℕ)) coded_ℕ))))
     (λ t. (t.shard, (t.open_ones, (t.freed_last, (t.next, t.room)))))
     (λ p. record { shard = p.0; open_ones = p.1.0; freed_last = p.1.1.0; next = p.1.1.1.0; room = p.1.1.1.1 })
     (λ _. refl)

@@ -83,7 +83,7 @@ impl Model for Transactions {
 }
 
 impl Transactions {
-    ghost use Rattle.tidalloc.specs.LiveIds.{next_use, slot_of};
+    ghost use Rattle.tidalloc.specs.LiveIds.{next_use};
     ghost use Rattle.tsl.specs.Transactions.{MayBegin, Begins, IsActive, IsInitiated, HaveIdsOfShard, transaction_of, known_as, initiated, active, at, count, none_open, with_transaction, closed, slot_if_open, HaveOwnSlots};
     ghost use Rattle.tsl.specs.Received.{received, after, told_continue, told_close, activated};
 
@@ -107,7 +107,8 @@ impl Transactions {
     /// allocation fails; on error nothing changes.
     pub fn begin(&mut self, to: Peer) -> Result<Tid, TslFault>
         ensures begun { IfOk result (λ id. Begins self.old id (initiated to) self.new) }
-        ensures table { IfOk result (λ id. transact (at self.old id) (OwnBegin to) ≡ row (at self.new id) IsSent) }
+        ensures table { IfOk result (λ id. transact (at self.old id) (OwnBegin to)
+            ≡ row (at self.new id) IsSent) }
         ensures no_room { result ≡ Err TslFault.NoRoom ↔ (count self.old ≡ 4096) }
         ensures had_room { 0 < self.old.room → IsOk result }
         ensures room { OnOk result (self.old.room ≤ self.new.room + 1) }
@@ -120,7 +121,8 @@ impl Transactions {
     /// Opens an Active transaction for a received Begin that is answered with a Continue (TR-CONTINUE). Fails as `begin` does.
     pub fn continue_(&mut self, from: Peer, origin: RemoteId) -> Result<Tid, TslFault>
         ensures begun { IfOk result (λ id. Begins self.old id (active from origin) self.new) }
-        ensures table { IfOk result (λ id. transact (at self.old id) (Answered from origin) ≡ row (at self.new id) IsSent) }
+        ensures table { IfOk result (λ id. transact (at self.old id) (Answered from origin)
+            ≡ row (at self.new id) IsSent) }
         ensures no_room { result ≡ Err TslFault.NoRoom ↔ (count self.old ≡ 4096) }
         ensures had_room { 0 < self.old.room → IsOk result }
         ensures room { OnOk result (self.old.room ≤ self.new.room + 1) }
@@ -151,7 +153,8 @@ impl Transactions {
     pub fn begin_reserved(&mut self, to: Peer) -> Tid
         requires { 0 < self.old.room }
         ensures begun { Begins self.old result (initiated to) self.new }
-        ensures table { transact (at self.old result) (OwnBegin to) ≡ row (at self.new result) IsSent }
+        ensures table { transact (at self.old result) (OwnBegin to)
+            ≡ row (at self.new result) IsSent }
         ensures room { self.new.room + 1 ≡ self.old.room }
     {
         self.open(to, None)
@@ -161,7 +164,8 @@ impl Transactions {
     pub fn continue_reserved(&mut self, from: Peer, origin: RemoteId) -> Tid
         requires { 0 < self.old.room }
         ensures begun { Begins self.old result (active from origin) self.new }
-        ensures table { transact (at self.old result) (Answered from origin) ≡ row (at self.new result) IsSent }
+        ensures table { transact (at self.old result) (Answered from origin)
+            ≡ row (at self.new result) IsSent }
         ensures room { self.new.room + 1 ≡ self.old.room }
     {
         self.open(from, Some(origin))
@@ -256,7 +260,8 @@ impl Transactions {
 
     fn receive_continue(&mut self, from: Peer, origin: RemoteId, destination: RemoteId) -> Received
         ensures answer { result ≡ told_continue origin destination (at self.old destination) }
-        ensures after { self.new ≡ activated self.old destination from origin (at self.old destination) }
+        ensures after { self.new ≡ activated self.old destination from origin
+            (at self.old destination) }
     {
         let Some(entry) = self.find(destination) else {
             return Received::NotAssigned(origin);
@@ -274,7 +279,8 @@ impl Transactions {
     /// The transaction with this id, if one is open. If it is Active, an own Continue goes to its peer.
     pub fn get(&self, id: Tid) -> Option<Transaction>
         ensures value { option_map transaction_of result ≡ at self.now id }
-        ensures table { IsActive (at self.now id) → transact (at self.now id) OwnContinue ≡ row (at self.now id) IsSent }
+        ensures table { IsActive (at self.now id)
+            → transact (at self.now id) OwnContinue ≡ row (at self.now id) IsSent }
     {
         let Some(entry) = self.entry(id) else {
             return None;
@@ -292,7 +298,8 @@ impl Transactions {
 
     /// The entry of the open transaction with this local id.
     fn find(&self, destination: RemoteId) -> Option<Entry>
-        ensures value { option_map (λ e. transaction_of e.transaction) result ≡ at self.now destination }
+        ensures value { option_map (λ e. transaction_of e.transaction) result
+            ≡ at self.now destination }
         ensures id { IfSome result (λ e. e.id ≡ destination) }
     {
         let _invariant = &self.ids;
@@ -331,7 +338,8 @@ impl Transactions {
         requires { at self.old id ≢ None }
         ensures closed { self.new ≡ closed self.old id }
         ensures comes { transact (at self.old id) CloseComes ≡ row (at self.new id) ForIt }
-        ensures own { IsInitiated (at self.old id) → transact (at self.old id) OwnClose ≡ row (at self.new id) Nothing }
+        ensures own { IsInitiated (at self.old id)
+            → transact (at self.old id) OwnClose ≡ row (at self.new id) Nothing }
     {
         self.close(id);
     }

@@ -28,7 +28,7 @@ use Rattle.dialogues.specs.Looking.{looked}
 use Rattle.dialogues.specs.Seen.{dialogue_with, kind_of}
 use Rattle.location.specs.declared.outcome.Outcome.{Outcome}
 use Rattle.location.specs.declared.outcome.DialogueChange.{DialogueChange}
-use Rattle.location.specs.declared.outcome.DialogueChange.TheVariants.{Gone, GoesOn, Forgets}
+use Rattle.location.specs.declared.outcome.DialogueChange.TheVariants.{Closes, Opens, GoesOn, Forgets}
 use Rattle.location.specs.Seen.{known, outcome_of}
 use Rattle.location.specs.Staying.{ForgetsNothing}
 use Rattle.location.specs.Writing.{CanBeWritten}
@@ -60,15 +60,21 @@ module _ (s : ShardState) (o : Opened) (after : Transaction) (origin : List ℕ)
   left_open : Some (dialogue_with done.invocations then_open) ≡ named_as s cs (Continued o.id after.peer origin)
   unfolding effect
   left_open =
-      ap (λ (r : Option (List ℕ)). Some (record (seen_as s.dialogues o) { transaction = record { peer = after.peer; remote = r }; invocations = invocations_after s.clock (map heard cs) before })) active
+      ap (λ (r : Option (List ℕ)). Some
+      (record (seen_as s.dialogues o) {
+        transaction = record { peer = after.peer; remote = r };
+        invocations = invocations_after s.clock
+            (map heard cs) before;
+      })) active
       ∙ ap (option_map (gone_on after.peer origin s.clock (map heard cs))) (sym opened.is_open)
 
   pub continuing_planned : (t : machine.Transaction) (found : Option (Bor Subscriber)) (e : Effect) (does : Outcome) (plan : Plan)
       → transaction_of after ≡ t → option_copied found ≡ finite.get s.records o.dialogue.subscriber → IsEffect e done
-      → ((here : Local) (vs : List Invocation) (did : effects.Effect) → o.dialogue.subscriber ≡ here.imsi → here.hlr ≡ s.hlr → here.record_of ≡ known found → IsEffect e did
+      → ((here : Local) (vs : List Invocation) (did : effects.Effect) → o.dialogue.subscriber ≡ here.imsi → here.hlr ≡ s.hlr → here.record_of ≡ known found
+      → IsEffect e did
       → outcome_of here (Some (dialogue_with did.invocations then_open)) [] does
       ≡ continues_as here o.id (dialogue_with vs then_open) (kind_of o.dialogue.kind) did o.new)
-      → CanBeWritten does.after (option_copied found) → ForgetsNothing does.stays
+      → CanBeWritten does.after (option_copied found) → ForgetsNothing does.dialogue
       → IsPlanFor o.dialogue.subscriber (Continued o.id after.peer origin) o.new does plan
       → IsPlan s (Continues o.id (with_transaction s.dialogues o t) (map (component parameter) cs)) cs plan
   continuing_planned t found e does plan is copied did leaves can_write keeps parts =
@@ -76,16 +82,19 @@ module _ (s : ShardState) (o : Opened) (after : Transaction) (origin : List ℕ)
       let here = local_of (state_of s) s.shard imsi in
       let kind = kind_of o.dialogue.kind in
       let same : effect here.clock (offer_to kind) before (map (component parameter) cs) ≡ done =
-      ap (λ now. effect now (offer_to kind) before (map (component parameter) cs)) (clock_seen s (Some imsi)) ∙ parameters_have_no_effect parameter s.clock (offer_to kind) before cs in
-      planned s (Continues o.id (with_transaction s.dialogues o t) (map (component parameter) cs)) cs imsi (Continued o.id after.peer origin) o.new does plan parts
-      (is_there s o opened) (opened.next, opened.is_new) (written s imsi found does copied can_write) (forgets does.stays keeps) refl refl refl
+      ap (λ now. effect now (offer_to kind) before (map (component parameter) cs)) (clock_seen s (Some imsi))
+      ∙ parameters_have_no_effect parameter s.clock (offer_to kind) before cs in
+      planned s (Continues o.id (with_transaction s.dialogues o t) (map (component parameter) cs)) cs imsi
+      (Continued o.id after.peer origin) o.new does plan parts
+      (is_there s o opened) (opened.next, opened.is_new) (written s imsi found does copied can_write) (forgets does.dialogue keeps) refl refl refl
       (ap (λ (w : effects.Effect). continues_as here o.id (with_transaction s.dialogues o t) kind w o.new) same
       ∙ ap (λ (u : machine.Transaction). continues_as here o.id (with_transaction s.dialogues o u) kind done o.new) (sym is)
       ∙ sym (leaves here before done (imsi_seen s imsi) (hlr_seen s imsi) (record_seen s (Some imsi) found copied) did)
       ∙ ap (λ (d : Option machine.Dialogue). outcome_of here d [] does) left_open)
     where
       forgets : (stays : DialogueChange) → ForgetsNothing stays → IsForgetting (Continued o.id after.peer origin) stays
-      forgets (Gone opens) h = tt
+      forgets Closes h = tt
+      forgets (Opens opening) h = tt
       forgets GoesOn h = tt
       forgets (Forgets invoke) h = h
 
@@ -100,7 +109,8 @@ continue_planned s from origin destination o cs plan for_it_is plans =
     let d = seen_as s.dialogues o in
     let there : dialogues_of s.dialogues destination ≡ Some d = ap (dialogues_of s.dialogues) (sym for_it_is.at) ∙ for_it_is.opened.is_open in
     let after = transaction_after from origin destination d (ap (looked from (Continue origin destination)) (sym there) ∙ for_it_is.told from) in
-    let turn : Continues o.id (with_transaction s.dialogues o after.0) heard_ones ≡ continue_at from origin destination heard_ones (dialogues_of s.dialogues destination) =
+    let turn : Continues o.id (with_transaction s.dialogues o after.0) heard_ones
+    ≡ continue_at from origin destination heard_ones (dialogues_of s.dialogues destination) =
     ap (λ id. Continues id (with_transaction s.dialogues o after.0) heard_ones) for_it_is.at
     ∙ sym (continue_is from origin destination heard_ones d after.0 after.1)
     ∙ ap (continue_at from origin destination heard_ones) (sym there) in

@@ -1,6 +1,6 @@
 -- Which open dialogue a received message is for.
 use Rattle.std.proofs.Common.{◌≡◌, ◌≢◌, ℕ, List, [], Option, Some, None, refl, sym, ap, ◌∙◌}
-use Rattle.machine.specs.Numbers.{unrecognized_transaction_id}
+use Rattle.machine.specs.declared.numbers.TheConstants.{UNRECOGNIZED_TRANSACTION_ID}
 use Rattle.machine.specs.Outcome.{send}
 use Rattle.machine.specs.Received.{Component}
 use Rattle.machine.specs.Sent.{Cause, SentAbort}
@@ -50,18 +50,19 @@ found_for told_in d head id found same told open_at =
 
 -- ---- what a message turns to
 
-pub close_for_none : (from destination : List ℕ) (o : Option Dialogue) → looked from (End destination) o ≢ For destination → close_at destination o ≡ Dismissed []
+pub close_for_none : (from destination : List ℕ) (o : Option Dialogue) → looked from (End destination) o ≢ For destination
+    → close_at destination o ≡ Dismissed []
 close_for_none from destination None h = refl
 close_for_none from destination (Some d) h = absurd (h refl)
 
 pub continue_for_none : (from origin destination : List ℕ) (components : List Component) (o : Option Dialogue)
     → looked from (Continue origin destination) o ≢ For destination
-    → continue_at from origin destination components o ≡ Dismissed (send from (SentAbort origin (Cause unrecognized_transaction_id)))
+    → continue_at from origin destination components o ≡ Dismissed (send from (SentAbort origin (Cause UNRECOGNIZED_TRANSACTION_ID)))
 continue_for_none from origin destination components None h = refl
 continue_for_none from origin destination components (Some d) h = by (for_it (transact (Some d.transaction) (ContinueComes from origin))) h
   where
     by : (t : Option Transaction) → told_of origin destination t ≢ For destination
-        → continue_for from origin destination components d t ≡ Dismissed (send from (SentAbort origin (Cause unrecognized_transaction_id)))
+        → continue_for from origin destination components d t ≡ Dismissed (send from (SentAbort origin (Cause UNRECOGNIZED_TRANSACTION_ID)))
     by None h = refl
     by (Some t) h = absurd (h refl)
 

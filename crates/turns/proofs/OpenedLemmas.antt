@@ -1,5 +1,5 @@
 -- A plan for an open dialogue is what its turn does.
-use Rattle.std.proofs.Common.{◌≡◌, ◌≢◌, ℕ, List, [], Option, Some, None, refl, sym, ap, ◌∙◌, subst}
+use Rattle.std.proofs.Common.{◌≡◌, ◌≢◌, ℕ, List, [], Option, Some, None, sym, ap, ◌∙◌, subst}
 use Rattle.std.specs.Prelude.{IfSome, option_copied}
 use Rattle.std.specs.Borrow.{Bor}
 use Rattle.std.specs.FinMap as finite
@@ -44,7 +44,7 @@ some≢none e = absurd cc
 pub planned : (s : ShardState) (turn : Turn) (cs : List (Component Parameter)) (subscriber : List ℕ) (name : Named) (new : List ℕ) (o : Outcome) (plan : Plan)
     → IsPlanFor subscriber name new o plan
     → IfSome (id_of name) (λ id. dialogues_of s.dialogues id ≢ None) → IsNextId s name new
-    → CanBeWritten o.after (finite.get s.records subscriber) → IsForgetting name o.stays
+    → CanBeWritten o.after (finite.get s.records subscriber) → IsForgetting name o.dialogue
     → concern (directory_of s.directory) turn ≡ Some subscriber → named turn ≡ id_of name → subject_of (state_of s) turn ≡ Some subscriber
     → outcome_in (state_of s) s.shard turn new ≡ outcome_of (local_of (state_of s) s.shard subscriber) (named_as s cs name) [] o
     → IsPlan s turn cs plan

@@ -18,23 +18,25 @@ use Rattle.dialogues.specs.Dialogues.{IsNew}
 use Rattle.location.specs.declared.outcome.After.TheVariants.{NewCodes}
 use Rattle.location.specs.declared.outcome.Outcome.{Outcome}
 use Rattle.location.specs.declared.outcome.DialogueChange.{DialogueChange}
-use Rattle.location.specs.declared.outcome.DialogueChange.TheVariants.{Gone, GoesOn, Forgets}
+use Rattle.location.specs.declared.outcome.DialogueChange.TheVariants.{Closes, Opens, GoesOn, Forgets}
 use Rattle.location.specs.Seen.{known, opens_of, outcome_of}
 use Rattle.location.specs.Writing.{CanBeWritten}
 use Rattle.shard_state.specs.declared.plan.Plan.{Plan}
-use Rattle.shard_state.specs.Plans.{CanSettle, Opens}
+use Rattle.shard_state.specs.Plans.{CanSettle, IsOpening}
 use Rattle.shard_state.specs.Shards.{ShardState, directory_of, record_at, state_of}
 use Rattle.turns.specs.Planning.{IsPlan}
 use Rattle.turns.specs.Unnamed.{known_imsi, unnamed_plan}
 use Rattle.turns.proofs.SeenLemmas.{clock_seen, imsi_seen, none_allowed, record_seen, record_there}
 
-own_here : (s : ShardState) (c : Option (List ℕ)) (found : Option (Bor Subscriber)) → IfSome found (λ f. c ≡ Some f.now.imsi) → IfSome found (λ f. f.now.imsi ≡ (seen (state_of s) s.shard c).imsi)
+own_here : (s : ShardState) (c : Option (List ℕ)) (found : Option (Bor Subscriber)) → IfSome found (λ f. c ≡ Some f.now.imsi)
+    → IfSome found (λ f. f.now.imsi ≡ (seen (state_of s) s.shard c).imsi)
 own_here s c None own = tt
 own_here s None (Some f) own = absurd cc
 own_here s (Some x) (Some f) own = let same : x ≡ f.now.imsi = cc in sym same ∙ imsi_seen s x
 
 -- the subject
-subject_is : (s : ShardState) (c : Option (List ℕ)) (found : Option (Bor Subscriber)) → option_copied found ≡ record_at s.records c → IfSome found (λ f. c ≡ Some f.now.imsi)
+subject_is : (s : ShardState) (c : Option (List ℕ)) (found : Option (Bor Subscriber)) → option_copied found ≡ record_at s.records c
+    → IfSome found (λ f. c ≡ Some f.now.imsi)
     → known_imsi found ≡ known_in (state_of s) c
 unfolding state_of
 subject_is s None None is own = refl
@@ -44,9 +46,9 @@ subject_is s (Some x) (Some f) is own = sym own ∙ ap (λ o. if_known x (option
 
 -- ---- what opens
 
-opens_some : (clock : ℕ) (stays : DialogueChange) → Opens stays → IsTrue (is_some (opens_of clock stays))
-opens_some clock (Gone None) h = absurd h
-opens_some clock (Gone (Some opening)) h = refl
+opens_some : (clock : ℕ) (stays : DialogueChange) → IsOpening stays → IsTrue (is_some (opens_of clock stays))
+opens_some clock Closes h = absurd h
+opens_some clock (Opens opening) h = refl
 opens_some clock GoesOn h = absurd h
 opens_some clock (Forgets invoke) h = absurd h
 
@@ -65,7 +67,8 @@ module _ (s : ShardState) (imsi : Option (List ℕ)) (found : Option (Bor Subscr
   abbrev here : Local
   here = seen (state_of s) s.shard imsi
 
-  can_settle : (outcome.after ≡ NewCodes → AreAllowed codes.items) → (imsi ≡ None → Opens outcome.stays → ⊥) → CanSettle s (unnamed_plan imsi found new codes outcome)
+  can_settle : (outcome.after ≡ NewCodes → AreAllowed codes.items) → (imsi ≡ None → IsOpening outcome.dialogue → ⊥)
+      → CanSettle s (unnamed_plan imsi found new codes outcome)
   can_settle allowed concerned = record {
     is_open = tt;
     writable = subst (CanBeWritten outcome.after) found_is writable;
@@ -77,7 +80,7 @@ module _ (s : ShardState) (imsi : Option (List ℕ)) (found : Option (Bor Subscr
 
   -- The plan is what the turn does.
   made : (turn : Turn) → concern (directory_of s.directory) turn ≡ imsi → named turn ≡ None → subject_of (state_of s) turn ≡ known_in (state_of s) imsi
-      → (outcome.after ≡ NewCodes → AreAllowed codes.items) → (imsi ≡ None → Opens outcome.stays → ⊥)
+      → (outcome.after ≡ NewCodes → AreAllowed codes.items) → (imsi ≡ None → IsOpening outcome.dialogue → ⊥)
       → outcome_in (state_of s) s.shard turn new ≡ outcome_of here None codes.items outcome → IsPlan s turn [] plan
   made turn concern_is named_is subject allowed concerned leaves = subst (IsPlan s turn []) (sym plan_is) (record {
     can = can_settle allowed concerned;
@@ -98,22 +101,26 @@ module _ (s : ShardState) (imsi : Option (List ℕ)) (found : Option (Bor Subscr
       = leaves here (clock_seen s imsi) (own_here s imsi found own) (record_seen s imsi found found_is) in
       made (Begins from origin name cs) (sym asked_is) refl (ap (known_in (state_of s)) (sym asked_is)) (λ _. subst AreAllowed (sym none) none_allowed)
       (λ nobody opens. nobody_known s imsi nobody
-      (begins_opens here new from origin name cs (sym (ap (λ o. is_some o.opens) outcome_here) ∙ opens_some here.clock outcome.stays opens)).known)
-      (ap (λ c. begins (seen (state_of s) s.shard c) from origin name cs new) (sym asked_is) ∙ sym outcome_here ∙ ap (λ items. outcome_of here None items outcome) (sym none))
+      (begins_opens here new from origin name cs (sym (ap (λ o. is_some o.opens) outcome_here) ∙ opens_some here.clock outcome.dialogue opens)).known)
+      (ap (λ c. begins (seen (state_of s) s.shard c) from origin name cs new) (sym asked_is) ∙ sym outcome_here
+      ∙ ap (λ items. outcome_of here None items outcome) (sym none))
 
   -- An operator's change, of these codes or of none.
   pub change_plan : (x items : List ℕ) (change : Change) → imsi ≡ Some x → codes.items ≡ items → AreAllowed items
-      → ((here : Local) → IfSome found (λ f. f.now.imsi ≡ here.imsi) → here.record_of ≡ known found → outcome_of here None items outcome ≡ changes here change (known found) new)
+      → ((here : Local) → IfSome found (λ f. f.now.imsi ≡ here.imsi) → here.record_of ≡ known found
+      → outcome_of here None items outcome ≡ changes here change (known found) new)
       → IsPlan s (Changes x change) [] plan
   unfolding state_of
   change_plan x items change imsi_is has allowed leaves =
       let known_is = record_seen s imsi found found_is in
       made (Changes x change) (sym imsi_is) refl (ap (known_in (state_of s)) (sym imsi_is)) (λ _. subst AreAllowed (sym has) allowed) (λ nobody. absurd cc)
-      (ap (λ c. changes (seen (state_of s) s.shard c) change (seen (state_of s) s.shard c).record_of new) (sym imsi_is) ∙ ap (λ r. changes here change r new) known_is
+      (ap (λ c. changes (seen (state_of s) s.shard c) change (seen (state_of s) s.shard c).record_of new) (sym imsi_is)
+      ∙ ap (λ r. changes here change r new) known_is
       ∙ sym (leaves here (own_here s imsi found own) known_is) ∙ ap (λ is. outcome_of here None is outcome) (sym has))
 
   -- The end of a subscription.
   pub withdrawal_plan : (x : List ℕ) → imsi ≡ Some x → codes.items ≡ []
-      → ((here : Local) → IfSome found (λ f. f.now.imsi ≡ here.imsi) → here.record_of ≡ known found → outcome_of here None [] outcome ≡ changes here Withdraw (known found) new)
+      → ((here : Local) → IfSome found (λ f. f.now.imsi ≡ here.imsi) → here.record_of ≡ known found
+      → outcome_of here None [] outcome ≡ changes here Withdraw (known found) new)
       → IsPlan s (Changes x Withdraw) [] plan
   withdrawal_plan x imsi_is none leaves = change_plan x [] Withdraw imsi_is none none_allowed leaves

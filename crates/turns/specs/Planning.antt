@@ -1,5 +1,5 @@
 -- The plan of an event, as the machine's turn.
-use Rattle.std.specs.Prelude.{◌≡◌, ℕ, List, [], Option, Some, None}
+use Rattle.std.specs.Prelude.{◌≡◌, List, [], Option, Some, None}
 use Rattle.machine.specs.Sent.{Out}
 use Rattle.machine.specs.Turns.{Turn, Dismissed, Expiry, concern, named}
 use Rattle.machine.specs.Step.{outcome_in, subject_of}

@@ -29,8 +29,10 @@ pub fn plan_begin(
 ) -> Result<Plan, AllocError>
     requires { IsBeginOf indication.now.verdict origin (map (component parameter) components.now) }
     ensures { IfOk result (λ plan. (name : Option (List ℕ))
-        → indication.now.verdict ≡ Read (machine.Begin origin name (map (component parameter) components.now))
-        → IsPlan shard.now (Begins indication.now.from origin name (map (component parameter) components.now)) [] plan) }
+        → indication.now.verdict ≡ Read (machine.Begin origin name
+        (map (component parameter) components.now))
+        → IsPlan shard.now (Begins indication.now.from origin name
+        (map (component parameter) components.now)) [] plan) }
 {
     let imsi = asked(shard.directory(), components);
     let subscriber = record_of(shard, imsi.as_ref());

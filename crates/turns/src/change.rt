@@ -21,7 +21,8 @@ pub fn plan_codes(
     codes: &[u8],
 ) -> Result<Plan, AllocError>
     requires { AreAllowed codes.now }
-    ensures { IfOk result (λ plan. IsPlan shard.now (Changes imsi (events.Codes codes.now)) [] plan) }
+    ensures { IfOk result (λ plan. IsPlan shard.now
+        (Changes imsi (events.Codes codes.now)) [] plan) }
 {
     let kept = codes.to_vec(alloc)?;
     let subscriber = record_of(shard, Some(&imsi));

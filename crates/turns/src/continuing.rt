@@ -1,7 +1,7 @@
 //! A received Continue (Q.774).
 
 ghost use Rattle.std.specs.Prelude.{◌≡◌, IfOk, Some, map};
-ghost use Rattle.machine.specs.Numbers.{unrecognized_transaction_id};
+ghost use Rattle.machine.specs.declared.numbers.TheConstants.{UNRECOGNIZED_TRANSACTION_ID};
 ghost use Rattle.machine.specs.Outcome.{send};
 ghost use Rattle.machine.specs.Sent.{Cause, SentAbort};
 ghost use Rattle.machine.specs.State as machine;
@@ -28,7 +28,8 @@ use tsl::{Head, Transaction};
 /// Active stays the same.
 fn heard_from(transaction: Transaction, from: Peer, origin: RemoteId) -> Transaction
     ensures row { (t : machine.Transaction)
-        → for_it (transact (Some (transaction_of transaction)) (ContinueComes from origin)) ≡ Some t → transaction_of result ≡ t }
+        → for_it (transact (Some (transaction_of transaction)) (ContinueComes from origin)) ≡ Some t
+        → transaction_of result ≡ t }
     ensures active { result.remote ≡ Some origin }
 {
     let peer = match transaction.remote {
@@ -52,8 +53,10 @@ fn continued(
 ) -> Result<Plan, AllocError>
     requires { IsOpened shard.now.dialogues opened }
     ensures { IfOk result (λ plan. (t : machine.Transaction)
-        → for_it (transact (Some (transaction_of opened.dialogue.transaction)) (ContinueComes from origin)) ≡ Some t
-        → IsPlan shard.now (Continues opened.id (with_transaction shard.now.dialogues opened t) (map (component parameter) components.now))
+        → for_it (transact (Some (transaction_of opened.dialogue.transaction))
+        (ContinueComes from origin)) ≡ Some t
+        → IsPlan shard.now (Continues opened.id (with_transaction shard.now.dialogues opened t)
+        (map (component parameter) components.now))
         components.now plan) }
 {
     let Opened { id, dialogue, new } = opened;
@@ -88,7 +91,7 @@ pub fn plan_continue(
 ) -> Result<Option<Plan>, AllocError>
     ensures { IfOk result (IsPlanOr shard.now
         (continue_at from origin destination (map (component parameter) components.now) (dialogues_of shard.now.dialogues destination))
-        components.now (send from (SentAbort origin (Cause unrecognized_transaction_id)))) }
+        components.now (send from (SentAbort origin (Cause UNRECOGNIZED_TRANSACTION_ID)))) }
 {
     let head = Head::Continue {
         origin,

@@ -20,7 +20,8 @@ fn current_register(
     imsi: &Imsi,
     subscriber: Option<&Record>,
 ) -> Option<Register>
-    ensures { IfSome subscriber.entry (λ s. current_register (local_of (state_of shard.now) shard.now.shard imsi.now) s.now.current
+    ensures { IfSome subscriber.entry (λ s. current_register
+        (local_of (state_of shard.now) shard.now.shard imsi.now) s.now.current
         ≡ option_map machine_register result) }
 {
     let current = subscriber?.current?;

@@ -1,6 +1,5 @@
 //! The open dialogue that an event is for, and its plan.
 
-ghost use Rattle.tsl.specs.Received.{destination_of};
 ghost use Rattle.turns.specs.OpenOnes.{IsFor, IsOpenAt, IsPlanFor};
 
 use dialogues::Dialogue;

@@ -15,7 +15,8 @@ use records::Directory;
 /// The subscriber that a Begin is about, by its first component only. sendRoutingInfoForSM names the subscriber by MSISDN
 /// (TS 29.002, 12.1).
 pub fn asked(directory: &Directory, components: &[Component<Parameter>]) -> Option<Imsi>
-    ensures { result ≡ asked (directory_of directory.now) (map (component parameter) components.now) }
+    ensures { result ≡ asked (directory_of directory.now)
+        (map (component parameter) components.now) }
 {
     match first_argument(components)? {
         Argument::BadValue => None,

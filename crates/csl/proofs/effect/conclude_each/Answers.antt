@@ -9,7 +9,9 @@ pub loop-component-init : goal.loop-component-init
 loop-component-init g c = after_none g.row.P.Denot c.args.now c.args.list.now.items
 
 pub conclude-requires-clause-rising : goal.conclude-requires-clause-rising
-conclude-requires-clause-rising g c = rw c.loop-component.invariant (rising_after {P = g.row.P.Denot} c.args.now (map heard (take c.loop-component.component-index c.args.components.now)) c.args.list.now.items c.requires.rising)
+conclude-requires-clause-rising g c = rw c.loop-component.invariant
+    (rising_after {P = g.row.P.Denot} c.args.now
+    (map heard (take c.loop-component.component-index c.args.components.now)) c.args.list.now.items c.requires.rising)
 
 pub loop-component-preserved : goal.loop-component-preserved
 loop-component-preserved g c =

@@ -6,4 +6,5 @@ use Rattle.csl.proofs.Hearing.{AreHeard}
 use Rattle.csl.proofs.effect.receive_each.Given as goal
 
 abbrev pub invariant-loop-place : goal.invariant-loop-place
-invariant-loop-place g l = AreHeard {P = g.row.P.Denot} l.now (offered l.offer) l.fn.list.items (map heard (take l.place l.components)) l.list.items (map rejection l.rejects.items) l.has_failed
+invariant-loop-place g l = AreHeard {P = g.row.P.Denot} l.now (offered l.offer) l.fn.list.items (map heard (take l.place l.components)) l.list.items
+    (map rejection l.rejects.items) l.has_failed

@@ -6,10 +6,12 @@ use Rattle.csl.proofs.list.conclude.Goals as goal
 use Rattle.csl.proofs.list.conclude.Goals.{in-IsRejected, in-Fails}
 
 pub returns-in_default-clause-after : goal.returns-in_default-clause-after
-returns-in_default-clause-after g c = (unmoved_by_none c.args.now (heard c.args.component.now) c.args.list.now.items (sym c.ending_of.ensures.exact ∙ c.in_default.is)).after
+returns-in_default-clause-after g c = (unmoved_by_none c.args.now (heard c.args.component.now) c.args.list.now.items
+    (sym c.ending_of.ensures.exact ∙ c.in_default.is)).after
 
 pub returns-in_default-clause-failed : goal.returns-in_default-clause-failed
-returns-in_default-clause-failed g c = (unmoved_by_none c.args.now (heard c.args.component.now) c.args.list.now.items (sym c.ending_of.ensures.exact ∙ c.in_default.is)).failed
+returns-in_default-clause-failed g c = (unmoved_by_none c.args.now (heard c.args.component.now) c.args.list.now.items
+    (sym c.ending_of.ensures.exact ∙ c.in_default.is)).failed
 
 pub returns-in_default-place_of-clause-after : goal.returns-in_default-place_of-clause-after
 returns-in_default-place_of-clause-after g c =
@@ -26,14 +28,18 @@ returns-in_default-place_of-clause-failed g c =
 pub returns-then-not-is_sent-clause-after : goal.returns-then-not-is_sent-clause-after
 returns-then-not-is_sent-clause-after g c =
     let fits = c.in-Some.ensures.fits in
-    (unmoved_where_waiting c.args.now (heard c.args.component.now) c.in-Some.ending (sym c.ending_of.ensures.exact ∙ c.in-Some.is) c.args.list.now.items c.in-Some-place_of.place
-    (sym (simp (c.deref.ensures.value, to_z-of_z) at c.place_of.ensures) ∙ c.in-Some-place_of.is) c.requires.rising c.index.result.now c.index.ensures (sym c.is_sent.ensures ∙ c.if-not-is_sent.true)).after
+    (unmoved_where_waiting c.args.now (heard c.args.component.now) c.in-Some.ending
+    (sym c.ending_of.ensures.exact ∙ c.in-Some.is) c.args.list.now.items c.in-Some-place_of.place
+    (sym (simp (c.deref.ensures.value, to_z-of_z) at c.place_of.ensures) ∙ c.in-Some-place_of.is) c.requires.rising c.index.result.now c.index.ensures
+    (sym c.is_sent.ensures ∙ c.if-not-is_sent.true)).after
 
 pub returns-then-not-is_sent-clause-failed : goal.returns-then-not-is_sent-clause-failed
 returns-then-not-is_sent-clause-failed g c =
     let fits = c.in-Some.ensures.fits in
-    (unmoved_where_waiting c.args.now (heard c.args.component.now) c.in-Some.ending (sym c.ending_of.ensures.exact ∙ c.in-Some.is) c.args.list.now.items c.in-Some-place_of.place
-    (sym (simp (c.deref.ensures.value, to_z-of_z) at c.place_of.ensures) ∙ c.in-Some-place_of.is) c.requires.rising c.index.result.now c.index.ensures (sym c.is_sent.ensures ∙ c.if-not-is_sent.true)).failed
+    (unmoved_where_waiting c.args.now (heard c.args.component.now) c.in-Some.ending
+    (sym c.ending_of.ensures.exact ∙ c.in-Some.is) c.args.list.now.items c.in-Some-place_of.place
+    (sym (simp (c.deref.ensures.value, to_z-of_z) at c.place_of.ensures) ∙ c.in-Some-place_of.is) c.requires.rising c.index.result.now c.index.ensures
+    (sym c.is_sent.ensures ∙ c.if-not-is_sent.true)).failed
 
 pub returns-clause-after : goal.returns-clause-after
 returns-clause-after g c =
@@ -41,13 +47,20 @@ returns-clause-after g c =
     let found = sym (simp (c.deref.ensures.value, to_z-of_z) at c.place_of.ensures) ∙ c.in-Some-place_of.is in
     let sent = sym c.is_sent.ensures ∙ c.if-not-is_sent.false in
     elim c.match-ending.branch [
-      | in-IsRejected w ↦ (λ i. (w.list-is i).items) ∙ w.remove.ensures.items ∙ removed c.args.now (heard c.args.component.now) c.in-Some.ending (sym c.ending_of.ensures.exact ∙ c.in-Some.is) c.args.list.now.items c.in-Some-place_of.place found c.requires.rising c.index.result.now c.index.ensures sent w.in-IsRejected.is
-      | in-Fails w ↦ (λ i. (w.list-is i).items) ∙ waits c.args.now (heard c.args.component.now) c.in-Some.ending (sym c.ending_of.ensures.exact ∙ c.in-Some.is) c.args.list.now.items c.in-Some-place_of.place found c.requires.rising c.index.result.now c.index.ensures sent w.index_mut.result.now w.index_mut.ensures.value w.wait.new.self w.wait.ensures w.in-Fails.is
+      | in-IsRejected w ↦ (λ i. (w.list-is i).items) ∙ w.remove.ensures.items
+          ∙ removed c.args.now (heard c.args.component.now) c.in-Some.ending
+          (sym c.ending_of.ensures.exact
+          ∙ c.in-Some.is) c.args.list.now.items c.in-Some-place_of.place found c.requires.rising c.index.result.now c.index.ensures sent w.in-IsRejected.is
+      | in-Fails w ↦ (λ i. (w.list-is i).items) ∙ waits c.args.now (heard c.args.component.now) c.in-Some.ending
+          (sym c.ending_of.ensures.exact
+          ∙ c.in-Some.is) c.args.list.now.items c.in-Some-place_of.place found c.requires.rising c.index.result.now c.index.ensures sent w.index_mut.result.now w.index_mut.ensures.value w.wait.new.self w.wait.ensures w.in-Fails.is
     ]
 
 pub returns-clause-failed : goal.returns-clause-failed
 returns-clause-failed g c =
     let fits = c.in-Some.ensures.fits in
     c.is_failing.ensures
-    ∙ failed_sent c.args.now (heard c.args.component.now) c.in-Some.ending (sym c.ending_of.ensures.exact ∙ c.in-Some.is) c.args.list.now.items c.in-Some-place_of.place
-    (sym (simp (c.deref.ensures.value, to_z-of_z) at c.place_of.ensures) ∙ c.in-Some-place_of.is) c.requires.rising c.index.result.now c.index.ensures (sym c.is_sent.ensures ∙ c.if-not-is_sent.false)
+    ∙ failed_sent c.args.now (heard c.args.component.now) c.in-Some.ending
+    (sym c.ending_of.ensures.exact ∙ c.in-Some.is) c.args.list.now.items c.in-Some-place_of.place
+    (sym (simp (c.deref.ensures.value, to_z-of_z) at c.place_of.ensures) ∙ c.in-Some-place_of.is) c.requires.rising c.index.result.now c.index.ensures
+    (sym c.is_sent.ensures ∙ c.if-not-is_sent.false)

@@ -12,4 +12,5 @@ pub returns : goal.returns
 returns c =
     let fits = c.ranges.id in
     c.is_sent.ensures
-    ∙ sym (in_sent_at c.args.id c.args.list.now c.in-Some.place c.index-list-place.result (sym (simp to_z-of_z at c.place_of.ensures) ∙ c.in-Some.is) c.index-list-place.is)
+    ∙ sym (in_sent_at c.args.id c.args.list.now c.in-Some.place c.index-list-place.result
+    (sym (simp to_z-of_z at c.place_of.ensures) ∙ c.in-Some.is) c.index-list-place.is)

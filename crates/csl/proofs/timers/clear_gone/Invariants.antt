@@ -5,4 +5,5 @@ use Rattle.csl.specs.Tables.{is_gone}
 use Rattle.csl.proofs.timers.clear_gone.Given as goal
 
 abbrev pub invariant-loop-own : goal.invariant-loop-own
-invariant-loop-own l = (k : due.Invocation) → finite.get l.deadlines k ≡ cond (is_gone l.id (take l.own-index l.were) l.kept k) None (finite.get l.fn.deadlines k)
+invariant-loop-own l = (k : due.Invocation) → finite.get l.deadlines k
+    ≡ cond (is_gone l.id (take l.own-index l.were) l.kept k) None (finite.get l.fn.deadlines k)

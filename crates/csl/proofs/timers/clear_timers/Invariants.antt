@@ -7,4 +7,5 @@ use Rattle.deadlines.specs.Index.{is_invocation}
 use Rattle.csl.proofs.timers.clear_timers.Given as goal
 
 abbrev pub invariant-loop-timer : goal.invariant-loop-timer
-invariant-loop-timer l = (k : due.Invocation) → finite.get l.deadlines k ≡ cond (list_any (λ (timer : Timer). is_invocation timer.invocation k) (take l.timer-index l.timers)) None (finite.get l.fn.deadlines k)
+invariant-loop-timer l = (k : due.Invocation) → finite.get l.deadlines k
+    ≡ cond (list_any (λ (timer : Timer). is_invocation timer.invocation k) (take l.timer-index l.timers)) None (finite.get l.fn.deadlines k)

@@ -30,13 +30,15 @@ give_deadline-requires n c =
 pub returns-then-is_new-clause-err_map : goal.returns-then-is_new-clause-err_map
 returns-then-is_new-clause-err_map n c =
     let timer = c.first-item.result in
-    taken_map timer.invocation timer.deadline c.in_ok-deadline.field-0.deadline (deadline_of c.args.by_invocation.now) (deadline_of c.put.new.by_invocation) (deadline_of c.put_each.new.by_invocation) (deadline_of c.give_deadline.new.by_invocation)
+    taken_map timer.invocation timer.deadline c.in_ok-deadline.field-0.deadline (deadline_of c.args.by_invocation.now) (deadline_of c.put.new.by_invocation)
+    (deadline_of c.put_each.new.by_invocation) (deadline_of c.give_deadline.new.by_invocation)
     c.in_ok-deadline.ensures.deadline c.in_ok-deadline.ensures.map c.in-Err.ensures.err_map c.give_deadline.ensures
 
 pub returns-else-is_new-clause-err_map : goal.returns-else-is_new-clause-err_map
 returns-else-is_new-clause-err_map n c =
     let timer = c.first-item.result in
-    taken_map timer.invocation timer.deadline c.in_ok-deadline.field-0.deadline (deadline_of c.args.by_invocation.now) (deadline_of c.put.new.by_invocation) (deadline_of c.put_each.new.by_invocation) (deadline_of c.give_deadline.new.by_invocation)
+    taken_map timer.invocation timer.deadline c.in_ok-deadline.field-0.deadline (deadline_of c.args.by_invocation.now) (deadline_of c.put.new.by_invocation)
+    (deadline_of c.put_each.new.by_invocation) (deadline_of c.give_deadline.new.by_invocation)
     c.in_ok-deadline.ensures.deadline c.in_ok-deadline.ensures.map c.in-Err.ensures.err_map c.give_deadline.ensures
 
 pub returns-then-is_new-clause-err_index : goal.returns-then-is_new-clause-err_index
@@ -48,5 +50,6 @@ returns-then-is_new-clause-err_index n c =
 pub returns-else-is_new-clause-err_index : goal.returns-else-is_new-clause-err_index
 returns-else-is_new-clause-err_index n c =
     let new : c.in_ok-deadline.field-0.is_new ≡ false = c.if-is_new.false in
-    taken_index c.first-item.result false (has c.args.by_deadline.now) (has c.put.new.by_deadline) (has c.put_each.new.by_deadline) (has c.put_each.new.by_deadline)
+    taken_index c.first-item.result false (has c.args.by_deadline.now) (has c.put.new.by_deadline) (has c.put_each.new.by_deadline)
+    (has c.put_each.new.by_deadline)
     (sym new ∙ c.in_ok-deadline.ensures.is_new) c.in_ok-deadline.ensures.index c.in-Err.ensures.err_index (λ t. refl)

@@ -5,13 +5,16 @@ use Rattle.deadlines.proofs.index.drop_stale.Goals as goal
 
 pub returns-then-has_deadline-clause-stale : goal.returns-then-has_deadline-clause-stale
 returns-then-has_deadline-clause-stale c = λ t w h.
-    stands_still (deadline_of c.args.by_invocation.now) c.in-Some.deadline c.args.invocation t (was_same c.args.before c.in-Some.deadline c.args.invocation t c.in-Some.is w) (c.if-has_deadline.ensures.0 refl)
+    stands_still (deadline_of c.args.by_invocation.now) c.in-Some.deadline c.args.invocation t
+    (was_same c.args.before c.in-Some.deadline c.args.invocation t c.in-Some.is w) (c.if-has_deadline.ensures.0 refl)
 
 pub returns-clause-kept : goal.returns-clause-kept
 returns-clause-kept c =
-    drop_kept (deadline_of c.args.by_invocation.now) (record { deadline = c.in-Some.deadline; invocation = c.args.invocation }) (has c.args.by_deadline.now) (has c.remove.new.self)
+    drop_kept (deadline_of c.args.by_invocation.now) (record { deadline = c.in-Some.deadline; invocation = c.args.invocation }) (has c.args.by_deadline.now)
+    (has c.remove.new.self)
     c.remove.ensures.updates.0 (λ e. let x : false ≡ true = c.if-has_deadline.ensures.1 e in cc)
 
 pub returns-clause-gone : goal.returns-clause-gone
 returns-clause-gone c =
-    drop_gone (record { deadline = c.in-Some.deadline; invocation = c.args.invocation }) (has c.args.by_deadline.now) (has c.remove.new.self) c.remove.ensures.updates.0
+    drop_gone (record { deadline = c.in-Some.deadline; invocation = c.args.invocation }) (has c.args.by_deadline.now)
+    (has c.remove.new.self) c.remove.ensures.updates.0

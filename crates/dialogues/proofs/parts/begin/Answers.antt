@@ -8,4 +8,5 @@ pub unwrap-slot-requires : goal.unwrap-slot-requires
 unwrap-slot-requires c =
     let id = c.begin_transaction-id.result in
     let x = transaction_of c.args.dialogue.now.transaction in
-    ap is_some (slot_there c.begin_transaction-id.new.transactions id x c.slot.result (open_when_begun c.args.transactions.now c.begin_transaction-id.new.transactions id x c.begin_transaction-id.ensures) c.slot.ensures.slot)
+    ap is_some (slot_there c.begin_transaction-id.new.transactions id x c.slot.result
+    (open_when_begun c.args.transactions.now c.begin_transaction-id.new.transactions id x c.begin_transaction-id.ensures) c.slot.ensures.slot)

@@ -1,4 +1,4 @@
-use Rattle.std.proofs.Common.{◌≡◌, sym, ap, ◌∙◌}
+use Rattle.std.proofs.Common.{sym, ap, ◌∙◌}
 use Rattle.std.specs.Prelude.{option_map}
 use Rattle.dialogues.specs.Dialogues.{dialogues_of, invocations_in}
 use Rattle.dialogues.specs.Seen.{dialogue_with}

@@ -1,6 +1,6 @@
 use Rattle.std.proofs.Common.{map, ◌∙◌, ap}
 use Rattle.mapctx.specs.Seen.{context}
-use Rattle.mapdlg.specs.Accepting.{decision}
+use Rattle.outgoing.specs.Accepting.{decision}
 use Rattle.q773_comp.specs.Seen.{component}
 use Rattle.msgarena.specs.Seen.{parameter}
 use Rattle.location.proofs.BeginLemmas.{none_go}

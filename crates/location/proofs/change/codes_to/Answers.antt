@@ -17,4 +17,5 @@ returns-in-Some-clause-leaves c = λ here own is.
       opens = Some (c.data_to.ensures here (ap (λ (s : Subscriber). s.imsi) view ∙ own) i);
       sent = c.data_begin.ensures here own i;
     })
-    ∙ codes_told here (machine_subscriber c.args.subscriber.now) c.args.codes.now c.args.new (machine_register c.in-Some.register) (option_map machine_register c.args.subscriber.now.register) registered not_purged
+    ∙ codes_told here (machine_subscriber c.args.subscriber.now) c.args.codes.now c.args.new (machine_register c.in-Some.register)
+    (option_map machine_register c.args.subscriber.now.register) registered not_purged

@@ -12,5 +12,6 @@ returns-clause-leaves c = λ here own is.
     let next : c.to_last-next.result ≡ to_last (option_map machine_register c.args.subscriber.now.register) =
     c.to_last-next.ensures ∙ ap (λ (s : Subscriber). to_last (option_map machine_register s.register)) view in
     c.then_cancel.ensures.leaves here None [] (ap (λ (s : Subscriber). s.imsi) view ∙ own)
-    ∙ (λ i. then_cancel here (option_map (λ (s : machine.Subscriber). record s { register = None; purged = false; current = None; withdrawn = true }) (is i)) [] (next i) c.args.new)
+    ∙ (λ i. then_cancel here (option_map (λ (s : machine.Subscriber). record s { register = None; purged = false; current = None; withdrawn = true }) (is i)) []
+    (next i) c.args.new)
     ∙ withdrawn_is here c.args.new (machine_subscriber c.args.subscriber.now) (option_map machine_register c.args.subscriber.now.register)

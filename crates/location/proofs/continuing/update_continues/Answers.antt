@@ -11,10 +11,13 @@ use Rattle.location.proofs.continuing.update_continues.Goals as goal
 pub returns-in-HasFailed-clause-leaves : goal.returns-in-HasFailed-clause-leaves
 returns-in-HasFailed-clause-leaves c = λ here vs after own hlr is.
     c.update_fails.ensures.leaves here (Some (dialogue_with after c.args.dialogue.now)) vs is
-    ∙ ap (λ (k : Conclusion). update_continues here c.args.id (dialogue_with vs c.args.dialogue.now) (register_of c.args.update.register) c.args.update.invoke (effect_with after c.args.effect) (concluded k) c.args.new) (sym c.in-HasFailed.is)
+    ∙ ap (λ (k : Conclusion). update_continues here c.args.id (dialogue_with vs c.args.dialogue.now) (register_of c.args.update.register) c.args.update.invoke
+    (effect_with after c.args.effect) (concluded k) c.args.new) (sym c.in-HasFailed.is)
 
 pub returns-in-HasSucceeded-clause-leaves : goal.returns-in-HasSucceeded-clause-leaves
 returns-in-HasSucceeded-clause-leaves c = λ here vs after own hlr is.
     c.update_completes.ensures.leaves here (Some (dialogue_with after c.args.dialogue.now)) vs own hlr is
-    ∙ ap (update_completes here c.args.id (dialogue_with vs c.args.dialogue.now) (register_of c.args.update.register) c.args.update.invoke (map rejection c.args.effect.rejects.items) c.args.new) (sym is)
-    ∙ ap (λ (k : Conclusion). update_continues here c.args.id (dialogue_with vs c.args.dialogue.now) (register_of c.args.update.register) c.args.update.invoke (effect_with after c.args.effect) (concluded k) c.args.new) (sym c.in-HasSucceeded.is)
+    ∙ ap (update_completes here c.args.id (dialogue_with vs c.args.dialogue.now) (register_of c.args.update.register) c.args.update.invoke
+    (map rejection c.args.effect.rejects.items) c.args.new) (sym is)
+    ∙ ap (λ (k : Conclusion). update_continues here c.args.id (dialogue_with vs c.args.dialogue.now) (register_of c.args.update.register) c.args.update.invoke
+    (effect_with after c.args.effect) (concluded k) c.args.new) (sym c.in-HasSucceeded.is)

@@ -21,6 +21,7 @@ returns c =
     let put_so = c.put.ensures s there in
     recoded_as c.args.records.now c.put.new.self c.args.imsi.now c.args.codes.items s c.found.inside.withdrawn put_so
     c.set.new.self c.found.inside.register c.found.inside.purged there
-    (ap (λ (r : Subscriber). r.register) c.found.view_is) (ap (λ (r : Subscriber). r.purged) c.found.view_is) (ap (λ (r : Subscriber). r.withdrawn) c.found.view_is)
+    (ap (λ (r : Subscriber). r.register) c.found.view_is) (ap (λ (r : Subscriber). r.purged) c.found.view_is)
+    (ap (λ (r : Subscriber). r.withdrawn) c.found.view_is)
     (c.set.ensures (allowed s c.args.codes.items c.found.inside.withdrawn)
     (put_there c.args.records.now c.put.new.self c.args.imsi.now c.args.codes.items s c.found.inside.withdrawn put_so))

@@ -10,8 +10,10 @@ returns-in-Same c = same_written c.args.codes.items c.args.after c.args.imsi c.i
 
 pub returns-in-Location : goal.returns-in-Location
 returns-in-Location c =
-    written_by c.args.codes.items c.args.after (Location c.in-Location.register c.in-Location.purged c.in-Location.current) c.args.imsi c.in-Some.imsi c.args.records.now c.set.new.self
-    (λ s. placed s c.in-Location.register c.in-Location.purged c.in-Location.current) c.in-Some.is c.in-Location.is (λ e. absurd (cc e)) c.requires.writable (λ s. refl) c.set.ensures
+    written_by c.args.codes.items c.args.after
+    (Location c.in-Location.register c.in-Location.purged c.in-Location.current) c.args.imsi c.in-Some.imsi c.args.records.now c.set.new.self
+    (λ s. placed s c.in-Location.register c.in-Location.purged c.in-Location.current) c.in-Some.is c.in-Location.is (λ e. absurd (cc e)) c.requires.writable
+    (λ s. refl) c.set.ensures
 
 pub returns-in-Withdrawn : goal.returns-in-Withdrawn
 returns-in-Withdrawn c =

@@ -11,4 +11,5 @@ pub invariant_of-self-2 : goal.invariant_of-self-2
 invariant_of-self-2 c =
     let i = c.self.inside in
     have_forgotten i.lists i.deadlines c.args.id c.self.invariant c.clear_gone.new.deadlines
-    (λ k. c.clear_gone.ensures k ∙ ap (λ vs. cond (is_gone c.args.id vs [] k) None (finite.get i.deadlines k)) (c.deref.ensures.value ∙ c.in-Some.ensures.were)) c.remove.new.self c.in-Some.ensures.removed
+    (λ k. c.clear_gone.ensures k ∙ ap (λ vs. cond (is_gone c.args.id vs [] k) None (finite.get i.deadlines k))
+    (c.deref.ensures.value ∙ c.in-Some.ensures.were)) c.remove.new.self c.in-Some.ensures.removed

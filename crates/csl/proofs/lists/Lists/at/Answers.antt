@@ -11,7 +11,8 @@ returns-in-Some-clause-value c =
 
 pub returns-in-Some-clause-rising : goal.returns-in-Some-clause-rising
 returns-in-Some-clause-rising c =
-    let it = c.as_slice.ensures.value ∙ ap (λ o. list_in (items_in o)) c.in-Some.ensures.value ∙ sym (ap list_in (get_lists c.self.inside.by_dialogue c.args.id)) in
+    let it = c.as_slice.ensures.value ∙ ap (λ o. list_in (items_in o)) c.in-Some.ensures.value
+    ∙ sym (ap list_in (get_lists c.self.inside.by_dialogue c.args.id)) in
     subst AreRising (sym it) (rising_at _ c.args.id c.self.invariant)
 
 pub returns-in-None-clause-value : goal.returns-in-None-clause-value

@@ -5,7 +5,8 @@ use Rattle.csl.proofs.lists.Lists.remove.Goals as goal
 
 pub invariant_of-self : goal.invariant_of-self
 invariant_of-self c =
-    subst AreStored (sym (is_written c.self.inside.by_dialogue c.remove.new.self c.args.id None [] c.remove.ensures.updates.0 refl)) (stored_put _ c.args.id [] c.self.invariant tt)
+    subst AreStored (sym (is_written c.self.inside.by_dialogue c.remove.new.self c.args.id None [] c.remove.ensures.updates.0 refl))
+    (stored_put _ c.args.id [] c.self.invariant tt)
 
 pub returns-clause-removed : goal.returns-clause-removed
 returns-clause-removed c =

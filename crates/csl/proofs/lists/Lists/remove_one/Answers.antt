@@ -13,53 +13,76 @@ pub returns-in_default-clause-removed : goal.returns-in_default-clause-removed
 returns-in_default-clause-removed c =
     let stored = subst AreStored c.self.view_is c.self.invariant in
     let none = list_got c.self.inside.by_dialogue c.args.self.now c.args.id None c.in_default.ensures.value c.self.view_is in
-    ap lists_of c.get_mut.follows.holds-at-none ∙ c.self.view_is ∙ put_without_none c.args.self.now c.args.id c.args.invoke stored (subst (NoneHas c.args.invoke) none tt)
+    ap lists_of c.get_mut.follows.holds-at-none ∙ c.self.view_is
+    ∙ put_without_none c.args.self.now c.args.id c.args.invoke stored (subst (NoneHas c.args.invoke) none tt)
 
 pub invariant_of-self-in_default-place_of : goal.invariant_of-self-in_default-place_of
 invariant_of-self-in_default-place_of c =
-    subst AreStored (sym (unwritten c.self.inside.by_dialogue (c.get_mut.follows.lender c.in-Some.list.now) c.args.id c.in-Some.list.now c.in-Some.ensures.value (c.get_mut.follows.holds c.in-Some.list.now))) c.self.invariant
+    subst AreStored (sym (unwritten c.self.inside.by_dialogue (c.get_mut.follows.lender c.in-Some.list.now) c.args.id c.in-Some.list.now c.in-Some.ensures.value
+    (c.get_mut.follows.holds c.in-Some.list.now))) c.self.invariant
 
 pub returns-in_default-place_of-clause-removed : goal.returns-in_default-place_of-clause-removed
 returns-in_default-place_of-clause-removed c =
     let fits = c.ranges.invoke in
     let stored = subst AreStored c.self.view_is c.self.invariant in
     let got = list_got c.self.inside.by_dialogue c.args.self.now c.args.id (Some c.in-Some.list.now) c.in-Some.ensures.value c.self.view_is in
-    let none = none_of c.args.invoke c.in-Some.list.now.items (sym (simp (c.deref.ensures.value, to_z-of_z) at c.place_of.ensures) ∙ c.in_default-place_of.is) in
-    unwritten c.self.inside.by_dialogue (c.get_mut.follows.lender c.in-Some.list.now) c.args.id c.in-Some.list.now c.in-Some.ensures.value (c.get_mut.follows.holds c.in-Some.list.now) ∙ c.self.view_is
+    let none = none_of c.args.invoke c.in-Some.list.now.items (sym (simp (c.deref.ensures.value, to_z-of_z) at c.place_of.ensures)
+    ∙ c.in_default-place_of.is) in
+    unwritten c.self.inside.by_dialogue (c.get_mut.follows.lender c.in-Some.list.now) c.args.id c.in-Some.list.now c.in-Some.ensures.value
+    (c.get_mut.follows.holds c.in-Some.list.now) ∙ c.self.view_is
     ∙ put_without_none c.args.self.now c.args.id c.args.invoke stored (subst (NoneHas c.args.invoke) got none)
 
 pub invariant_of-self-then-is_empty : goal.invariant_of-self-then-is_empty
 invariant_of-self-then-is_empty c =
-    subst AreStored (sym (emptied c.self.inside.by_dialogue (c.get_mut.follows.lender c.remove.new.self) c.remove-then-is_empty.new.self c.args.id c.in-Some.list.now c.remove.new.self c.in-Some.ensures.value (c.get_mut.follows.holds c.remove.new.self) c.remove-then-is_empty.ensures.updates.0))
+    subst AreStored (sym
+    (emptied c.self.inside.by_dialogue
+    (c.get_mut.follows.lender c.remove.new.self) c.remove-then-is_empty.new.self c.args.id c.in-Some.list.now c.remove.new.self c.in-Some.ensures.value
+    (c.get_mut.follows.holds c.remove.new.self) c.remove-then-is_empty.ensures.updates.0))
     (stored_put _ c.args.id [] c.self.invariant tt)
 
 pub invariant_of-self-else-is_empty : goal.invariant_of-self-else-is_empty
 invariant_of-self-else-is_empty c =
     let fits = c.ranges.invoke in
-    let less = without_at c.args.invoke c.in-Some.list.now.items c.in-Some-place_of.place (sym (simp (c.deref.ensures.value, to_z-of_z) at c.place_of.ensures) ∙ c.in-Some-place_of.is) in
+    let less = without_at c.args.invoke c.in-Some.list.now.items c.in-Some-place_of.place
+    (sym (simp (c.deref.ensures.value, to_z-of_z) at c.place_of.ensures) ∙ c.in-Some-place_of.is) in
     let some = items_some c.remove.new.self.items _ c.remove.new.self.ok.0 (sym c.is_empty.ensures ∙ c.if-is_empty.false) in
-    let rising = subst AreRising (sym (c.remove.ensures.items ∙ less)) (rising_without c.args.invoke c.in-Some.list.now.items (subst AreRising (sym (list_got c.self.inside.by_dialogue (lists_of c.self.inside.by_dialogue) c.args.id (Some c.in-Some.list.now) c.in-Some.ensures.value refl)) (rising_at (lists_of c.self.inside.by_dialogue) c.args.id c.self.invariant))) in
-    subst AreStored (sym (is_written c.self.inside.by_dialogue (c.get_mut.follows.lender c.remove.new.self) c.args.id (Some c.remove.new.self) c.remove.new.self.items (through c.self.inside.by_dialogue (c.get_mut.follows.lender c.remove.new.self) c.args.id c.in-Some.list.now c.remove.new.self c.in-Some.ensures.value (c.get_mut.follows.holds c.remove.new.self)) some))
+    let rising = subst AreRising (sym (c.remove.ensures.items ∙ less))
+    (rising_without c.args.invoke c.in-Some.list.now.items
+    (subst AreRising (sym (list_got c.self.inside.by_dialogue (lists_of c.self.inside.by_dialogue) c.args.id
+    (Some c.in-Some.list.now) c.in-Some.ensures.value refl)) (rising_at (lists_of c.self.inside.by_dialogue) c.args.id c.self.invariant))) in
+    subst AreStored (sym (is_written c.self.inside.by_dialogue (c.get_mut.follows.lender c.remove.new.self) c.args.id
+    (Some c.remove.new.self) c.remove.new.self.items (through c.self.inside.by_dialogue
+    (c.get_mut.follows.lender c.remove.new.self) c.args.id c.in-Some.list.now c.remove.new.self c.in-Some.ensures.value
+    (c.get_mut.follows.holds c.remove.new.self)) some))
     (stored_put _ c.args.id c.remove.new.self.items c.self.invariant rising)
 
 pub returns-then-is_empty-clause-removed : goal.returns-then-is_empty-clause-removed
 returns-then-is_empty-clause-removed c =
     let fits = c.ranges.invoke in
     let got = list_got c.self.inside.by_dialogue c.args.self.now c.args.id (Some c.in-Some.list.now) c.in-Some.ensures.value c.self.view_is in
-    let less = without_at c.args.invoke c.in-Some.list.now.items c.in-Some-place_of.place (sym (simp (c.deref.ensures.value, to_z-of_z) at c.place_of.ensures) ∙ c.in-Some-place_of.is) in
+    let less = without_at c.args.invoke c.in-Some.list.now.items c.in-Some-place_of.place
+    (sym (simp (c.deref.ensures.value, to_z-of_z) at c.place_of.ensures) ∙ c.in-Some-place_of.is) in
     let none = items_none c.remove.new.self.items _ c.remove.new.self.ok.0 (sym c.is_empty.ensures ∙ c.if-is_empty.true) in
-    let is = emptied c.self.inside.by_dialogue (c.get_mut.follows.lender c.remove.new.self) c.remove-then-is_empty.new.self c.args.id c.in-Some.list.now c.remove.new.self c.in-Some.ensures.value (c.get_mut.follows.holds c.remove.new.self) c.remove-then-is_empty.ensures.updates.0
-    ∙ ap (λ (l : InvocationLists). put_list l c.args.id []) c.self.view_is ∙ ap (put_list c.args.self.now c.args.id) (sym none ∙ c.remove.ensures.items ∙ less ∙ ap (without c.args.invoke) got) in
+    let is = emptied c.self.inside.by_dialogue
+    (c.get_mut.follows.lender c.remove.new.self) c.remove-then-is_empty.new.self c.args.id c.in-Some.list.now c.remove.new.self c.in-Some.ensures.value
+    (c.get_mut.follows.holds c.remove.new.self) c.remove-then-is_empty.ensures.updates.0
+    ∙ ap (λ (l : InvocationLists). put_list l c.args.id []) c.self.view_is
+    ∙ ap (put_list c.args.self.now c.args.id) (sym none ∙ c.remove.ensures.items ∙ less ∙ ap (without c.args.invoke) got) in
     elim c.match-remove.branch [ in-Some-1 w ↦ w.self-is ∙ is | in-None-1 w ↦ w.self-is ∙ is ]
 
 pub returns-else-is_empty-clause-removed : goal.returns-else-is_empty-clause-removed
 returns-else-is_empty-clause-removed c =
     let fits = c.ranges.invoke in
     let got = list_got c.self.inside.by_dialogue c.args.self.now c.args.id (Some c.in-Some.list.now) c.in-Some.ensures.value c.self.view_is in
-    let less = without_at c.args.invoke c.in-Some.list.now.items c.in-Some-place_of.place (sym (simp (c.deref.ensures.value, to_z-of_z) at c.place_of.ensures) ∙ c.in-Some-place_of.is) in
+    let less = without_at c.args.invoke c.in-Some.list.now.items c.in-Some-place_of.place
+    (sym (simp (c.deref.ensures.value, to_z-of_z) at c.place_of.ensures) ∙ c.in-Some-place_of.is) in
     let some = items_some c.remove.new.self.items _ c.remove.new.self.ok.0 (sym c.is_empty.ensures ∙ c.if-is_empty.false) in
-    is_written c.self.inside.by_dialogue (c.get_mut.follows.lender c.remove.new.self) c.args.id (Some c.remove.new.self) c.remove.new.self.items (through c.self.inside.by_dialogue (c.get_mut.follows.lender c.remove.new.self) c.args.id c.in-Some.list.now c.remove.new.self c.in-Some.ensures.value (c.get_mut.follows.holds c.remove.new.self)) some
-    ∙ ap (λ (l : InvocationLists). put_list l c.args.id c.remove.new.self.items) c.self.view_is ∙ ap (put_list c.args.self.now c.args.id) (c.remove.ensures.items ∙ less ∙ ap (without c.args.invoke) got)
+    is_written c.self.inside.by_dialogue (c.get_mut.follows.lender c.remove.new.self) c.args.id (Some c.remove.new.self) c.remove.new.self.items
+    (through c.self.inside.by_dialogue
+    (c.get_mut.follows.lender c.remove.new.self) c.args.id c.in-Some.list.now c.remove.new.self c.in-Some.ensures.value
+    (c.get_mut.follows.holds c.remove.new.self)) some
+    ∙ ap (λ (l : InvocationLists). put_list l c.args.id c.remove.new.self.items) c.self.view_is
+    ∙ ap (put_list c.args.self.now c.args.id) (c.remove.ensures.items ∙ less ∙ ap (without c.args.invoke) got)
 
 pub returns-in_default-clause-rising : goal.returns-in_default-clause-rising
 returns-in_default-clause-rising c = rising_at c.args.self.now c.args.id (subst AreStored c.self.view_is c.self.invariant)

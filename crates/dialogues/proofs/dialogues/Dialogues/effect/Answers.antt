@@ -10,5 +10,6 @@ use Rattle.dialogues.proofs.dialogues.Dialogues.effect.Goals as goal
 pub returns : goal.returns
 returns g c =
     let i = c.self.inside in
-    subst (λ (vs : List Invocation). IfOk c.effect.result (λ answer. IsEffect answer (effect {P = g.row.P.Denot} c.args.now (offered c.args.offer.now) vs (map heard c.args.components.now))))
+    subst (λ (vs : List Invocation). IfOk c.effect.result (λ answer. IsEffect answer
+    (effect {P = g.row.P.Denot} c.args.now (offered c.args.offer.now) vs (map heard c.args.components.now))))
     (invocations_got i.transactions i.invocations i.talks.items c.args.self.now c.args.id c.self.view_is c.self.invariant) c.effect.ensures

@@ -17,7 +17,8 @@ pub returns-in_err-invoke_each-clause-err : goal.returns-in_err-invoke_each-clau
 returns-in_err-invoke_each-clause-err c =
     let i = c.self.inside in
     on_err c.from_residual-in_err-invoke_each.result
-    (rw c.in_err-invoke_each.ensures.err (still i.transactions c.reserve.new.transactions i.invocations i.talks.items c.make_room.new.talks.items c.args.self.now c.self.invariant c.self.view_is c.reserve.ensures.ok c.make_room.ensures.kept))
+    (rw c.in_err-invoke_each.ensures.err
+    (still i.transactions c.reserve.new.transactions i.invocations i.talks.items c.make_room.new.talks.items c.args.self.now c.self.invariant c.self.view_is c.reserve.ensures.ok c.make_room.ensures.kept))
 
 pub invariant_of-self-2 : goal.invariant_of-self-2
 invariant_of-self-2 c =
@@ -25,7 +26,8 @@ invariant_of-self-2 c =
     let id = c.begin.result in
     let x = transaction_of c.args.dialogue.now.transaction in
     let vs = first_invoked c.args.now (c.args.invokes - 1) in
-    let one = begun_next i.transactions c.reserve.new.transactions c.begin.new.transactions c.unwrap-id.result id x (sym c.next_id.ensures.value ∙ c.unwrap-id.ensures) c.reserve.ensures.ok c.begin.ensures.begun in
+    let one = begun_next i.transactions c.reserve.new.transactions c.begin.new.transactions c.unwrap-id.result id x
+    (sym c.next_id.ensures.value ∙ c.unwrap-id.ensures) c.reserve.ensures.ok c.begin.ensures.begun in
     let invoked = subst (λ (k : List ℕ). c.invoke_each.new.self ≡ put_list i.invocations k vs) one c.in_ok-invoke_each.ensures.ok in
     let roomy = subst (λ (n : ℕ). n < length c.make_room.new.talks.items) (c.slot_of.ensures ∙ ap slot_of one) c.in_ok-make_room.ensures.room in
     let place = place_for_one i.transactions c.next_id.result c.unwrap-id.result c.unwrap-id.ensures c.next_id.ensures.none c.self.invariant.few in
@@ -39,7 +41,8 @@ returns-clause-opened c =
     let id = c.begin.result in
     let x = transaction_of c.args.dialogue.now.transaction in
     let vs = first_invoked c.args.now (c.args.invokes - 1) in
-    let one = begun_next i.transactions c.reserve.new.transactions c.begin.new.transactions c.unwrap-id.result id x (sym c.next_id.ensures.value ∙ c.unwrap-id.ensures) c.reserve.ensures.ok c.begin.ensures.begun in
+    let one = begun_next i.transactions c.reserve.new.transactions c.begin.new.transactions c.unwrap-id.result id x
+    (sym c.next_id.ensures.value ∙ c.unwrap-id.ensures) c.reserve.ensures.ok c.begin.ensures.begun in
     let invoked = subst (λ (k : List ℕ). c.invoke_each.new.self ≡ put_list i.invocations k vs) one c.in_ok-invoke_each.ensures.ok in
     let roomy = subst (λ (n : ℕ). n < length c.make_room.new.talks.items) (c.slot_of.ensures ∙ ap slot_of one) c.in_ok-make_room.ensures.room in
     let place = place_for_one i.transactions c.next_id.result c.unwrap-id.result c.unwrap-id.ensures c.next_id.ensures.none c.self.invariant.few in

@@ -23,7 +23,8 @@ pub returns-in_err-invoke_each-clause-err : goal.returns-in_err-invoke_each-clau
 returns-in_err-invoke_each-clause-err c =
     let i = c.self.inside in
     on_err c.from_residual-in_err-invoke_each.result
-    (rw c.in_err-invoke_each.ensures.err (still i.transactions i.transactions i.invocations i.talks.items c.make_room.new.talks.items c.args.self.now c.self.invariant c.self.view_is refl c.make_room.ensures.kept))
+    (rw c.in_err-invoke_each.ensures.err
+    (still i.transactions i.transactions i.invocations i.talks.items c.make_room.new.talks.items c.args.self.now c.self.invariant c.self.view_is refl c.make_room.ensures.kept))
 
 pub close-requires : goal.close-requires
 close-requires c =
@@ -40,12 +41,17 @@ invariant_of-self-2 c =
     let next = ap (λ (u : OpenTransactions). u.next) c.close.ensures.closed ∙ ap Some (sym c.next_after-next.ensures.value) in
     let one = begun_next t t c.begin.new.transactions c.next_after-next.result id x next refl c.begin.ensures.begun in
     let invoked = subst (λ (k : List ℕ). c.invoke_each.new.self ≡ put_list i.invocations k vs) one c.in_ok-invoke_each.ensures.ok in
-    let apart = next_apart i.transactions c.args.id id (subst (λ (k : List ℕ). MayBegin (closed i.transactions c.args.id) k) one c.next_after-next.ensures.may) in
+    let apart = next_apart i.transactions c.args.id id (subst (λ
+    (k : List ℕ). MayBegin (closed i.transactions c.args.id) k) one c.next_after-next.ensures.may) in
     let roomy = subst (λ (n : ℕ). n < length c.make_room.new.talks.items) (c.slot_of.ensures ∙ ap slot_of one) c.in_ok-make_room.ensures.room in
     let some = open_here i.transactions i.invocations i.talks.items c.args.self.now c.args.id c.self.view_is c.requires.is_open in
-    let place = place_after c.args.id i.transactions t i.invocations (put_list i.invocations c.args.id []) i.talks.items c.close.ensures.closed refl c.self.invariant some in
-    let tied = tied_closed c.args.id i.transactions t i.invocations (put_list i.invocations c.args.id []) i.talks.items c.close.ensures.closed refl c.self.invariant some in
-    tied_opened id t t c.begin.new.transactions (put_list i.invocations c.args.id []) c.close.new.invocations i.talks.items c.make_room.new.talks.items c.begin.new.talks.items x vs (talk_in c.args.dialogue.now) refl c.begin.ensures.begun c.begin.ensures.own_slots c.begin.ensures.kept
+    let place = place_after c.args.id i.transactions t i.invocations
+    (put_list i.invocations c.args.id []) i.talks.items c.close.ensures.closed refl c.self.invariant some in
+    let tied = tied_closed c.args.id i.transactions t i.invocations
+    (put_list i.invocations c.args.id []) i.talks.items c.close.ensures.closed refl c.self.invariant some in
+    tied_opened id t t c.begin.new.transactions
+    (put_list i.invocations c.args.id []) c.close.new.invocations i.talks.items c.make_room.new.talks.items c.begin.new.talks.items x vs
+    (talk_in c.args.dialogue.now) refl c.begin.ensures.begun c.begin.ensures.own_slots c.begin.ensures.kept
     (invocations_replaced c.args.id id apart vs i.invocations c.invoke_each.new.self c.close.new.invocations invoked c.close.ensures.forgotten)
     tied place roomy c.make_room.ensures.longer c.make_room.ensures.kept
 
@@ -59,13 +65,19 @@ returns-clause-replaced c =
     let next = ap (λ (u : OpenTransactions). u.next) c.close.ensures.closed ∙ ap Some (sym c.next_after-next.ensures.value) in
     let one = begun_next t t c.begin.new.transactions c.next_after-next.result id x next refl c.begin.ensures.begun in
     let invoked = subst (λ (k : List ℕ). c.invoke_each.new.self ≡ put_list i.invocations k vs) one c.in_ok-invoke_each.ensures.ok in
-    let apart = next_apart i.transactions c.args.id id (subst (λ (k : List ℕ). MayBegin (closed i.transactions c.args.id) k) one c.next_after-next.ensures.may) in
+    let apart = next_apart i.transactions c.args.id id (subst (λ
+    (k : List ℕ). MayBegin (closed i.transactions c.args.id) k) one c.next_after-next.ensures.may) in
     let roomy = subst (λ (n : ℕ). n < length c.make_room.new.talks.items) (c.slot_of.ensures ∙ ap slot_of one) c.in_ok-make_room.ensures.room in
     let some = open_here i.transactions i.invocations i.talks.items c.args.self.now c.args.id c.self.view_is c.requires.is_open in
-    let place = place_after c.args.id i.transactions t i.invocations (put_list i.invocations c.args.id []) i.talks.items c.close.ensures.closed refl c.self.invariant some in
-    let tied = tied_closed c.args.id i.transactions t i.invocations (put_list i.invocations c.args.id []) i.talks.items c.close.ensures.closed refl c.self.invariant some in
-    let first = dialogues_closed c.args.id i.transactions t i.invocations (put_list i.invocations c.args.id []) i.talks.items c.close.ensures.closed refl c.args.self.now c.self.view_is in
-    dialogues_opened id t t c.begin.new.transactions (put_list i.invocations c.args.id []) c.close.new.invocations i.talks.items c.make_room.new.talks.items c.begin.new.talks.items x vs (talk_in c.args.dialogue.now) refl c.begin.ensures.begun c.begin.ensures.own_slots c.begin.ensures.kept
+    let place = place_after c.args.id i.transactions t i.invocations
+    (put_list i.invocations c.args.id []) i.talks.items c.close.ensures.closed refl c.self.invariant some in
+    let tied = tied_closed c.args.id i.transactions t i.invocations
+    (put_list i.invocations c.args.id []) i.talks.items c.close.ensures.closed refl c.self.invariant some in
+    let first = dialogues_closed c.args.id i.transactions t i.invocations
+    (put_list i.invocations c.args.id []) i.talks.items c.close.ensures.closed refl c.args.self.now c.self.view_is in
+    dialogues_opened id t t c.begin.new.transactions
+    (put_list i.invocations c.args.id []) c.close.new.invocations i.talks.items c.make_room.new.talks.items c.begin.new.talks.items x vs
+    (talk_in c.args.dialogue.now) refl c.begin.ensures.begun c.begin.ensures.own_slots c.begin.ensures.kept
     (invocations_replaced c.args.id id apart vs i.invocations c.invoke_each.new.self c.close.new.invocations invoked c.close.ensures.forgotten)
     tied place roomy c.make_room.ensures.longer c.make_room.ensures.kept (joined t (put_list i.invocations c.args.id []) i.talks.items) refl
     ∙ ap (λ (D : List ℕ → Option machine.Dialogue). put D id (Some (dialogue_from (talk_in c.args.dialogue.now) vs x))) first

@@ -7,7 +7,8 @@ use Rattle.hlrcore.proofs.state.State.step.Goals as goal
 
 pub invariant_of-self : goal.invariant_of-self
 invariant_of-self c =
-    sound_after c.step.result c.self.inside.stepper c.step.new.self (raw_of c.args.event.now) c.self.invariant c.step.ensures.stepped c.step.ensures.routed c.step.ensures.err
+    sound_after c.step.result c.self.inside.stepper c.step.new.self
+    (raw_of c.args.event.now) c.self.invariant c.step.ensures.stepped c.step.ensures.routed c.step.ensures.err
     c.step.ensures.same_shard
 
 pub returns-clause-stepped : goal.returns-clause-stepped

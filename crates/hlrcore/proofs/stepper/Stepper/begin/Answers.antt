@@ -12,7 +12,8 @@ pub returns-then-not-has_room-clause-received : goal.returns-then-not-has_room-c
 returns-then-not-has_room-clause-received c =
     let none : c.has_room.result ≡ false = search rules in
     then_ok c.aborted.result
-    (λ a says. begin_refused c.self.inside.shard c.args.self.now c.args.indication.now c.from-from.result c.args.origin (map (component parameter) c.args.components.now) c.in_ok-plan.plan a
+    (λ a says. begin_refused c.self.inside.shard c.args.self.now c.args.indication.now c.from-from.result c.args.origin
+    (map (component parameter) c.args.components.now) c.in_ok-plan.plan a
     c.self.view_is c.requires.mine c.requires.begin c.from-from.ensures c.in_ok-plan.ensures (c.has_room.ensures.full.0 none) says)
     c.aborted.ensures
 
@@ -20,6 +21,8 @@ pub returns-clause-received : goal.returns-clause-received
 returns-clause-received c =
     let some : c.has_room.result ≡ true = search rules in
     both_ok c.settle.result
-    (λ a settled says. begin_taken c.self.inside.shard c.args.self.now c.settle.new.self c.args.indication.now c.args.origin (map (component parameter) c.args.components.now) c.in_ok-plan.plan a
-    c.self.view_is c.requires.mine c.requires.begin c.in_ok-plan.ensures c.settle.ensures.own (search rules) (has_no c.has_room.result some c.has_room.ensures.full.1) (settled, says))
+    (λ a settled says. begin_taken c.self.inside.shard c.args.self.now c.settle.new.self c.args.indication.now c.args.origin
+    (map (component parameter) c.args.components.now) c.in_ok-plan.plan a
+    c.self.view_is c.requires.mine c.requires.begin c.in_ok-plan.ensures c.settle.ensures.own (search rules)
+    (has_no c.has_room.result some c.has_room.ensures.full.1) (settled, says))
     c.settle.ensures.settled c.settle.ensures.says

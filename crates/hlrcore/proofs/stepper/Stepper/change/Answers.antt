@@ -18,5 +18,7 @@ returns-then-not-has_room-clause-no_room c = λ _.
 pub returns-clause-changed : goal.returns-clause-changed
 returns-clause-changed c =
     let some : c.has_room.result ≡ true = search rules in
-    change_taken c.self.inside.shard c.args.self.now c.settle.new.self c.args.imsi (said c.args.change.now) c.in_ok-plan.plan c.in_ok-settle.field-0 c.self.view_is c.requires
-    c.in_ok-plan.ensures c.settle.ensures.own (search rules) (has_no c.has_room.result some c.has_room.ensures.full.1) (c.in_ok-settle.ensures.settled, c.in_ok-settle.ensures.says)
+    change_taken c.self.inside.shard c.args.self.now c.settle.new.self c.args.imsi
+    (said c.args.change.now) c.in_ok-plan.plan c.in_ok-settle.field-0 c.self.view_is c.requires
+    c.in_ok-plan.ensures c.settle.ensures.own (search rules) (has_no c.has_room.result some c.has_room.ensures.full.1)
+    (c.in_ok-settle.ensures.settled, c.in_ok-settle.ensures.says)

@@ -1,4 +1,4 @@
-use Rattle.std.proofs.Common.{◌≡◌, ℕ, List, [], None, ◌∙◌, sym, ap, refl, subst}
+use Rattle.std.proofs.Common.{ℕ, List, [], None, ◌∙◌, sym, ap, refl, subst}
 use Rattle.machine.specs.Received.{Discard, Refuse}
 use Rattle.machine.specs.Sent.{SentAbort, Cause}
 use Rattle.machine.specs.Outcome.{send}
@@ -10,7 +10,8 @@ use Rattle.hlrcore.proofs.stepper.Stepper.receive.Goals as goal
 
 pub returns-in-Discard-clause-received : goal.returns-in-Discard-clause-received
 returns-in-Discard-clause-received c =
-    received_as _ c.args.indication.now Discard [] _ (record { routed = c.requires; judged = c.verdict.ensures.judged }) (sym c.verdict.ensures.value ∙ ap seen c.in-Discard.is) (λ d. refl) c.silent.ensures
+    received_as _ c.args.indication.now Discard [] _ (record { routed = c.requires; judged = c.verdict.ensures.judged })
+    (sym c.verdict.ensures.value ∙ ap seen c.in-Discard.is) (λ d. refl) c.silent.ensures
 
 pub returns-in-Refuse-clause-received : goal.returns-in-Refuse-clause-received
 returns-in-Refuse-clause-received c =

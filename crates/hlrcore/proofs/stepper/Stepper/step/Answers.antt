@@ -1,7 +1,7 @@
-use Rattle.std.proofs.Common.{◌≡◌, ℕ, List, rules, sym, ap, ◌∙◌, subst}
+use Rattle.std.proofs.Common.{◌≡◌, ℕ, rules, sym, ap, ◌∙◌, subst}
 use Rattle.machine.specs.Routing.{route}
 use Rattle.std.specs.Prelude.{min, max}
-use Rattle.machine.specs.Numbers.{latest_clock}
+use Rattle.machine.specs.declared.numbers.TheConstants.{MAX_CLOCK}
 use Rattle.frames.specs.Octets.{RawClock, RawExpire}
 use Rattle.shard_state.specs.Shards.{ShardState, directory_of}
 use Rattle.hlrcore.specs.declared.event.Event.{Event}
@@ -17,13 +17,15 @@ receive-requires c =
 
 pub returns-in_ok-receive-in-Frame-clause-stepped : goal.returns-in_ok-receive-in-Frame-clause-stepped
 returns-in_ok-receive-in-Frame-clause-stepped c =
-    subst (λ (e : Event). Leads c.args.self.now (raw_of e) c.in_ok-receive-in-Frame.field-0 c.receive.new.self) (sym c.in-Frame.is) c.in_ok-receive-in-Frame.ensures.received
+    subst (λ (e : Event). Leads c.args.self.now (raw_of e) c.in_ok-receive-in-Frame.field-0 c.receive.new.self)
+    (sym c.in-Frame.is) c.in_ok-receive-in-Frame.ensures.received
 
 pub returns-in-Clock-clause-stepped : goal.returns-in-Clock-clause-stepped
 returns-in-Clock-clause-stepped c =
     let mine : route (directory_of c.args.self.now.directory) (event_of c.args.event.now) ≡ c.args.self.now.shard = search rules in
-    let here : c.in-Clock.shard ≡ c.args.self.now.shard = subst (λ (e : Event). route (directory_of c.args.self.now.directory) (event_of e) ≡ c.args.self.now.shard) c.in-Clock.is mine in
-    let ticked = c.tick.ensures ∙ ap (λ (s : ShardState). record s { clock = max s.clock (min c.in-Clock.now latest_clock) }) c.self.view_is in
+    let here : c.in-Clock.shard ≡ c.args.self.now.shard = subst (λ
+    (e : Event). route (directory_of c.args.self.now.directory) (event_of e) ≡ c.args.self.now.shard) c.in-Clock.is mine in
+    let ticked = c.tick.ensures ∙ ap (λ (s : ShardState). record s { clock = max s.clock (min c.in-Clock.now MAX_CLOCK) }) c.self.view_is in
     subst (λ (e : Event). Leads c.args.self.now (raw_of e) c.silent.result c.tick.new.self) (sym c.in-Clock.is)
     (subst (Leads c.args.self.now (RawClock c.in-Clock.shard c.in-Clock.now) c.silent.result) (sym ticked)
     (tick_step c.args.self.now c.in-Clock.shard c.in-Clock.now c.silent.result here c.silent.ensures))
@@ -31,10 +33,13 @@ returns-in-Clock-clause-stepped c =
 pub returns-in_ok-expire-in-Expire-clause-stepped : goal.returns-in_ok-expire-in-Expire-clause-stepped
 returns-in_ok-expire-in-Expire-clause-stepped c =
     let mine : route (directory_of c.args.self.now.directory) (event_of c.args.event.now) ≡ c.args.self.now.shard = search rules in
-    let here : c.in-Expire.shard ≡ c.args.self.now.shard = subst (λ (e : Event). route (directory_of c.args.self.now.directory) (event_of e) ≡ c.args.self.now.shard) c.in-Expire.is mine in
+    let here : c.in-Expire.shard ≡ c.args.self.now.shard = subst
+    (λ (e : Event). route (directory_of c.args.self.now.directory) (event_of e) ≡ c.args.self.now.shard) c.in-Expire.is mine in
     subst (λ (e : Event). Leads c.args.self.now (raw_of e) c.in_ok-expire-in-Expire.field-0 c.expire.new.self) (sym c.in-Expire.is)
-    (subst (λ (n : ℕ). Leads c.args.self.now (RawExpire n) c.in_ok-expire-in-Expire.field-0 c.expire.new.self) (sym here) c.in_ok-expire-in-Expire.ensures.expired)
+    (subst (λ (n : ℕ). Leads c.args.self.now (RawExpire n) c.in_ok-expire-in-Expire.field-0 c.expire.new.self)
+    (sym here) c.in_ok-expire-in-Expire.ensures.expired)
 
 pub returns-in-Change-clause-stepped : goal.returns-in-Change-clause-stepped
 returns-in-Change-clause-stepped c =
-    then_ok c.change.result (λ a changed. subst (λ (e : Event). Leads c.args.self.now (raw_of e) a c.change.new.self) (sym c.in-Change.is) changed) c.change.ensures.changed
+    then_ok c.change.result (λ a changed. subst (λ (e : Event). Leads c.args.self.now (raw_of e) a c.change.new.self)
+    (sym c.in-Change.is) changed) c.change.ensures.changed

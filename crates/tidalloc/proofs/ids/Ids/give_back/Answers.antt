@@ -25,7 +25,12 @@ push_reserved-requires c =
     let live = slot_of_live i.shard i.slots.items c.args.id c.self.invariant.few (ap (λ (v : LiveIds). is_live v c.args.id) c.self.view_is ∙ c.requires) in
     let stands : slice_get i.slots.items (slot_of c.args.id) ≡ Some c.index.result.now =
     slice_get_read i.slots.items _ _ _ refl (within_at i.shard c.args.id i.slots.items _ live) (rw c.slot_of-slot.ensures.value at c.index.ensures) in
-    omega (arith, free_has_room i.shard i.slots.items i.free.items i.freed_last (vec_capacity i.free) c.args.id c.index.result.now c.self.invariant stands live, i.free.ok.0)
+    omega (
+      arith,
+      free_has_room i.shard i.slots.items i.free.items i.freed_last
+          (vec_capacity i.free) c.args.id c.index.result.now c.self.invariant stands live,
+      i.free.ok.0,
+    )
 
 pub invariant_of-self : goal.invariant_of-self
 invariant_of-self c =

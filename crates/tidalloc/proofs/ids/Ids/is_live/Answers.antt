@@ -20,7 +20,8 @@ returns-then-slot c =
     let id = c.args.id in
     c.eq.ensures ∙ pointwise-octets id c.id_at.result ∙ ap (eq_by_cmp octets_cmp id) c.id_at.ensures
     ∙ ap (λ b. b && eq_by_cmp octets_cmp id (id_at i.shard c.slot_of-place.result c.in-Some.slot.now.generation)) (sym c.if-slot.true)
-    ∙ sym (ap (λ (v : LiveIds). is_live v id) (sym c.self.view_is) ∙ live_here i.shard i.slots.items id _ _ c.self.invariant.few c.slot_of-place.ensures.value stands)
+    ∙ sym (ap (λ (v : LiveIds). is_live v id) (sym c.self.view_is)
+    ∙ live_here i.shard i.slots.items id _ _ c.self.invariant.few c.slot_of-place.ensures.value stands)
 
 pub returns-else-slot : goal.returns-else-slot
 returns-else-slot c =
@@ -31,7 +32,8 @@ returns-else-slot c =
     let id = c.args.id in
     c.if-slot.false
     ∙ ap (λ b. b && eq_by_cmp octets_cmp id (id_at i.shard c.slot_of-place.result c.in-Some.slot.now.generation)) (sym c.if-slot.false)
-    ∙ sym (ap (λ (v : LiveIds). is_live v id) (sym c.self.view_is) ∙ live_here i.shard i.slots.items id _ _ c.self.invariant.few c.slot_of-place.ensures.value stands)
+    ∙ sym (ap (λ (v : LiveIds). is_live v id) (sym c.self.view_is)
+    ∙ live_here i.shard i.slots.items id _ _ c.self.invariant.few c.slot_of-place.ensures.value stands)
 
 pub returns-in-None : goal.returns-in-None
 returns-in-None c =

@@ -27,7 +27,8 @@ returns-clause-ok c =
     subst (λ (f : List ℕ). AreSlots i.shard i.slots.items f i.freed_last (vec_capacity i.free)) none c.self.invariant in
     let number : c.len-slot.result ≡ length i.slots.items = omega (arith, c.len-slot.ensures, i.slots.ok.0) in
     let few : length i.slots.items < 4096 = omega (arith, c.if-slot-ge-MAX_IDS.false, number) in
-    let items : c.push_reserved.new.self.items ≡ length i.slots.items ∷ [] = c.push_reserved.ensures.items ∙ ap (λ f. f ++ c.len-slot.result ∷ []) none ∙ ap (λ n. n ∷ []) number in
+    let items : c.push_reserved.new.self.items ≡ length i.slots.items ∷ [] = c.push_reserved.ensures.items ∙ ap (λ f. f ++ c.len-slot.result ∷ []) none
+    ∙ ap (λ n. n ∷ []) number in
     rw (items, c.in_ok-push.ensures.items)
     (ids_of-reserve i.shard i.slots.items i.freed_last (vec_capacity i.free) a few
     ∙ ap (λ (f : List ℕ). record (ids_of i.shard i.slots.items f i.freed_last) { room = 1 }) (sym none)

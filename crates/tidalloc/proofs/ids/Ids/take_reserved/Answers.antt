@@ -10,7 +10,8 @@ use Rattle.tidalloc.proofs.ids.Ids.take_reserved.Goals as goal
 pub invariant_of-self : goal.invariant_of-self
 invariant_of-self c =
     let i = c.self.inside in
-    let items : i.free.items ≡ c.pop.new.self.items ++ c.unwrap.result ∷ [] = c.pop.ensures.items ∙ ap (λ o. c.pop.new.self.items ++ option_to_list o) c.unwrap.ensures in
+    let items : i.free.items ≡ c.pop.new.self.items ++ c.unwrap.result ∷ [] = c.pop.ensures.items
+    ∙ ap (λ o. c.pop.new.self.items ++ option_to_list o) c.unwrap.ensures in
     let a : AreSlots i.shard i.slots.items (c.pop.new.self.items ++ c.unwrap.result ∷ []) i.freed_last (vec_capacity i.free) =
     subst (λ (f : List ℕ). AreSlots i.shard i.slots.items f i.freed_last (vec_capacity i.free)) items c.self.invariant in
     let stands : slice_get i.slots.items c.unwrap.result ≡ Some c.index.result.now =
@@ -21,7 +22,8 @@ invariant_of-self c =
 pub returns-clause-taken : goal.returns-clause-taken
 returns-clause-taken c =
     let i = c.self.inside in
-    let items : i.free.items ≡ c.pop.new.self.items ++ c.unwrap.result ∷ [] = c.pop.ensures.items ∙ ap (λ o. c.pop.new.self.items ++ option_to_list o) c.unwrap.ensures in
+    let items : i.free.items ≡ c.pop.new.self.items ++ c.unwrap.result ∷ [] = c.pop.ensures.items
+    ∙ ap (λ o. c.pop.new.self.items ++ option_to_list o) c.unwrap.ensures in
     let a : AreSlots i.shard i.slots.items (c.pop.new.self.items ++ c.unwrap.result ∷ []) i.freed_last (vec_capacity i.free) =
     subst (λ (f : List ℕ). AreSlots i.shard i.slots.items f i.freed_last (vec_capacity i.free)) items c.self.invariant in
     let stands : slice_get i.slots.items c.unwrap.result ≡ Some c.index.result.now =

@@ -7,7 +7,8 @@ use Rattle.tsl.proofs.transactions.Transactions.next_after.Goals as goal
 pub next_after-requires : goal.next_after-requires
 next_after-requires c =
     let i = c.self.inside in
-    is_live_if_open i.ids i.keys.items i.entries i.room c.self.invariant c.args.id (subst (λ (t : OpenTransactions). at t c.args.id ≢ None) (sym c.self.view_is) c.requires)
+    is_live_if_open i.ids i.keys.items i.entries i.room c.self.invariant c.args.id (subst (λ (t : OpenTransactions). at t c.args.id ≢ None)
+    (sym c.self.view_is) c.requires)
 
 pub returns-clause-may : goal.returns-clause-may
 returns-clause-may c =

@@ -11,12 +11,14 @@ use Rattle.tsl.proofs.ViewLemmas.{count-open_of}
 use Rattle.tsl.proofs.transactions.Transactions.reserve.Goals as goal
 
 -- the fault is of the same reason
-same_reason : (refused : IdFault) (fault : TslFault) (P : Type 0) → fault ≡ fault_of refused → (◌≡◌ {A = Result (Unit {0}) IdFault} (Err refused) (Err of_ids.NoRoom) ↔ P)
+same_reason : (refused : IdFault) (fault : TslFault) (P : Type 0) → fault ≡ fault_of refused
+    → (◌≡◌ {A = Result (Unit {0}) IdFault} (Err refused) (Err of_ids.NoRoom) ↔ P)
     → (◌≡◌ {A = Result (Unit {0}) TslFault} (Err fault) (Err NoRoom) ↔ P)
 same_reason of_ids.NoRoom fault P e h = (λ _. h.0 refl, λ _. ap Err e)
 same_reason of_ids.Memory fault P e h = (λ same. cc, λ p. let x = h.1 p in cc)
 
-of_fault : (result : Result (Unit {0}) TslFault) (fault : TslFault) (P : Type 0) → IsErrAnd result (λ x. x ≡ fault) → (◌≡◌ {A = Result (Unit {0}) TslFault} (Err fault) (Err NoRoom) ↔ P) → (result ≡ Err NoRoom) ↔ P
+of_fault : (result : Result (Unit {0}) TslFault) (fault : TslFault) (P : Type 0) → IsErrAnd result (λ x. x ≡ fault)
+    → (◌≡◌ {A = Result (Unit {0}) TslFault} (Err fault) (Err NoRoom) ↔ P) → (result ≡ Err NoRoom) ↔ P
 of_fault (Ok _) fault P is h = absurd is
 of_fault (Err x) fault P is h = (λ e. h.0 (ap Err (sym is) ∙ e), λ p. ap Err is ∙ h.1 p)
 

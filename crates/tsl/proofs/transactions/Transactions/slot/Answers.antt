@@ -15,6 +15,8 @@ returns-clause-slot c =
 pub returns-clause-own : goal.returns-clause-own
 returns-clause-own c = λ p q open_p open_q.
     let i = c.self.inside in
-    let live_p = is_live_if_open i.ids i.keys.items i.entries i.room c.self.invariant p (subst (λ (t : OpenTransactions). at t p ≢ None) (sym c.self.view_is) open_p) in
-    let live_q = is_live_if_open i.ids i.keys.items i.entries i.room c.self.invariant q (subst (λ (t : OpenTransactions). at t q ≢ None) (sym c.self.view_is) open_q) in
+    let live_p = is_live_if_open i.ids i.keys.items i.entries i.room c.self.invariant p
+    (subst (λ (t : OpenTransactions). at t p ≢ None) (sym c.self.view_is) open_p) in
+    let live_q = is_live_if_open i.ids i.keys.items i.entries i.room c.self.invariant q
+    (subst (λ (t : OpenTransactions). at t q ≢ None) (sym c.self.view_is) open_q) in
     c.slot.ensures.own p q live_p live_q

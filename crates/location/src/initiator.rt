@@ -1,7 +1,7 @@
 //! The sender of a Begin, and the End that answers it (Q.774).
 
 ghost use Rattle.std.specs.Prelude.{◌≡◌, ◌∷◌, []};
-ghost use Rattle.machine.specs.Begins.{answered};
+ghost use Rattle.machine.specs.Begins.{end_of_begin};
 ghost use Rattle.outgoing.specs.Seen.{component as component_of, components, out};
 
 use dialogues::InvokeId;
@@ -20,7 +20,7 @@ pub(crate) struct Source {
 
 /// A request in a Begin: its sender, the Rejects of its components, and the invoke id of the Invoke that started.
 #[derive(Drop)]
-pub(crate) struct Asker {
+pub(crate) struct Initiator {
     pub(crate) source: Source,
     pub(crate) rejects: Vec<Rejection>,
     pub(crate) invoke: InvokeId,
@@ -33,7 +33,8 @@ impl Source {
 
     /// The End that answers the Begin.
     pub(crate) fn end_of_begin(self, rejects: Vec<Rejection>, sent: Components) -> Addressed
-        ensures { out result ∷ [] ≡ answered (source_with self (map rejection rejects.items)) (components sent) }
+        ensures { out result ∷ [] ≡ end_of_begin (source_with self (map rejection rejects.items))
+            (components sent) }
     {
         let Source {
             from,
@@ -52,12 +53,12 @@ impl Source {
     }
 }
 
-impl Asker {
-    ghost use Rattle.location.specs.Asking.{asker_of};
+impl Initiator {
+    ghost use Rattle.location.specs.Asking.{initiator_of};
 
     /// The End that answers the Begin with this component.
     pub(crate) fn answers(self, component: SentComponent) -> Addressed
-        ensures { out result ∷ [] ≡ answered (asker_of self) (component_of component ∷ []) }
+        ensures { out result ∷ [] ≡ end_of_begin (initiator_of self) (component_of component ∷ []) }
     {
         self.source
             .end_of_begin(self.rejects, Components::One(component))
