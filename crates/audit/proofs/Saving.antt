@@ -1,12 +1,12 @@
 -- Records that share no IMSI and no MSISDN share none in another order.
 use Rattle.std.proofs.Common.{◌≡◌, ℕ, Bool, true, false, ◌||◌, List, [], ◌∷◌, refl, sym, ap, ◌∙◌, subst, inl, inr}
-use Rattle.std.specs.Prelude.{◌⊎◌, Result, Ok, Err, IfOk, Some, slice_get}
+use Rattle.std.specs.Prelude.{Result, Ok, Err, IfOk, Some, slice_get}
 use Rattle.std.specs.List.{AllByRecursion, IsDistinct}
 use Rattle.std.specs.List.Sorted.{IsPermutation}
 use Rattle.std.proofs.lemmas.Option.{same_Some}
 use Rattle.std.proofs.lemmas.Map.Keys.{IsDistinct-IsPermutation}
 use Rattle.machine.specs.Keys.{same}
-use Rattle.machine_laws.proofs.Keys.{cases_same, is_same, not_same, same_is, same_not, same_sym}
+use Rattle.machine_laws.proofs.Keys.{not_same, same_not, same_sym}
 use Rattle.records.specs.File.{AreApart, File, Share}
 use Rattle.records.specs.Maps.{digits_cmp}
 use Rattle.records.specs.Subscriber.{Subscriber}

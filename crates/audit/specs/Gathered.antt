@@ -1,5 +1,5 @@
 -- What the code gathers for a listing, as what a listing has.
-use Rattle.std.specs.Prelude.{ℕ, ℤ, List, map as each}
+use Rattle.std.specs.Prelude.{ℕ, ℤ, map as each}
 use Rattle.csl.specs.declared.was.Was.{Was}
 use Rattle.csl.specs.Seen.{invocation_of}
 use Rattle.machine.specs.State.{Invocation}

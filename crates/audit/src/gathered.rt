@@ -37,7 +37,8 @@ pub fn records_by_imsi<'a>(
     alloc: Global,
     shards: &'a [Shard],
 ) -> Result<Vec<&'a Record>, AllocError>
-    ensures { IfOk result (λ all. InOrder imsi_of digits_cmp (records_in shards.now) (each (λ found. found.now) all.items)) }
+    ensures { IfOk result (λ all. InOrder imsi_of digits_cmp (records_in shards.now)
+        (each (λ found. found.now) all.items)) }
 {
     let mut all = all_records(alloc, shards)?;
     all.sort_by_key(|found| found.imsi)?;
@@ -55,7 +56,8 @@ fn all_records<'a>(alloc: Global, shards: &'a [Shard]) -> Result<Vec<&'a Record>
 }
 
 fn push_records<'a>(all: &mut Vec<&'a Record>, records: &'a Records) -> Result<(), AllocError>
-    ensures { OnOk result (each (λ found. found.now) all.new.items ≡ each (λ found. found.now) all.old.items ++ finite.values records.now) }
+    ensures { OnOk result (each (λ found. found.now) all.new.items
+        ≡ each (λ found. found.now) all.old.items ++ finite.values records.now) }
 {
     let list = records.list()?;
     for found in &list {
@@ -66,7 +68,8 @@ fn push_records<'a>(all: &mut Vec<&'a Record>, records: &'a Records) -> Result<(
 
 /// The open dialogues of all shards, by local id.
 pub fn dialogues_by_id(alloc: Global, shards: &[Shard]) -> Result<Vec<Opened>, AllocError>
-    ensures { IfOk result (λ all. InOrder id_of octets_cmp (open_in shards.now) (each opened all.items)) }
+    ensures { IfOk result (λ all. InOrder id_of octets_cmp (open_in shards.now)
+        (each opened all.items)) }
 {
     let mut all = all_dialogues(alloc, shards)?;
     all.sort_by_key(|one| one.id)?;
@@ -84,7 +87,8 @@ fn all_dialogues(alloc: Global, shards: &[Shard]) -> Result<Vec<Opened>, AllocEr
 }
 
 fn push_open(all: &mut Vec<Opened>, dialogues: &Dialogues) -> Result<(), AllocError>
-    ensures { OnOk result (each opened all.new.items ≡ each opened all.old.items ++ finite.entries dialogues.now.open_ones) }
+    ensures { OnOk result (each opened all.new.items
+        ≡ each opened all.old.items ++ finite.entries dialogues.now.open_ones) }
 {
     let ids = dialogues.list()?;
     for id in &ids {
@@ -106,7 +110,8 @@ pub fn entries_by_place<'a>(
     alloc: Global,
     shards: &'a [Shard],
 ) -> Result<Vec<PlacedEntry<'a>>, AllocError>
-    ensures { IfOk result (λ all. InOrder place_of place_cmp (entries_in shards.now) (each placed all.items)) }
+    ensures { IfOk result (λ all. InOrder place_of place_cmp (entries_in shards.now)
+        (each placed all.items)) }
 {
     let mut all = all_entries(alloc, shards)?;
     all.sort_by_key(|entry| (entry.shard, entry.position))?;
@@ -128,7 +133,8 @@ fn push_entries<'a>(
     shard: u8,
     entries: &'a [Entry],
 ) -> Result<(), AllocError>
-    ensures { OnOk result (each placed all.new.items ≡ each placed all.old.items ++ placed_from shard 0 (raw_entries entries.now)) }
+    ensures { OnOk result (each placed all.new.items
+        ≡ each placed all.old.items ++ placed_from shard 0 (raw_entries entries.now)) }
 {
     let mut position = 0;
     for entry in entries {

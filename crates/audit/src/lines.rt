@@ -1,21 +1,19 @@
 //! Appends the lines of a listing to a text. On error a part of a line may have been appended.
 
-ghost use Rattle.std.specs.Prelude.{◌≡◌, ◌++◌, List, OnOk, string_bytes, codes};
+ghost use Rattle.std.specs.Prelude.{◌≡◌, ◌++◌, List, OnOk, string_bytes};
 ghost use Rattle.hex.specs.Hex.{encode_upper};
 ghost use Rattle.machine.specs.State.{Invocation};
-ghost use Rattle.hlrcore.specs.Events.{raw_event};
 ghost use Rattle.csl.specs.Seen.{invocation_of, was};
 ghost use Rattle.dialogues.specs.Seen.{dialogue_with, kind_of};
-ghost use Rattle.shardlog.specs.Entries.{raw_entry};
+ghost use Rattle.shardlog.specs.Entries.{raw_entry, raw_event};
 ghost use Rattle.audit.specs.Lines.{dialogue_line, entry_text, invocation_text, kind_text, letter_text, record_text, remote_text, standing_text, subject_text, was_text};
 
 use csl::Was;
 use dialogues::{Dialogue, Kind};
 use hex::encode_upper;
 use hlr_types::{Imsi, RemoteId, Tid};
-use hlrcore::RawEvent;
 use records::{Record, Version, write_line};
-use shardlog::Entry;
+use shardlog::{Entry, RawEvent};
 use std::alloc::{AllocError, Global};
 
 /// `R`, and the record's line in a file of version 2.
@@ -37,7 +35,8 @@ pub fn push_dialogue(
     dialogue: &Dialogue,
 ) -> Result<(), AllocError>
     ensures { (vs : List Invocation) → OnOk result
-        (string_bytes text.new ≡ string_bytes text.old ++ dialogue_line id (dialogue_with vs dialogue.now)) }
+        (string_bytes text.new ≡ string_bytes text.old
+        ++ dialogue_line id (dialogue_with vs dialogue.now)) }
 {
     let remote = &dialogue.transaction.remote;
     text.push_str("D ")?;
@@ -53,7 +52,8 @@ pub fn push_dialogue(
 }
 
 fn push_kind(text: &mut String, kind: &Kind) -> Result<(), AllocError>
-    ensures { OnOk result (string_bytes text.new ≡ string_bytes text.old ++ kind_text (kind_of kind.now)) }
+    ensures { OnOk result (string_bytes text.new
+        ≡ string_bytes text.old ++ kind_text (kind_of kind.now)) }
 {
     match kind {
         Kind::Update { .. } => text.push_str("update"),
@@ -63,7 +63,8 @@ fn push_kind(text: &mut String, kind: &Kind) -> Result<(), AllocError>
 }
 
 fn push_standing(text: &mut String, remote: &Option<RemoteId>) -> Result<(), AllocError>
-    ensures { OnOk result (string_bytes text.new ≡ string_bytes text.old ++ standing_text remote.now) }
+    ensures { OnOk result (string_bytes text.new
+        ≡ string_bytes text.old ++ standing_text remote.now) }
 {
     match remote {
         None => text.push_str("Sent"),
@@ -76,7 +77,8 @@ fn push_remote(
     text: &mut String,
     remote: &Option<RemoteId>,
 ) -> Result<(), AllocError>
-    ensures { OnOk result (string_bytes text.new ≡ string_bytes text.old ++ remote_text remote.now) }
+    ensures { OnOk result (string_bytes text.new
+        ≡ string_bytes text.old ++ remote_text remote.now) }
 {
     match remote {
         None => text.push_str("-"),
@@ -86,7 +88,8 @@ fn push_remote(
 
 /// Octets in upper case hexadecimal.
 fn push_octets(alloc: Global, text: &mut String, octets: &[u8]) -> Result<(), AllocError>
-    ensures { OnOk result (string_bytes text.new ≡ string_bytes text.old ++ encode_upper octets.now) }
+    ensures { OnOk result (string_bytes text.new
+        ≡ string_bytes text.old ++ encode_upper octets.now) }
 {
     let digits = encode_upper(alloc, octets)?;
     text.push_str(&digits)
@@ -99,7 +102,8 @@ pub fn push_invocation(
     standing: Was,
     deadline: u64,
 ) -> Result<(), AllocError>
-    ensures { OnOk result (string_bytes text.new ≡ string_bytes text.old ++ invocation_text (invocation_of invoke standing deadline)) }
+    ensures { OnOk result (string_bytes text.new
+        ≡ string_bytes text.old ++ invocation_text (invocation_of invoke standing deadline)) }
 {
     write!(text, "I {invoke} ")?;
     push_was(text, standing)?;
@@ -108,7 +112,8 @@ pub fn push_invocation(
 }
 
 fn push_was(text: &mut String, standing: Was) -> Result<(), AllocError>
-    ensures { OnOk result (string_bytes text.new ≡ string_bytes text.old ++ was_text (was standing)) }
+    ensures { OnOk result (string_bytes text.new
+        ≡ string_bytes text.old ++ was_text (was standing)) }
 {
     match standing {
         Was::Sent => text.push_str("sent"),
@@ -123,7 +128,8 @@ pub fn push_entry(
     position: usize,
     entry: &Entry,
 ) -> Result<(), AllocError>
-    ensures { OnOk result (string_bytes text.new ≡ string_bytes text.old ++ entry_text shard position (raw_entry entry.now)) }
+    ensures { OnOk result (string_bytes text.new
+        ≡ string_bytes text.old ++ entry_text shard position (raw_entry entry.now)) }
 {
     write!(text, "J {shard} {position} ")?;
     push_letter(text, &entry.event)?;
@@ -135,7 +141,8 @@ pub fn push_entry(
 }
 
 fn push_letter(text: &mut String, event: &RawEvent) -> Result<(), AllocError>
-    ensures { OnOk result (string_bytes text.new ≡ string_bytes text.old ++ letter_text (raw_event event.now)) }
+    ensures { OnOk result (string_bytes text.new
+        ≡ string_bytes text.old ++ letter_text (raw_event event.now)) }
 {
     match event {
         RawEvent::Frame { .. } => text.push_str("F"),
@@ -146,7 +153,8 @@ fn push_letter(text: &mut String, event: &RawEvent) -> Result<(), AllocError>
 }
 
 fn push_subject(text: &mut String, subject: &Option<Imsi>) -> Result<(), AllocError>
-    ensures { OnOk result (string_bytes text.new ≡ string_bytes text.old ++ subject_text subject.now) }
+    ensures { OnOk result (string_bytes text.new
+        ≡ string_bytes text.old ++ subject_text subject.now) }
 {
     match subject {
         None => text.push_str("-"),

@@ -26,7 +26,8 @@ pub fn list_records(alloc: Global, shards: &[Shard]) -> Result<String, AllocErro
 }
 
 fn push_records(alloc: Global, text: &mut String, all: &[&Record]) -> Result<(), AllocError>
-    ensures { OnOk result (string_bytes text.new ≡ string_bytes text.old ++ flat_map record_text (each (λ found. found.now) all.now)) }
+    ensures { OnOk result (string_bytes text.new
+        ≡ string_bytes text.old ++ flat_map record_text (each (λ found. found.now) all.now)) }
 {
     for found in all {
         push_record(alloc, text, found)?;
@@ -50,7 +51,8 @@ pub fn list_dialogues(alloc: Global, shards: &[Shard]) -> Result<String, AllocEr
 }
 
 fn push_all_opened(alloc: Global, text: &mut String, all: &[Opened]) -> Result<(), AllocError>
-    ensures { OnOk result (string_bytes text.new ≡ string_bytes text.old ++ flat_map open_text (each opened all.now)) }
+    ensures { OnOk result (string_bytes text.new
+        ≡ string_bytes text.old ++ flat_map open_text (each opened all.now)) }
 {
     for one in all {
         push_opened(alloc, text, one)?;
@@ -59,7 +61,8 @@ fn push_all_opened(alloc: Global, text: &mut String, all: &[Opened]) -> Result<(
 }
 
 fn push_opened(alloc: Global, text: &mut String, one: &Opened) -> Result<(), AllocError>
-    ensures { OnOk result (string_bytes text.new ≡ string_bytes text.old ++ open_text (opened one.now)) }
+    ensures { OnOk result (string_bytes text.new
+        ≡ string_bytes text.old ++ open_text (opened one.now)) }
 {
     push_dialogue(alloc, text, one.id, &one.dialogue)?;
     push_invocations(text, &one.invocations)?;
@@ -67,7 +70,8 @@ fn push_opened(alloc: Global, text: &mut String, one: &Opened) -> Result<(), All
 }
 
 fn push_invocations(text: &mut String, told: &[(i8, Was, u64)]) -> Result<(), AllocError>
-    ensures { OnOk result (string_bytes text.new ≡ string_bytes text.old ++ flat_map invocation_text (each told_back told.now)) }
+    ensures { OnOk result (string_bytes text.new
+        ≡ string_bytes text.old ++ flat_map invocation_text (each told_back told.now)) }
 {
     for (invoke, standing, deadline) in told {
         push_invocation(text, *invoke, *standing, *deadline)?;
@@ -90,7 +94,8 @@ pub fn list_journal(alloc: Global, shards: &[Shard]) -> Result<String, AllocErro
 }
 
 fn push_entries(text: &mut String, all: &[PlacedEntry]) -> Result<(), AllocError>
-    ensures { OnOk result (string_bytes text.new ≡ string_bytes text.old ++ flat_map placed_text (each placed all.now)) }
+    ensures { OnOk result (string_bytes text.new
+        ≡ string_bytes text.old ++ flat_map placed_text (each placed all.now)) }
 {
     for placed in all {
         push_entry(text, placed.shard, placed.position, placed.entry)?;

@@ -18,19 +18,23 @@ pub record Completes (Good Bad : List ℕ → Type 0) (whole : List (List ℕ)) 
 pub begins : (Good Bad : List ℕ → Type 0) (whole : List (List ℕ)) (start : ℕ) → Completes Good Bad whole start whole start
 begins Good Bad whole start = record { all = λ h. h; first = λ n h. h }
 
-pub goes_on : (Good Bad : List ℕ → Type 0) (whole : List (List ℕ)) (start : ℕ) (rest : List (List ℕ)) (before : ℕ) (line : List ℕ) (more : List (List ℕ)) (next : ℕ)
+pub goes_on : (Good Bad : List ℕ → Type 0) (whole : List (List ℕ)) (start : ℕ) (rest : List (List ℕ)) (before : ℕ) (line : List ℕ) (more : List (List ℕ))
+    (next : ℕ)
     → Completes Good Bad whole start rest before → rest ≡ line ∷ more → next ≡ before + 1 → Good line → Completes Good Bad whole start more next
 goes_on Good Bad whole start rest before line more next h is count good = record {
   all = λ a. h.all (subst (AllByRecursion Good) (sym is) (good, a));
-  first = λ n f. h.first n (subst (λ (ls : List (List ℕ)). IsFirst Good Bad ls before n) (sym is) (inr (good, subst (λ (b : ℕ). IsFirst Good Bad more b n) count f)));
+  first = λ n f. h.first n (subst (λ (ls : List (List ℕ)). IsFirst Good Bad ls before n) (sym is)
+      (inr (good, subst (λ (b : ℕ). IsFirst Good Bad more b n) count f)));
 }
 
-pub stops : (Good Bad : List ℕ → Type 0) (whole : List (List ℕ)) (start : ℕ) (rest : List (List ℕ)) (before : ℕ) (line : List ℕ) (more : List (List ℕ)) (number : ℕ)
+pub stops : (Good Bad : List ℕ → Type 0) (whole : List (List ℕ)) (start : ℕ) (rest : List (List ℕ)) (before : ℕ) (line : List ℕ) (more : List (List ℕ))
+    (number : ℕ)
     → Completes Good Bad whole start rest before → rest ≡ line ∷ more → number ≡ before + 1 → Bad line → IsFirst Good Bad whole start number
 stops Good Bad whole start rest before line more number h is count bad =
     h.first number (subst (λ (ls : List (List ℕ)). IsFirst Good Bad ls before number) (sym is) (inl (count, bad)))
 
-pub ends : (Good Bad : List ℕ → Type 0) (whole : List (List ℕ)) (start : ℕ) (rest : List (List ℕ)) (before : ℕ) → Completes Good Bad whole start rest before → rest ≡ [] → AllByRecursion Good whole
+pub ends : (Good Bad : List ℕ → Type 0) (whole : List (List ℕ)) (start : ℕ) (rest : List (List ℕ)) (before : ℕ) → Completes Good Bad whole start rest before
+    → rest ≡ [] → AllByRecursion Good whole
 ends Good Bad whole start rest before h is = h.all (subst (AllByRecursion Good) (sym is) tt)
 
 -- ---- batches

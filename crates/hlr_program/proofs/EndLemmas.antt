@@ -32,7 +32,8 @@ use Rattle.hlr_program.proofs.RegisterLemmas.{known_run, unknown_before}
 
 -- ---- the register that has loaded a records file
 
-known_opening : (loaded : Subscribers) (workers : ℕ) (start : Register) → IsOf workers start → OpensWith loaded start → state_known start ≡ known_with workers (opening_of loaded)
+known_opening : (loaded : Subscribers) (workers : ℕ) (start : Register) → IsOf workers start → OpensWith loaded start
+    → state_known start ≡ known_with workers (opening_of loaded)
 known_opening loaded zero (Alone node) of opens = ap (λ (S : State). Some S) opens.0.whole_is
 known_opening loaded (suc more) (Shared shared) of opens = refl
 known_opening loaded zero (Shared shared) of opens = absurd of
@@ -41,11 +42,16 @@ known_opening loaded (suc more) (Alone node) of opens = absurd of
 begins_at_end : (loaded : Subscribers) (start : NodeState) → BeginsWith loaded start → IsAtEnd (opening_of loaded) [] [] start
 begins_at_end loaded start begins =
     opening_at_end (opening_of loaded) start
-    (λ n l at. let opens = begins.shards_are.each n l at in (ap (λ (k : Log). k.base) opens.begins ∙ sym (ap (λ (k : Log). k.state) opens.begins), ap (λ (k : Log). k.entries) opens.begins))
+    (λ n l at. let opens = begins.shards_are.each n l at in (
+      ap (λ (k : Log). k.base) opens.begins
+          ∙ sym (ap (λ (k : Log). k.state) opens.begins),
+      ap (λ (k : Log). k.entries) opens.begins,
+    ))
     begins.whole_is
 
 -- the shards that the register returns are those at the end of the run
-ends_with : (loaded : Subscribers) (workers : ℕ) (start end : Register) (batches : List BatchRun) (shards : List Log) → IsOf workers start → OpensWith loaded start
+ends_with : (loaded : Subscribers) (workers : ℕ) (start end : Register) (batches : List BatchRun) (shards : List Log) → IsOf workers start
+    → OpensWith loaded start
     → RunsTo start (events_in batches) (sent_in batches) end → HandsOver end shards → EndsWith workers (opening_of loaded) batches shards
 ends_with loaded zero (Alone start) (Alone end) batches shards of (begins, keeps) (run, continues) (same, kept) =
     subst (λ (ls : List Log). EndsAlone (opening_of loaded) batches ls) (sym same) (record {
@@ -54,17 +60,20 @@ ends_with loaded zero (Alone start) (Alone end) batches shards of (begins, keeps
       run = subst (λ (S : State). AreOneRun S batches (whole end.shards)) begins.whole_is run;
       at_end = continues (opening_of loaded) [] [] (begins_at_end loaded start begins);
     })
-ends_with loaded (suc more) (Shared start) (Shared end) batches shards of opens ran hands = hands (opening_of loaded) (events_in batches) (sent_in batches) (ran.1 (opening_of loaded) [] [] opens)
+ends_with loaded (suc more) (Shared start) (Shared end) batches shards of opens ran hands = hands (opening_of loaded) (events_in batches) (sent_in batches)
+    (ran.1 (opening_of loaded) [] [] opens)
 ends_with loaded zero (Alone start) (Shared end) batches shards of opens ran hands = absurd ran
 ends_with loaded (suc more) (Shared start) (Alone end) batches shards of opens ran hands = absurd ran
 ends_with loaded zero (Shared start) end batches shards of opens ran hands = absurd of
 ends_with loaded (suc more) (Alone start) end batches shards of opens ran hands = absurd of
 
-module _ (options : Options) (loaded : Subscribers) (start : Register) (of : IsOf options.workers start) (opens : OpensWith loaded start) (sound : Sound (opening_of loaded)) where
+module _ (options : Options) (loaded : Subscribers) (start : Register) (of : IsOf options.workers start) (opens : OpensWith loaded start)
+    (sound : Sound (opening_of loaded)) where
   known_is : state_known start ≡ known_with options.workers (opening_of loaded)
   known_is = known_opening loaded options.workers start of opens
 
-  pub runs_and_lists : (script : List ℕ) (batches : List BatchRun) (end : Register) (shards : List Log) (closing : List ℕ) → RunsScript script start batches end → HandsOver end shards
+  pub runs_and_lists : (script : List ℕ) (batches : List BatchRun) (end : Register) (shards : List Log) (closing : List ℕ) → RunsScript script start batches end
+      → HandsOver end shards
       → Closes options.list options.save shards closing → RunsAndLists options loaded script (printed_of batches ++ closing)
   runs_and_lists script batches end shards closing ran hands closes = record {
     batches = batches;
@@ -77,14 +86,17 @@ module _ (options : Options) (loaded : Subscribers) (start : Register) (of : IsO
     printed_is = refl;
   }
 
-  pub script_stopped : (script : List ℕ) (fault : Fault) (old new : Option (List ℕ)) → (printed : List ℕ) × StopsBatches script (state_known start) fault printed × Appends old new printed
+  pub script_stopped : (script : List ℕ) (fault : Fault) (old new : Option (List ℕ))
+      → (printed : List ℕ) × StopsBatches script (state_known start) fault printed × Appends old new printed
       → (printed : List ℕ) × StopsRunning options loaded script fault printed × Appends old new printed
   script_stopped script fault old new (printed, stops, appends) =
       (printed, inr (inl (subst (λ (known : Option State). StopsBatches script known fault printed) known_is stops)), appends)
 
   -- the shards are not returned, or memory runs out for the listings
-  pub listing_stopped : (script : List ℕ) (fault : Fault) (old new : Option (List ℕ)) (batches : List BatchRun) (end : Register) → HandingOutStops (state_known end) fault
-      → RunsScript script start batches end → Appends old new (printed_of batches) → (printed : List ℕ) × StopsRunning options loaded script fault printed × Appends old new printed
+  pub listing_stopped : (script : List ℕ) (fault : Fault) (old new : Option (List ℕ)) (batches : List BatchRun) (end : Register)
+      → HandingOutStops (state_known end) fault
+      → RunsScript script start batches end → Appends old new (printed_of batches) → (printed : List ℕ) × StopsRunning options loaded script fault printed
+      × Appends old new printed
   listing_stopped script fault old new batches end cause ran appends = (
     printed_of batches,
     inr (inr (inl (subst (λ (known : Option State). StopsAtListing script known fault (printed_of batches)) known_is (record {
@@ -98,8 +110,10 @@ module _ (options : Options) (loaded : Subscribers) (start : Register) (of : IsO
     appends,
   )
 
-  pub listing_printed : (script : List ℕ) (old out new : Option (List ℕ)) (batches : List BatchRun) (end : Register) (shards : List Log) (closing written : List ℕ)
-      → RunsScript script start batches end → Appends old out (printed_of batches) → HandsOver end shards → Closes options.list options.save shards closing → written ≡ closing
+  pub listing_printed : (script : List ℕ) (old out new : Option (List ℕ)) (batches : List BatchRun) (end : Register) (shards : List Log)
+      (closing written : List ℕ)
+      → RunsScript script start batches end → Appends old out (printed_of batches) → HandsOver end shards → Closes options.list options.save shards closing
+      → written ≡ closing
       → Appends out new written → (printed : List ℕ) × RunsAndLists options loaded script printed × Appends old new printed
   listing_printed script old out new batches end shards closing written ran appends hands closes same more = (
     printed_of batches ++ closing,
@@ -107,8 +121,10 @@ module _ (options : Options) (loaded : Subscribers) (start : Register) (of : IsO
     Appends-trans old out new (printed_of batches) closing appends (subst (λ (w : List ℕ). Appends out new w) same more),
   )
 
-  pub listing_broken : (script : List ℕ) (fault : Fault) (old out new : Option (List ℕ)) (batches : List BatchRun) (end : Register) (shards : List Log) (closing written : List ℕ)
-      → RunsScript script start batches end → Appends old out (printed_of batches) → HandsOver end shards → Closes options.list options.save shards closing → written ≡ closing
+  pub listing_broken : (script : List ℕ) (fault : Fault) (old out new : Option (List ℕ)) (batches : List BatchRun) (end : Register) (shards : List Log)
+      (closing written : List ℕ)
+      → RunsScript script start batches end → Appends old out (printed_of batches) → HandsOver end shards → Closes options.list options.save shards closing
+      → written ≡ closing
       → fault ≡ Output → WritesFront out written new → (printed : List ℕ) × StopsRunning options loaded script fault printed × Appends old new printed
   listing_broken script fault old out new batches end shards closing written ran appends hands closes same output front = (
     printed_of batches ++ front.written,
@@ -129,22 +145,36 @@ opening_stopped options loaded script fault old memory = ([], inl (record { memo
 
 -- ---- what is printed is flushed
 
-pub flushed : (options : Options) (loaded : Subscribers) (script : List ℕ) (old out new : Option (List ℕ)) → Keeps out new → (printed : List ℕ) × RunsAndLists options loaded script printed × Appends old out printed
+pub flushed : (options : Options) (loaded : Subscribers) (script : List ℕ) (old out new : Option (List ℕ)) → Keeps out new
+    → (printed : List ℕ) × RunsAndLists options loaded script printed × Appends old out printed
     → (printed : List ℕ) × RunsAndLists options loaded script printed × Appends old new printed
 flushed options loaded script old out new kept (printed, ran, appends) = (printed, ran, Appends-kept old out new printed appends kept)
 
-pub not_flushed : (options : Options) (loaded : Subscribers) (script : List ℕ) (old out new : Option (List ℕ)) → Keeps out new → (printed : List ℕ) × RunsAndLists options loaded script printed × Appends old out printed
+pub not_flushed : (options : Options) (loaded : Subscribers) (script : List ℕ) (old out new : Option (List ℕ)) → Keeps out new
+    → (printed : List ℕ) × RunsAndLists options loaded script printed × Appends old out printed
     → (printed : List ℕ) × StopsRunning options loaded script Output printed × Appends old new printed
-not_flushed options loaded script old out new kept (printed, ran, appends) =
-    (printed, inr (inr (inr (record { output = refl; all = printed; ran = ran; left = []; front = sym (append-nil printed) }))), Appends-kept old out new printed appends kept)
+not_flushed options loaded script old out new kept (printed, ran, appends) = (
+  printed,
+  inr (inr (inr (record {
+    output = refl;
+    all = printed;
+    ran = ran;
+    left = [];
+    front = sym
+        (append-nil printed);
+  }))),
+  Appends-kept old out new printed appends kept,
+)
 
 pub stopped_and_flushed : (options : Options) (loaded : Subscribers) (script : List ℕ) (fault : Fault) (old out new : Option (List ℕ)) → Keeps out new
-    → (printed : List ℕ) × StopsRunning options loaded script fault printed × Appends old out printed → (printed : List ℕ) × StopsRunning options loaded script fault printed × Appends old new printed
+    → (printed : List ℕ) × StopsRunning options loaded script fault printed × Appends old out printed
+    → (printed : List ℕ) × StopsRunning options loaded script fault printed × Appends old new printed
 stopped_and_flushed options loaded script fault old out new kept (printed, stops, appends) = (printed, stops, Appends-kept old out new printed appends kept)
 
 -- ---- readers whose octets are known
 
-pub if_known : (a b : Option (List ℕ)) (P : List ℕ → List ℕ → Type 0) → ((file script : List ℕ) → a ≡ Some file → b ≡ Some script → P file script) → IfSome a (λ file. IfSome b (λ script. P file script))
+pub if_known : (a b : Option (List ℕ)) (P : List ℕ → List ℕ → Type 0) → ((file script : List ℕ) → a ≡ Some file → b ≡ Some script → P file script)
+    → IfSome a (λ file. IfSome b (λ script. P file script))
 if_known None b P h = tt
 if_known (Some file) None P h = tt
 if_known (Some file) (Some script) P h = h file script refl refl
@@ -155,19 +185,35 @@ known (Some x) file P e h = let same : x ≡ file = cc in subst P same h
 
 pub ends_unserved : (options : Options) (a b : Option (List ℕ)) (old : Option (List ℕ)) → 16 < options.workers
     → IfSome a (λ file. IfSome b (λ script. Ends options file script old old (Some CommandLine)))
-ends_unserved options a b old more = if_known a b (λ file script. Ends options file script old old (Some CommandLine)) (λ file script at bt. ([], inl (inl (more, refl), refl), Appends-nil old))
+ends_unserved options a b old more = if_known a b (λ file script. Ends options file script old old (Some CommandLine))
+    (λ file script at bt. ([], inl (inl (more, refl), refl), Appends-nil old))
 
-pub ends_in_records : (options : Options) (a b : Option (List ℕ)) (old : Option (List ℕ)) (fault : Fault) → options.workers ≤ 16 → IfSome a (λ file. StopsRecords file fault)
+pub ends_in_records : (options : Options) (a b : Option (List ℕ)) (old : Option (List ℕ)) (fault : Fault) → options.workers ≤ 16
+    → IfSome a (λ file. StopsRecords file fault)
     → IfSome a (λ file. IfSome b (λ script. Ends options file script old old (Some fault)))
 ends_in_records options a b old fault few stops =
     if_known a b (λ file script. Ends options file script old old (Some fault))
     (λ file script at bt. ([], inl (inr (inl (few, known a file (λ f. StopsRecords f fault) at stops)), refl), Appends-nil old))
 
-pub ends_in_script : (options : Options) (loaded : Subscribers) (a b : Option (List ℕ)) (old : Option (List ℕ)) (fault : Fault) → options.workers ≤ 16 → IfSome a (λ file. IsLoadedFrom file loaded)
+pub ends_in_script : (options : Options) (loaded : Subscribers) (a b : Option (List ℕ)) (old : Option (List ℕ)) (fault : Fault) → options.workers ≤ 16
+    → IfSome a (λ file. IsLoadedFrom file loaded)
     → IfSome b (λ script. StopsScript script fault) → IfSome a (λ file. IfSome b (λ script. Ends options file script old old (Some fault)))
 ends_in_script options loaded a b old fault few reads stops =
     if_known a b (λ file script. Ends options file script old old (Some fault))
-    (λ file script at bt. ([], inl (inr (inr (few, loaded, known a file (λ f. IsLoadedFrom f loaded) at reads, known b script (λ s. StopsScript s fault) bt stops)), refl), Appends-nil old))
+    (λ file script at bt. (
+      [],
+      inl (
+        inr (inr (
+          few,
+          loaded,
+          known a file (λ f. IsLoadedFrom f loaded) at reads,
+          known b script
+              (λ s. StopsScript s fault) bt stops,
+        )),
+        refl,
+      ),
+      Appends-nil old,
+    ))
 
 module _ (options : Options) (loaded : Subscribers) (text : List ℕ) (a b : Option (List ℕ)) (old new : Option (List ℕ)) (few : options.workers ≤ 16)
     (reads : IfSome a (λ file. IsLoadedFrom file loaded)) (good : AllByRecursion IsGood (lines text)) (same : IfSome b (λ script. text ≡ script)) where
@@ -177,7 +223,8 @@ module _ (options : Options) (loaded : Subscribers) (text : List ℕ) (a b : Opt
     is_script = subst (λ (s : List ℕ). AllByRecursion IsGood (lines s)) (known b script (λ s. text ≡ s) bt same) good;
   }
 
-  pub ends_well : (printed : List ℕ) × RunsAndLists options loaded text printed × Appends old new printed → IfSome a (λ file. IfSome b (λ script. Ends options file script old new None))
+  pub ends_well : (printed : List ℕ) × RunsAndLists options loaded text printed × Appends old new printed
+      → IfSome a (λ file. IfSome b (λ script. Ends options file script old new None))
   ends_well (printed, ran, appends) = if_known a b (λ file script. Ends options file script old new None) (λ file script at bt. (
     printed,
     record {
@@ -191,8 +238,17 @@ module _ (options : Options) (loaded : Subscribers) (text : List ℕ) (a b : Opt
 
   pub ends_running : (fault : Fault) → (printed : List ℕ) × StopsRunning options loaded text fault printed × Appends old new printed
       → IfSome a (λ file. IfSome b (λ script. Ends options file script old new (Some fault)))
-  ends_running fault (printed, stops, appends) = if_known a b (λ file script. Ends options file script old new (Some fault)) (λ file script at bt.
-      (printed, inr (few, loaded, input file script at bt, subst (λ (s : List ℕ). StopsRunning options loaded s fault printed) (known b script (λ s. text ≡ s) bt same) stops), appends))
+  ends_running fault (printed, stops, appends) = if_known a b (λ file script. Ends options file script old new (Some fault)) (λ file script at bt. (
+    printed,
+    inr (
+      few,
+      loaded,
+      input file script at bt,
+      subst (λ (s : List ℕ). StopsRunning options loaded s fault printed)
+          (known b script (λ s. text ≡ s) bt same) stops,
+    ),
+    appends,
+  ))
 
   pub ends_loaded : (r : Result (Unit {0}) Fault) → OnOk r ((printed : List ℕ) × RunsAndLists options loaded text printed × Appends old new printed)
       → IfErr r (λ fault. (printed : List ℕ) × StopsRunning options loaded text fault printed × Appends old new printed)
@@ -206,7 +262,9 @@ told : {A : Type 0} (r : Result A Fault) (e : Fault) → IsErrAnd r (λ f. f ≡
 told (Ok x) e h = absurd h
 told (Err f) e h = ap (λ (k : Fault). Some k) h
 
-pub ends_passed_on : {A : Type 0} (r : Result A Fault) (fault : Fault) (options : Options) (a b : Option (List ℕ)) (old new : Option (List ℕ)) → IsErrAnd r (λ f. f ≡ fault)
-    → IfSome a (λ file. IfSome b (λ script. Ends options file script old new (Some fault))) → IfSome a (λ file. IfSome b (λ script. Ends options file script old new (result_err r)))
+pub ends_passed_on : {A : Type 0} (r : Result A Fault) (fault : Fault) (options : Options) (a b : Option (List ℕ)) (old new : Option (List ℕ))
+    → IsErrAnd r (λ f. f ≡ fault)
+    → IfSome a (λ file. IfSome b (λ script. Ends options file script old new (Some fault)))
+    → IfSome a (λ file. IfSome b (λ script. Ends options file script old new (result_err r)))
 ends_passed_on r fault options a b old new h ends =
     subst (λ (f : Option Fault). IfSome a (λ file. IfSome b (λ script. Ends options file script old new f))) (sym (told r fault h)) ends

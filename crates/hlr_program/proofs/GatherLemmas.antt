@@ -36,9 +36,11 @@ pub adds_join : (a b c : Progress) (r s : List RawEvent) → Adds a r b → Adds
 adds_join a b c r s h k = record {
   handled = h.handled ++ k.handled;
   outs = h.outs ++ k.outs;
-  order = sym (append_assoc a.part r s) ∙ ap (λ (l : List RawEvent). l ++ s) h.order ∙ append_assoc h.handled b.part s ∙ ap (λ (l : List RawEvent). h.handled ++ l) k.order ∙ sym (append_assoc h.handled k.handled c.part);
+  order = sym (append_assoc a.part r s) ∙ ap (λ (l : List RawEvent). l ++ s) h.order ∙ append_assoc h.handled b.part s
+      ∙ ap (λ (l : List RawEvent). h.handled ++ l) k.order ∙ sym (append_assoc h.handled k.handled c.part);
   ran = ran_join a.register b.register c.register h.handled k.handled h.outs k.outs h.ran k.ran;
-  sent = k.sent ∙ ap (λ (l : List RawOut). l ++ flat_map (λ o. o) k.outs) h.sent ∙ append_assoc a.sent (flat_map (λ o. o) h.outs) (flat_map (λ o. o) k.outs) ∙ ap (λ (l : List RawOut). a.sent ++ l) (sym (flat_join h.outs k.outs));
+  sent = k.sent ∙ ap (λ (l : List RawOut). l ++ flat_map (λ o. o) k.outs) h.sent ∙ append_assoc a.sent (flat_map (λ o. o) h.outs) (flat_map (λ o. o) k.outs)
+      ∙ ap (λ (l : List RawOut). a.sent ++ l) (sym (flat_join h.outs k.outs));
 }
 
 -- an event is appended to the part
@@ -52,7 +54,8 @@ adds_one a b raw same put sends = record {
 }
 
 -- the part is handled
-pub adds_part : (a b : Progress) (outs : List (List RawOut)) → RunsTo a.register a.part outs b.register → b.part ≡ [] → b.sent ≡ a.sent ++ flat_map (λ o. o) outs → Adds a [] b
+pub adds_part : (a b : Progress) (outs : List (List RawOut)) → RunsTo a.register a.part outs b.register → b.part ≡ []
+    → b.sent ≡ a.sent ++ flat_map (λ o. o) outs → Adds a [] b
 adds_part a b outs ran none sends = record {
   handled = a.part;
   outs = outs;
@@ -81,7 +84,8 @@ passed_on (Ok x) e P h p = tt
 passed_on (Err f) e P h p = subst P (sym h) p
 
 -- events after those that are handled
-meets_behind : (S M : State) (handled es : List RawEvent) (sent : List (List RawOut)) → IsRun S handled sent M → MeetsNoRoom M es → MeetsNoRoom S (handled ++ es)
+meets_behind : (S M : State) (handled es : List RawEvent) (sent : List (List RawOut)) → IsRun S handled sent M → MeetsNoRoom M es
+    → MeetsNoRoom S (handled ++ es)
 meets_behind S M handled es sent run h = record {
   handled = handled ++ h.handled;
   next = h.next;
@@ -122,14 +126,17 @@ meets_before_from : (known : Option State) (es more : List RawEvent) → MeetsNo
 meets_before_from (Some S) es more h = meets_before S es more h
 meets_before_from None es more h = tt
 
-meets_join : (a b : Progress) (r s : List RawEvent) → Adds a r b → MeetsNoRoomFrom (state_in b) (b.part ++ s) → MeetsNoRoomFrom (state_in a) (a.part ++ (r ++ s))
+meets_join : (a b : Progress) (r s : List RawEvent) → Adds a r b → MeetsNoRoomFrom (state_in b) (b.part ++ s)
+    → MeetsNoRoomFrom (state_in a) (a.part ++ (r ++ s))
 meets_join a b r s h meets =
     let order : a.part ++ (r ++ s) ≡ h.handled ++ (b.part ++ s) =
     sym (append_assoc a.part r s) ∙ ap (λ (l : List RawEvent). l ++ s) h.order ∙ append_assoc h.handled b.part s in
-    subst (λ (es : List RawEvent). MeetsNoRoomFrom (state_in a) es) (sym order) (meets_behind_from a.register b.register h.handled (b.part ++ s) h.outs h.ran meets)
+    subst (λ (es : List RawEvent). MeetsNoRoomFrom (state_in a) es) (sym order)
+    (meets_behind_from a.register b.register h.handled (b.part ++ s) h.outs h.ran meets)
 
 meets_longer : (a : Progress) (r s : List RawEvent) → MeetsNoRoomFrom (state_in a) (a.part ++ r) → MeetsNoRoomFrom (state_in a) (a.part ++ (r ++ s))
-meets_longer a r s meets = subst (λ (es : List RawEvent). MeetsNoRoomFrom (state_in a) es) (append_assoc a.part r s) (meets_before_from (state_in a) (a.part ++ r) s meets)
+meets_longer a r s meets = subst (λ (es : List RawEvent). MeetsNoRoomFrom (state_in a) es) (append_assoc a.part r s)
+    (meets_before_from (state_in a) (a.part ++ r) s meets)
 
 -- what is known of the state before
 unknown_adds : (a : Progress) (r : List RawEvent) (b : Progress) → Adds a r b → IsUnknown (state_in b) → IsUnknown (state_in a)
@@ -148,12 +155,14 @@ stops_part a r fault stops = stops_weaker fault (meets_before_from (state_in a) 
 -- ---- one shard more
 
 -- the events for the shards up to this one
-pub each_more : (f : ℕ → RawEvent) (n shard : ℕ) (a b c : Progress) → Adds a (map f (range_with_len 0 n)) b → shard ≡ n → Adds b (f shard ∷ []) c → Adds a (map f (range_with_len 0 (n + 1))) c
+pub each_more : (f : ℕ → RawEvent) (n shard : ℕ) (a b c : Progress) → Adds a (map f (range_with_len 0 n)) b → shard ≡ n → Adds b (f shard ∷ []) c
+    → Adds a (map f (range_with_len 0 (n + 1))) c
 each_more f n shard a b c h is one =
     subst (λ (events : List RawEvent). Adds a events c) (sym (map-range_with_len_more f 0 n n (omega arith)))
     (adds_join a b c (map f (range_with_len 0 n)) (f n ∷ []) h (subst (λ (k : ℕ). Adds b (f k ∷ []) c) is one))
 
-each_longer : (f : ℕ → RawEvent) (a : Progress) (fault : Fault) (n more : ℕ) → AddingStops a (map f (range_with_len 0 n)) fault → AddingStops a (map f (range_with_len 0 (n + more))) fault
+each_longer : (f : ℕ → RawEvent) (a : Progress) (fault : Fault) (n more : ℕ) → AddingStops a (map f (range_with_len 0 n)) fault
+    → AddingStops a (map f (range_with_len 0 (n + more))) fault
 each_longer f a fault n more h = go more
   where
     go : (k : ℕ) → AddingStops a (map f (range_with_len 0 (n + k))) fault
@@ -165,10 +174,12 @@ each_longer f a fault n more h = go more
         (stops_longer a (map f (range_with_len 0 (n + k))) (f (n + k) ∷ []) fault (go k)))
 
 -- the event for this shard stops: so do all of them
-pub each_stops : (f : ℕ → RawEvent) (n shard : ℕ) (a b : Progress) (fault : Fault) → n < 16 → Adds a (map f (range_with_len 0 n)) b → shard ≡ n → AddingStops b (f shard ∷ []) fault
+pub each_stops : (f : ℕ → RawEvent) (n shard : ℕ) (a b : Progress) (fault : Fault) → n < 16 → Adds a (map f (range_with_len 0 n)) b → shard ≡ n
+    → AddingStops b (f shard ∷ []) fault
     → AddingStops a (map f (range_with_len 0 16)) fault
 each_stops f n shard a b fault lt h is stops =
-    let here : AddingStops a (map f (range_with_len 0 n) ++ f n ∷ []) fault = stops_join a b (map f (range_with_len 0 n)) (f n ∷ []) fault h (subst (λ (k : ℕ). AddingStops b (f k ∷ []) fault) is stops) in
+    let here : AddingStops a (map f (range_with_len 0 n) ++ f n ∷ []) fault = stops_join a b (map f (range_with_len 0 n)) (f n ∷ []) fault h
+    (subst (λ (k : ℕ). AddingStops b (f k ∷ []) fault) is stops) in
     let first : AddingStops a (map f (range_with_len 0 (n + 1))) fault =
     subst (λ (events : List RawEvent). AddingStops a events fault) (sym (map-range_with_len_more f 0 n n (omega arith))) here in
     let all : (n + 1) + (15 - n) ≡ 16 = omega (arith, lt) in
@@ -176,27 +187,34 @@ each_stops f n shard a b fault lt h is stops =
 
 -- ---- what a line says
 
-pub adds_said : (ids : List (List ℕ)) (item said : Line) (events : List RawEvent) (before after : Progress) → item ≡ said → AreEvents ids said events → Adds before events after → AddsSaid ids before item after
+pub adds_said : (ids : List (List ℕ)) (item said : Line) (events : List RawEvent) (before after : Progress) → item ≡ said → AreEvents ids said events
+    → Adds before events after → AddsSaid ids before item after
 adds_said ids item said events before after is are h = subst (λ (l : Line). AddsSaid ids before l after) (sym is) (events, are, h)
 
-pub said_stops : (ids : List (List ℕ)) (item said : Line) (events : List RawEvent) (before : Progress) (fault : Fault) → item ≡ said → AreEvents ids said events → AddingStops before events fault
+pub said_stops : (ids : List (List ℕ)) (item said : Line) (events : List RawEvent) (before : Progress) (fault : Fault) → item ≡ said → AreEvents ids said events
+    → AddingStops before events fault
     → SaidStops ids before item fault
 said_stops ids item said events before fault is are h =
     subst (λ (l : Line). SaidStops ids before l fault) (sym is) (stops_weaker fault (λ meets. (events, are, meets)) (λ u. u) h)
 
 abbrev pub ReadsFrame : (ids : List (List ℕ)) (from field : List ℕ) → RawEvent → Type 0
-ReadsFrame ids from field raw = (groups : List Group) × (found : List ℕ) × IsOctets field groups × (octets_of ids groups ≡ Some found) × (raw ≡ RawFrame from found)
+ReadsFrame ids from field raw = (groups : List Group) × (found : List ℕ) × IsOctets field groups × (octets_of ids groups ≡ Some found)
+    × (raw ≡ RawFrame from found)
 
 frame_events : (ids : List (List ℕ)) (from field : List ℕ) (raw : RawEvent) → ReadsFrame ids from field raw → AreEvents ids (Frame from field) (raw ∷ [])
 frame_events ids from field raw (groups, found, stands, reads, same) = (groups, found, stands, reads, ap (λ (r : RawEvent). r ∷ []) same)
 
-pub adds_frame : (ids : List (List ℕ)) (item : Line) (from field : List ℕ) (raw : RawEvent) (before after : Progress) → item ≡ Frame from field → ReadsFrame ids from field raw
+pub adds_frame : (ids : List (List ℕ)) (item : Line) (from field : List ℕ) (raw : RawEvent) (before after : Progress) → item ≡ Frame from field
+    → ReadsFrame ids from field raw
     → Adds before (raw ∷ []) after → AddsSaid ids before item after
-adds_frame ids item from field raw before after is read h = adds_said ids item (Frame from field) (raw ∷ []) before after is (frame_events ids from field raw read) h
+adds_frame ids item from field raw before after is read h = adds_said ids item (Frame from field) (raw ∷ []) before after is
+    (frame_events ids from field raw read) h
 
-pub frame_stops : (ids : List (List ℕ)) (item : Line) (from field : List ℕ) (raw : RawEvent) (before : Progress) (fault : Fault) → item ≡ Frame from field → ReadsFrame ids from field raw
+pub frame_stops : (ids : List (List ℕ)) (item : Line) (from field : List ℕ) (raw : RawEvent) (before : Progress) (fault : Fault) → item ≡ Frame from field
+    → ReadsFrame ids from field raw
     → AddingStops before (raw ∷ []) fault → SaidStops ids before item fault
-frame_stops ids item from field raw before fault is read h = said_stops ids item (Frame from field) (raw ∷ []) before fault is (frame_events ids from field raw read) h
+frame_stops ids item from field raw before fault is read h = said_stops ids item (Frame from field) (raw ∷ []) before fault is
+    (frame_events ids from field raw read) h
 
 -- ---- lines whose letters have ids stand for events
 
@@ -212,7 +230,8 @@ known_octets ids (g ∷ gs) e =
     let rest = known_octets ids gs parts.1 in
     (front.0 ++ rest.0, rw (front.1, rest.1) refl)
 
-said_events : (ids : List (List ℕ)) (line : List ℕ) (said : Line) → IsLine line said → HasOctets said → HasIds (length ids) line → (events : List RawEvent) × AreEvents ids said events
+said_events : (ids : List (List ℕ)) (line : List ℕ) (said : Line) → IsLine line said → HasOctets said → HasIds (length ids) line
+    → (events : List RawEvent) × AreEvents ids said events
 said_events ids line (Frame from field) is (groups, stands) known =
     let found = known_octets ids groups (known from field groups is stands) in
     (RawFrame from found.0 ∷ [], (groups, found.0, stands, found.1, refl))
@@ -225,7 +244,8 @@ said_events ids line (Withdraw imsi) is octets known = (RawChange imsi machine.W
 line_events : (ids : List (List ℕ)) (line : List ℕ) → IsGood line → HasIds (length ids) line → (events : List RawEvent) × LineEvents ids line events
 line_events ids line (said, (is, octets)) known = let events = said_events ids line said is octets known in (events.0, (said, is, events.1))
 
-lines_events : (ids : List (List ℕ)) (ls : List (List ℕ)) → AllByRecursion IsGood ls → AllByRecursion (HasIds (length ids)) ls → (events : List RawEvent) × LinesEvents ids ls events
+lines_events : (ids : List (List ℕ)) (ls : List (List ℕ)) → AllByRecursion IsGood ls → AllByRecursion (HasIds (length ids)) ls
+    → (events : List RawEvent) × LinesEvents ids ls events
 lines_events ids [] good known = ([], refl)
 lines_events ids (l ∷ ls) good known =
     let front = line_events ids l good.0 known.0 in
@@ -233,12 +253,14 @@ lines_events ids (l ∷ ls) good known =
     (front.0 ++ rest.0, (front.0, rest.0, front.1, rest.1, refl))
 
 -- the item read from a good line stands for events
-pub item_events : (ids : List (List ℕ)) (line : List ℕ) (item : Line) → IsGood line → HasIds (length ids) line → ((said : Line) → IsLine line said → item ≡ said)
+pub item_events : (ids : List (List ℕ)) (line : List ℕ) (item : Line) → IsGood line → HasIds (length ids) line
+    → ((said : Line) → IsLine line said → item ≡ said)
     → (events : List RawEvent) × AreEvents ids item events
 item_events ids line item (said, (is, octets)) known only =
     subst (λ (l : Line). (events : List RawEvent) × AreEvents ids l events) (sym (only said is)) (said_events ids line said is octets known)
 
-pub line_stops : (ids : List (List ℕ)) (line : List ℕ) (item : Line) (before : Progress) (fault : Fault) → IsLine line item → SaidStops ids before item fault → LineStops ids before line fault
+pub line_stops : (ids : List (List ℕ)) (line : List ℕ) (item : Line) (before : Progress) (fault : Fault) → IsLine line item → SaidStops ids before item fault
+    → LineStops ids before line fault
 line_stops ids line item before fault is stops = stops_weaker fault (λ (raws, are, met). (item, is, raws, are, met)) (λ u. u) stops
 
 -- ---- one line more
@@ -251,19 +273,23 @@ pub record GoesOn (ids : List (List ℕ)) (start : Progress) (whole_lines : List
   pub good : AllByRecursion IsGood rest
   pub known : AllByRecursion (HasIds (length ids)) rest
 
-pub adding_begins : (ids : List (List ℕ)) (start : Progress) (ls : List (List ℕ)) → AllByRecursion IsGood ls → AllByRecursion (HasIds (length ids)) ls → GoesOn ids start ls start ls
+pub adding_begins : (ids : List (List ℕ)) (start : Progress) (ls : List (List ℕ)) → AllByRecursion IsGood ls → AllByRecursion (HasIds (length ids)) ls
+    → GoesOn ids start ls start ls
 adding_begins ids start ls good known = record { all = λ after h. h; stops = λ h. h; unknown = λ u. u; good = good; known = known }
 
 -- the next line is good, and its letters have ids
-pub next_good : (ids : List (List ℕ)) (start : Progress) (ls : List (List ℕ)) (here : Progress) (rest : List (List ℕ)) (line : List ℕ) (more : List (List ℕ)) → GoesOn ids start ls here rest
+pub next_good : (ids : List (List ℕ)) (start : Progress) (ls : List (List ℕ)) (here : Progress) (rest : List (List ℕ)) (line : List ℕ) (more : List (List ℕ))
+    → GoesOn ids start ls here rest
     → rest ≡ line ∷ more → IsGood line
 next_good ids start ls here rest line more h is = (subst (AllByRecursion IsGood) is h.good).0
 
-pub next_known : (ids : List (List ℕ)) (start : Progress) (ls : List (List ℕ)) (here : Progress) (rest : List (List ℕ)) (line : List ℕ) (more : List (List ℕ)) → GoesOn ids start ls here rest
+pub next_known : (ids : List (List ℕ)) (start : Progress) (ls : List (List ℕ)) (here : Progress) (rest : List (List ℕ)) (line : List ℕ) (more : List (List ℕ))
+    → GoesOn ids start ls here rest
     → rest ≡ line ∷ more → HasIds (length ids) line
 next_known ids start ls here rest line more h is = (subst (AllByRecursion (HasIds (length ids))) is h.known).0
 
-pub adding_goes_on : (ids : List (List ℕ)) (start : Progress) (ls : List (List ℕ)) (here next : Progress) (rest : List (List ℕ)) (line : List ℕ) (more : List (List ℕ))
+pub adding_goes_on : (ids : List (List ℕ)) (start : Progress) (ls : List (List ℕ)) (here next : Progress) (rest : List (List ℕ)) (line : List ℕ)
+    (more : List (List ℕ))
     → GoesOn ids start ls here rest → rest ≡ line ∷ more → AddsLine ids here line next → GoesOn ids start ls next more
 adding_goes_on ids start ls here next rest line more h is (said, reads, (raws, are, adds)) = record {
   all = λ after later. h.all after (subst (λ (k : List (List ℕ)). AddsLines ids here k after) (sym is)
@@ -275,17 +301,20 @@ adding_goes_on ids start ls here next rest line more h is (said, reads, (raws, a
   known = (subst (AllByRecursion (HasIds (length ids))) is h.known).1;
 }
 
-pub adding_ends : (ids : List (List ℕ)) (start : Progress) (ls : List (List ℕ)) (here : Progress) (rest : List (List ℕ)) → GoesOn ids start ls here rest → rest ≡ [] → AddsLines ids start ls here
+pub adding_ends : (ids : List (List ℕ)) (start : Progress) (ls : List (List ℕ)) (here : Progress) (rest : List (List ℕ)) → GoesOn ids start ls here rest
+    → rest ≡ [] → AddsLines ids start ls here
 adding_ends ids start ls here rest h is = h.all here (subst (λ (k : List (List ℕ)). AddsLines ids here k here) (sym is) ([], refl, adds_none here))
 
-pub adding_stops : (ids : List (List ℕ)) (start : Progress) (ls : List (List ℕ)) (here : Progress) (rest : List (List ℕ)) (line : List ℕ) (more : List (List ℕ)) (fault : Fault)
+pub adding_stops : (ids : List (List ℕ)) (start : Progress) (ls : List (List ℕ)) (here : Progress) (rest : List (List ℕ)) (line : List ℕ) (more : List (List ℕ))
+    (fault : Fault)
     → GoesOn ids start ls here rest → rest ≡ line ∷ more → LineStops ids here line fault → LinesStop ids start ls fault
 adding_stops ids start ls here rest line more fault h is stops = stops_weaker fault meets h.unknown stops
   where
     later : (events : List RawEvent) × LinesEvents ids more events
     later = lines_events ids more (subst (AllByRecursion IsGood) is h.good).1 (subst (AllByRecursion (HasIds (length ids))) is h.known).1
 
-    meets : (said : Line) × IsLine line said × (raws : List RawEvent) × AreEvents ids said raws × MeetsNoRoomFrom (state_in here) (here.part ++ raws) → LinesMeetNoRoom ids start ls
+    meets : (said : Line) × IsLine line said × (raws : List RawEvent) × AreEvents ids said raws × MeetsNoRoomFrom (state_in here) (here.part ++ raws)
+        → LinesMeetNoRoom ids start ls
     meets (said, reads, raws, are, met) =
         h.stops (subst (λ (k : List (List ℕ)). LinesMeetNoRoom ids here k) (sym is)
         (raws ++ later.0, (raws, later.0, (said, reads, are), later.1, refl), meets_longer here raws later.0 met))
@@ -293,11 +322,13 @@ adding_stops ids start ls here rest line more fault h is stops = stops_weaker fa
 -- ---- a batch
 
 -- a batch begins with an empty part, and ends with one
-pub handles : (ids : List (List ℕ)) (a b c : Progress) (ls : List (List ℕ)) → a.part ≡ [] → a.sent ≡ [] → AddsLines ids a ls b → Adds b [] c → c.part ≡ [] → Handles ids a.register ls c.sent c.register
+pub handles : (ids : List (List ℕ)) (a b c : Progress) (ls : List (List ℕ)) → a.part ≡ [] → a.sent ≡ [] → AddsLines ids a ls b → Adds b [] c → c.part ≡ []
+    → Handles ids a.register ls c.sent c.register
 handles ids a b c ls none nothing (raws, are, adds) last empty =
     let all = adds_join a b c raws [] adds last in
     let events : raws ≡ all.handled =
-    sym (append-nil raws) ∙ sym (ap (λ (l : List RawEvent). l ++ (raws ++ [])) none) ∙ all.order ∙ ap (λ (l : List RawEvent). all.handled ++ l) empty ∙ append-nil all.handled in
+    sym (append-nil raws) ∙ sym (ap (λ (l : List RawEvent). l ++ (raws ++ [])) none) ∙ all.order ∙ ap (λ (l : List RawEvent). all.handled ++ l) empty
+    ∙ append-nil all.handled in
     record {
       batch = record { events = all.handled; sent = all.outs };
       are_events = subst (λ (es : List RawEvent). LinesEvents ids ls es) events are;
@@ -306,7 +337,8 @@ handles ids a b c ls none nothing (raws, are, adds) last empty =
       sent_is = all.sent ∙ ap (λ (l : List RawOut). l ++ flat_map (λ o. o) all.outs) nothing;
     }
 
-batch_meets : (ids : List (List ℕ)) (a : Progress) (ls : List (List ℕ)) → a.part ≡ [] → AllByRecursion (HasIds (length ids)) ls → LinesMeetNoRoom ids a ls → BatchMeetsNoRoom ids (state_in a) ls
+batch_meets : (ids : List (List ℕ)) (a : Progress) (ls : List (List ℕ)) → a.part ≡ [] → AllByRecursion (HasIds (length ids)) ls → LinesMeetNoRoom ids a ls
+    → BatchMeetsNoRoom ids (state_in a) ls
 batch_meets ids a ls none known (raws, are, met) = record {
   have_ids = known;
   events = raws;
@@ -328,6 +360,12 @@ batch_stops ids before a ls (Unaccounted job) none known h = h
 batch_stops ids before a ls Output none known h = absurd h
 
 -- its last part stops
-pub last_stops : (ids : List (List ℕ)) (a b : Progress) (ls : List (List ℕ)) (fault : Fault) → AddsLines ids a ls b → AddingStops b [] fault → LinesStop ids a ls fault
+pub last_stops : (ids : List (List ℕ)) (a b : Progress) (ls : List (List ℕ)) (fault : Fault) → AddsLines ids a ls b → AddingStops b [] fault
+    → LinesStop ids a ls fault
 last_stops ids a b ls fault (raws, are, adds) stops =
-    stops_weaker fault (λ met. (raws, are, subst (λ (es : List RawEvent). MeetsNoRoomFrom (state_in a) (a.part ++ es)) (append-nil raws) (meets_join a b raws [] adds met))) (unknown_adds a raws b adds) stops
+    stops_weaker fault (λ met. (
+      raws,
+      are,
+      subst (λ (es : List RawEvent). MeetsNoRoomFrom (state_in a) (a.part ++ es)) (append-nil raws)
+          (meets_join a b raws [] adds met),
+    )) (unknown_adds a raws b adds) stops

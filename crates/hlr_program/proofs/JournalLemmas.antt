@@ -23,7 +23,8 @@ use Rattle.hlr_program.proofs.RunLemmas.{no_run, run_join, runs_join}
 
 -- ---- one entry more
 
-merges_more : (es : List RawEntry) (js : ℕ → List RawEntry) (n : ℕ) (e : RawEntry) → n < 16 → MergesOctets js es → MergesOctets (put_at js n (js n ++ e ∷ [])) (es ++ e ∷ [])
+merges_more : (es : List RawEntry) (js : ℕ → List RawEntry) (n : ℕ) (e : RawEntry) → n < 16 → MergesOctets js es
+    → MergesOctets (put_at js n (js n ++ e ∷ [])) (es ++ e ∷ [])
 merges_more [] js n e small none =
     (n, [], small, put_at_same js n (js n ++ e ∷ []) n refl ∙ ap (λ (l : List RawEntry). l ++ e ∷ []) (none n small), all_none)
   where
@@ -38,21 +39,24 @@ merges_more (x ∷ es) js n e small (m, rest, lt, is, more) = elim (cases_eq n m
     rest ++ e ∷ [],
     lt,
     put_at_same js n (js n ++ e ∷ []) m same ∙ ap (λ (l : List RawEntry). l ++ e ∷ []) (ap js same ∙ is),
-    subst (λ (f : ℕ → List RawEntry). MergesOctets f (es ++ e ∷ [])) (fun_ext (λ k. here same k (cases_eq n k))) (merges_more es (put_at js m rest) n e small more),
+    subst (λ (f : ℕ → List RawEntry). MergesOctets f (es ++ e ∷ [])) (fun_ext (λ k. here same k (cases_eq n k)))
+        (merges_more es (put_at js m rest) n e small more),
   )
   | inr other ↦ (
     m,
     rest,
     lt,
     put_at_other js n (js n ++ e ∷ []) m other ∙ is,
-    subst (λ (f : ℕ → List RawEntry). MergesOctets f (es ++ e ∷ [])) (fun_ext (λ k. elsewhere other k (cases_eq n k) (cases_eq m k))) (merges_more es (put_at js m rest) n e small more),
+    subst (λ (f : ℕ → List RawEntry). MergesOctets f (es ++ e ∷ [])) (fun_ext (λ k. elsewhere other k (cases_eq n k) (cases_eq m k)))
+        (merges_more es (put_at js m rest) n e small more),
   )
 ]
   where
     later : ℕ → List RawEntry
     later = put_at js m rest
 
-    here : n ≡ m → (k : ℕ) → (n ≡ k) ⊎ (n ≡ k → ⊥) → put_at (put_at js m rest) n (put_at js m rest n ++ e ∷ []) k ≡ put_at (put_at js n (js n ++ e ∷ [])) m (rest ++ e ∷ []) k
+    here : n ≡ m → (k : ℕ) → (n ≡ k) ⊎ (n ≡ k → ⊥) → put_at (put_at js m rest) n (put_at js m rest n ++ e ∷ []) k
+        ≡ put_at (put_at js n (js n ++ e ∷ [])) m (rest ++ e ∷ []) k
     here same k (inl at) =
         put_at_same (put_at js m rest) n (put_at js m rest n ++ e ∷ []) k at ∙ ap (λ (l : List RawEntry). l ++ e ∷ []) (put_at_same js m rest n (sym same))
         ∙ sym (put_at_same (put_at js n (js n ++ e ∷ [])) m (rest ++ e ∷ []) k (sym same ∙ at))
@@ -64,10 +68,12 @@ merges_more (x ∷ es) js n e small (m, rest, lt, is, more) = elim (cases_eq n m
         → put_at (put_at js m rest) n (put_at js m rest n ++ e ∷ []) k ≡ put_at (put_at js n (js n ++ e ∷ [])) m rest k
     elsewhere other k (inl at) (inl mk) = absurd (other (at ∙ sym mk))
     elsewhere other k (inl at) (inr not_m) =
-        put_at_same (put_at js m rest) n (put_at js m rest n ++ e ∷ []) k at ∙ ap (λ (l : List RawEntry). l ++ e ∷ []) (put_at_other js m rest n (λ mn. other (sym mn)))
+        put_at_same (put_at js m rest) n (put_at js m rest n ++ e ∷ []) k at ∙ ap (λ (l : List RawEntry). l ++ e ∷ [])
+        (put_at_other js m rest n (λ mn. other (sym mn)))
         ∙ sym (put_at_other (put_at js n (js n ++ e ∷ [])) m rest k not_m ∙ put_at_same js n (js n ++ e ∷ []) k at)
     elsewhere other k (inr ne) (inl mk) =
-        put_at_other (put_at js m rest) n (put_at js m rest n ++ e ∷ []) k ne ∙ put_at_same js m rest k mk ∙ sym (put_at_same (put_at js n (js n ++ e ∷ [])) m rest k mk)
+        put_at_other (put_at js m rest) n (put_at js m rest n ++ e ∷ []) k ne ∙ put_at_same js m rest k mk
+        ∙ sym (put_at_same (put_at js n (js n ++ e ∷ [])) m rest k mk)
     elsewhere other k (inr ne) (inr not_m) =
         put_at_other (put_at js m rest) n (put_at js m rest n ++ e ∷ []) k ne ∙ put_at_other js m rest k not_m
         ∙ sym (put_at_other (put_at js n (js n ++ e ∷ [])) m rest k not_m ∙ put_at_other js n (js n ++ e ∷ []) k ne)
@@ -93,7 +99,8 @@ journals_set shards i l m e at added = fun_ext (λ n. each n (cases_eq i n))
         ∙ sym (ap journal_at (set_there shards i m (slice_get_within shards i l at))) ∙ ap (journals (set shards i m)) is
     each n (inr ne) = put_at_other (journals shards) i (journals shards i ++ e ∷ []) n ne ∙ sym (ap journal_at (set_elsewhere shards i n m ne))
 
-takes_at_end : (begin : State) (events : List RawEvent) (sent : List (List RawOut)) (before : NodeState) (raw : RawEvent) (handled : Handled) (after : NodeState)
+takes_at_end : (begin : State) (events : List RawEvent) (sent : List (List RawOut)) (before : NodeState) (raw : RawEvent) (handled : Handled)
+    (after : NodeState)
     → length before.shards ≡ 16 → Takes before raw handled after → IsAtEnd begin events sent before
     → IsAtEnd begin (events ++ raw ∷ []) (sent ++ sent_of handled ∷ []) after
 takes_at_end begin events sent before raw handled after sixteen t h = record {
@@ -111,9 +118,11 @@ takes_at_end begin events sent before raw handled after sixteen t h = record {
     outs = map-append (λ e. e.outs) h.from_cut.entries (entry ∷ []) ∙ ap (λ (l : List (List RawOut)). l ++ entry.outs ∷ []) h.from_cut.outs
         ∙ ap (λ (o : List RawOut). h.sent_kept ++ o ∷ []) (sym t.handles.outs_are);
     run = subst (λ (S : State). RunOctets S (h.from_cut.entries ++ entry ∷ []) (whole after.shards)) (sym base)
-        (run_join (whole_base before.shards) (whole before.shards) (whole after.shards) h.from_cut.entries (entry ∷ []) h.from_cut.run (whole after.shards, t.step, refl));
+        (run_join (whole_base before.shards) (whole before.shards) (whole after.shards) h.from_cut.entries (entry ∷ []) h.from_cut.run
+        (whole after.shards, t.step, refl));
   };
-  merges = subst (λ (f : ℕ → List RawEntry). MergesOctets f (h.from_cut.entries ++ entry ∷ [])) grown (merges_more h.from_cut.entries (journals before.shards) t.place entry small h.merges);
+  merges = subst (λ (f : ℕ → List RawEntry). MergesOctets f (h.from_cut.entries ++ entry ∷ [])) grown
+      (merges_more h.from_cut.entries (journals before.shards) t.place entry small h.merges);
 }
   where
     entry : RawEntry
@@ -128,16 +137,20 @@ takes_at_end begin events sent before raw handled after sixteen t h = record {
     grown : put_at (journals before.shards) t.place (journals before.shards t.place ++ entry ∷ []) ≡ journals after.shards
     grown = journals_set before.shards t.place t.shard t.next entry t.is_for.stands t.handles.added ∙ sym (ap (λ (n : NodeState). journals n.shards) t.changed)
 
-same_count : (before : NodeState) (raw : RawEvent) (handled : Handled) (after : NodeState) → length before.shards ≡ 16 → Takes before raw handled after → length after.shards ≡ 16
+same_count : (before : NodeState) (raw : RawEvent) (handled : Handled) (after : NodeState) → length before.shards ≡ 16 → Takes before raw handled after
+    → length after.shards ≡ 16
 same_count before raw handled after sixteen t = ap (λ (n : NodeState). length n.shards) t.changed ∙ length-set before.shards t.place t.next ∙ sixteen
 
 -- ---- a part is handled
 
-runs_at_end : (begin : State) (events : List RawEvent) (sent : List (List RawOut)) (before : NodeState) (raws : List RawEvent) (done : List Handled) (after : NodeState)
-    → length before.shards ≡ 16 → Runs before raws done after → IsAtEnd begin events sent before → IsAtEnd begin (events ++ raws) (sent ++ map sent_of done) after
+runs_at_end : (begin : State) (events : List RawEvent) (sent : List (List RawOut)) (before : NodeState) (raws : List RawEvent) (done : List Handled)
+    (after : NodeState)
+    → length before.shards ≡ 16 → Runs before raws done after → IsAtEnd begin events sent before
+    → IsAtEnd begin (events ++ raws) (sent ++ map sent_of done) after
 runs_at_end begin events sent before [] [] after sixteen runs h =
     subst (λ (n : NodeState). IsAtEnd begin (events ++ []) (sent ++ []) n) (sym runs)
-    (subst (λ (es : List RawEvent). IsAtEnd begin es (sent ++ []) before) (sym (append-nil events)) (subst (λ (os : List (List RawOut)). IsAtEnd begin events os before) (sym (append-nil sent)) h))
+    (subst (λ (es : List RawEvent). IsAtEnd begin es (sent ++ []) before) (sym (append-nil events))
+    (subst (λ (os : List (List RawOut)). IsAtEnd begin events os before) (sym (append-nil sent)) h))
 runs_at_end begin events sent before [] (d ∷ ds) after sixteen runs h = absurd runs
 runs_at_end begin events sent before (r ∷ rs) [] after sixteen runs h = absurd runs
 runs_at_end begin events sent before (r ∷ rs) (d ∷ ds) after sixteen (between, first, more) h =
@@ -168,14 +181,16 @@ cut_base : (before after : NodeState) → AreCut before after → whole_base aft
 cut_base before after cut = ap union (fun_ext (λ n. ap base_at (cut.each n) ∙ base_cut (slice_get before.shards n)))
 
 -- the run up to the register's state
-pub run_to_end : (begin : State) (events : List RawEvent) (sent : List (List RawOut)) (node : NodeState) → IsAtEnd begin events sent node → IsRun begin events sent (whole node.shards)
+pub run_to_end : (begin : State) (events : List RawEvent) (sent : List (List RawOut)) (node : NodeState) → IsAtEnd begin events sent node
+    → IsRun begin events sent (whole node.shards)
 run_to_end begin events sent node h =
     subst (λ (es : List RawEvent). IsRun begin es sent (whole node.shards)) (sym h.events_are)
     (subst (λ (os : List (List RawOut)). IsRun begin (h.before_cut ++ h.kept) os (whole node.shards)) (sym h.sent_are)
     (runs_join begin (whole_base node.shards) (whole node.shards) h.before_cut h.kept h.sent_before_cut h.sent_kept h.to_cut h.from_cut))
 
 -- empty journals, which begin in the current states of the shards
-fresh_at_end : (begin : State) (events : List RawEvent) (sent : List (List RawOut)) (node : NodeState) → whole_base node.shards ≡ whole node.shards → ((n : ℕ) → journals node.shards n ≡ [])
+fresh_at_end : (begin : State) (events : List RawEvent) (sent : List (List RawOut)) (node : NodeState) → whole_base node.shards ≡ whole node.shards
+    → ((n : ℕ) → journals node.shards n ≡ [])
     → IsRun begin events sent (whole node.shards) → IsAtEnd begin events sent node
 fresh_at_end begin events sent node same none run = record {
   before_cut = events;
@@ -189,22 +204,26 @@ fresh_at_end begin events sent node same none run = record {
   merges = λ n lt. none n;
 }
 
-cut_at_end : (begin : State) (events : List RawEvent) (sent : List (List RawOut)) (before after : NodeState) → AreCut before after → IsAtEnd begin events sent before
+cut_at_end : (begin : State) (events : List RawEvent) (sent : List (List RawOut)) (before after : NodeState) → AreCut before after
+    → IsAtEnd begin events sent before
     → IsAtEnd begin events sent after
 cut_at_end begin events sent before after cut h =
-    fresh_at_end begin events sent after (cut_base before after cut ∙ sym (cut_whole before after cut)) (λ n. ap journal_at (cut.each n) ∙ journal_cut (slice_get before.shards n))
+    fresh_at_end begin events sent after (cut_base before after cut ∙ sym (cut_whole before after cut))
+    (λ n. ap journal_at (cut.each n) ∙ journal_cut (slice_get before.shards n))
     (subst (λ (S : State). IsRun begin events sent S) (sym (cut_whole before after cut)) (run_to_end begin events sent before h))
 
 pub made_whole : (before ready : NodeState) (count : ℕ) → MakesRoom before count ready → whole ready.shards ≡ whole before.shards
 made_whole before ready count (inl (room, same)) = ap (λ (n : NodeState). whole n.shards) same
 made_whole before ready count (inr (none, cut)) = cut_whole before ready cut
 
-made_at_end : (begin : State) (events : List RawEvent) (sent : List (List RawOut)) (before ready : NodeState) (count : ℕ) → MakesRoom before count ready → IsAtEnd begin events sent before
+made_at_end : (begin : State) (events : List RawEvent) (sent : List (List RawOut)) (before ready : NodeState) (count : ℕ) → MakesRoom before count ready
+    → IsAtEnd begin events sent before
     → IsAtEnd begin events sent ready
 made_at_end begin events sent before ready count (inl (room, same)) h = subst (λ (n : NodeState). IsAtEnd begin events sent n) (sym same) h
 made_at_end begin events sent before ready count (inr (none, cut)) h = cut_at_end begin events sent before ready cut h
 
-pub part_continues : (before ready : NodeState) (count : ℕ) (raws : List RawEvent) (done : List Handled) (after : NodeState) → MakesRoom before count ready → length ready.shards ≡ 16
+pub part_continues : (before ready : NodeState) (count : ℕ) (raws : List RawEvent) (done : List Handled) (after : NodeState) → MakesRoom before count ready
+    → length ready.shards ≡ 16
     → Runs ready raws done after → Continues before raws (map sent_of done) after
 part_continues before ready count raws done after makes sixteen runs =
     λ begin events sent h. runs_at_end begin events sent ready raws done after sixteen runs (made_at_end begin events sent before ready count makes h)
@@ -213,19 +232,24 @@ part_continues before ready count raws done after makes sixteen runs =
 
 pub continues_none : (node : NodeState) → Continues node [] [] node
 continues_none node = λ begin events sent h.
-    subst (λ (es : List RawEvent). IsAtEnd begin es (sent ++ []) node) (sym (append-nil events)) (subst (λ (os : List (List RawOut)). IsAtEnd begin events os node) (sym (append-nil sent)) h)
+    subst (λ (es : List RawEvent). IsAtEnd begin es (sent ++ []) node) (sym (append-nil events))
+    (subst (λ (os : List (List RawOut)). IsAtEnd begin events os node) (sym (append-nil sent)) h)
 
-pub continues_join : (a b c : NodeState) (r s : List RawEvent) (x y : List (List RawOut)) → Continues a r x b → Continues b s y c → Continues a (r ++ s) (x ++ y) c
+pub continues_join : (a b c : NodeState) (r s : List RawEvent) (x y : List (List RawOut)) → Continues a r x b → Continues b s y c
+    → Continues a (r ++ s) (x ++ y) c
 continues_join a b c r s x y h k = λ begin events sent at.
     subst (λ (es : List RawEvent). IsAtEnd begin es (sent ++ (x ++ y)) c) (append_assoc events r s)
-    (subst (λ (os : List (List RawOut)). IsAtEnd begin ((events ++ r) ++ s) os c) (append_assoc sent x y) (k begin (events ++ r) (sent ++ x) (h begin events sent at)))
+    (subst (λ (os : List (List RawOut)). IsAtEnd begin ((events ++ r) ++ s) os c) (append_assoc sent x y)
+    (k begin (events ++ r) (sent ++ x) (h begin events sent at)))
 
 -- ---- the opening
 
-pub opening_at_end : (begin : State) (node : NodeState) → ((n : ℕ) (l : Log) → slice_get node.shards n ≡ Some l → (l.base ≡ l.state) × (l.entries ≡ [])) → whole node.shards ≡ begin
+pub opening_at_end : (begin : State) (node : NodeState) → ((n : ℕ) (l : Log) → slice_get node.shards n ≡ Some l → (l.base ≡ l.state) × (l.entries ≡ []))
+    → whole node.shards ≡ begin
     → IsAtEnd begin [] [] node
 opening_at_end begin node fresh is =
-    fresh_at_end begin [] [] node (ap union (fun_ext (λ n. base (slice_get node.shards n) (λ l e. (fresh n l e).0)))) (λ n. none (slice_get node.shards n) (λ l e. (fresh n l e).1))
+    fresh_at_end begin [] [] node (ap union (fun_ext (λ n. base (slice_get node.shards n) (λ l e. (fresh n l e).0))))
+    (λ n. none (slice_get node.shards n) (λ l e. (fresh n l e).1))
     (subst (λ (S : State). IsRun begin [] [] S) (sym is) (no_run begin))
   where
     base : (o : Option Log) → ((l : Log) → o ≡ Some l → l.base ≡ l.state) → base_at o ≡ state_at o

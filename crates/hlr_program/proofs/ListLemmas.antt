@@ -20,7 +20,8 @@ else_on P Q (Err e) h f = f e h
 is_asked : (b : Bool) (P : List ℕ → Type 0) (xs : List ℕ) → b ≡ true → P xs → Asked b P xs
 is_asked b P xs e h = subst (λ (c : Bool). Asked c P xs) (sym e) h
 
-pub asked_for : {A E : Type 0} (r : Result A E) (b : Bool) (P : List ℕ → Type 0) (old new : List ℕ) → b ≡ true → OnOk r ((xs : List ℕ) × P xs × (new ≡ old ++ xs))
+pub asked_for : {A E : Type 0} (r : Result A E) (b : Bool) (P : List ℕ → Type 0) (old new : List ℕ) → b ≡ true
+    → OnOk r ((xs : List ℕ) × P xs × (new ≡ old ++ xs))
     → OnOk r ((xs : List ℕ) × Asked b P xs × (new ≡ old ++ xs))
 asked_for r b P old new e h = then_on r h (λ (xs, is, added). (xs, is_asked b P xs e is, added))
 

@@ -157,7 +157,8 @@ record Split (S : State) (raws : List RawEntry) (T : State) : Type 0 where
   unnamed : LeadUnnamed S raws T
 
 -- one more entry, in front
-split_more : (S M T : State) (raw : RawEntry) (raws : List RawEntry) (entry : Entry) (spells : SpellsEntry raw entry) (step : Step S entry.event M entry.answer) → Sound S → IsOfShard raw.event
+split_more : (S M T : State) (raw : RawEntry) (raws : List RawEntry) (entry : Entry) (spells : SpellsEntry raw entry) (step : Step S entry.event M entry.answer)
+    → Sound S → IsOfShard raw.event
     → Split M raws T → Split S (raw ∷ raws) T
 split_more S M T raw raws entry spells step sound of later = record {
   journals = put_at later.journals m (raw ∷ later.journals m);
@@ -184,7 +185,8 @@ split_more S M T raw raws entry spells step sound of later = record {
     again : (k : ℕ) → (m ≡ k) ⊎ (m ≡ k → ⊥) → later.journals k ≡ put_at (put_at later.journals m (raw ∷ later.journals m)) m (later.journals m) k
     again k (inl e) = sym (put_at_same (put_at later.journals m (raw ∷ later.journals m)) m (later.journals m) k e ∙ ap later.journals e)
     again k (inr ne) =
-        sym (put_at_other (put_at later.journals m (raw ∷ later.journals m)) m (later.journals m) k ne ∙ put_at_other later.journals m (raw ∷ later.journals m) k ne)
+        sym (put_at_other (put_at later.journals m (raw ∷ later.journals m)) m (later.journals m) k ne
+        ∙ put_at_other later.journals m (raw ∷ later.journals m) k ne)
 
     one : (n : ℕ) → n < 16 → m ≡ n → LegalOctets n (part S n) (raw ∷ []) (part M n)
     one n lt e =
@@ -194,7 +196,8 @@ split_more S M T raw raws entry spells step sound of later = record {
 
     at : (n : ℕ) → n < 16 → (m ≡ n) ⊎ (m ≡ n → ⊥) → LegalOctets n (part S n) (put_at later.journals m (raw ∷ later.journals m) n) (part T n)
     at n lt (inl e) =
-        subst (λ (es : List RawEntry). LegalOctets n (part S n) es (part T n)) (ap (λ (k : ℕ). raw ∷ later.journals k) (sym e) ∙ sym (put_at_same later.journals m (raw ∷ later.journals m) n e))
+        subst (λ (es : List RawEntry). LegalOctets n (part S n) es (part T n))
+        (ap (λ (k : ℕ). raw ∷ later.journals k) (sym e) ∙ sym (put_at_same later.journals m (raw ∷ later.journals m) n e))
         (octets_append n (part S n) (part M n) (part T n) (raw ∷ []) (later.journals n) (one n lt e) (later.legal n lt))
     at n lt (inr ne) =
         subst (λ (es : List RawEntry). LegalOctets n (part S n) es (part T n)) (sym (put_at_other later.journals m (raw ∷ later.journals m) n ne))
@@ -212,13 +215,15 @@ split S (raw ∷ raws) T sound of (M, (entry, spells, step), rest) =
 
 -- ---- what an operator gets
 
-run_is_kept : (begin : State) (events : List RawEvent) (sent : List (List RawOut)) (end : State) → Sound begin → Every IsOfShard events → IsRun begin events sent end → IsKept begin events sent end
+run_is_kept : (begin : State) (events : List RawEvent) (sent : List (List RawOut)) (end : State) → Sound begin → Every IsOfShard events
+    → IsRun begin events sent end → IsKept begin events sent end
 run_is_kept begin events sent end sound of run = record {
   run = run;
   journals = all.journals;
   merges = all.merges;
   keep = keep;
-  holders = λ imsi. subst (λ r. AreHolders (shard_of imsi) (part begin (shard_of imsi)) (all.journals (shard_of imsi)) (part end (shard_of imsi)) imsi (serving r)) (part_record end imsi)
+  holders = λ imsi. subst (λ r. AreHolders (shard_of imsi) (part begin (shard_of imsi)) (all.journals (shard_of imsi)) (part end (shard_of imsi)) imsi
+      (serving r)) (part_record end imsi)
       ((keep (shard_of imsi) (shard_small imsi)).holders imsi);
   unnamed = all.unnamed;
 }
@@ -259,7 +264,8 @@ every_all P [] h = All-nil P
 every_all P (e ∷ es) h = All-cons P e es h.0 (every_all P es h.1)
 
 -- the run up to the cut, and the run after it
-handed_out_kept : (begin : State) (events : List RawEvent) (sent : List (List RawOut)) (shards : List Log) → Sound begin → Every IsOfShard events → HandsOut begin events sent shards
+handed_out_kept : (begin : State) (events : List RawEvent) (sent : List (List RawOut)) (shards : List Log) → Sound begin → Every IsOfShard events
+    → HandsOut begin events sent shards
     → IsKeptInSomeOrder begin events sent (whole shards)
 handed_out_kept begin events sent shards sound of h = record {
   one_each = each;
@@ -288,7 +294,8 @@ handed_out_kept begin events sent shards sound of h = record {
     order = subst (λ (l : List (RawEvent × List RawOut)). IsPermutation l (map event_and_frames entries)) (sym pairs)
         (subst (λ (l : List (RawEvent × List RawOut)). IsPermutation (zip h.before_cut h.sent_before_cut ++ zip h.kept h.sent_kept) l)
         (sym (map-append event_and_frames h.to_cut.entries h.from_cut.entries))
-        (IsPermutation-append (zip h.before_cut h.sent_before_cut) (map event_and_frames h.to_cut.entries) (zip h.kept h.sent_kept) (map event_and_frames h.from_cut.entries)
+        (IsPermutation-append (zip h.before_cut h.sent_before_cut) (map event_and_frames h.to_cut.entries) (zip h.kept h.sent_kept)
+        (map event_and_frames h.from_cut.entries)
         h.to_cut.order h.from_cut.order))
 
     same_events : IsPermutation events (map (λ e. e.event) entries)
@@ -297,13 +304,16 @@ handed_out_kept begin events sent shards sound of h = record {
         (IsPermutation-map (λ p. p.0) (zip events sent) (map event_and_frames entries) order))
 
     moved : Every IsOfShard (map (λ e. e.event) entries)
-    moved = all_every IsOfShard (map (λ e. e.event) entries) (All-permutation IsOfShard events (map (λ e. e.event) entries) same_events (every_all IsOfShard events of))
+    moved = all_every IsOfShard (map (λ e. e.event) entries) (All-permutation IsOfShard events (map (λ e. e.event) entries) same_events
+        (every_all IsOfShard events of))
 
-kept_with : (workers : ℕ) (begin : State) (batches : List BatchRun) (shards : List Log) → Sound begin → Every IsOfShard (events_in batches) → EndsWith workers begin batches shards
+kept_with : (workers : ℕ) (begin : State) (batches : List BatchRun) (shards : List Log) → Sound begin → Every IsOfShard (events_in batches)
+    → EndsWith workers begin batches shards
     → IsKeptWith workers begin (events_in batches) (sent_in batches) (whole shards)
 kept_with zero begin batches shards sound of ends = run_is_kept begin (events_in batches) (sent_in batches) (whole shards) sound of ends.run
 kept_with (suc more) begin batches shards sound of ends = handed_out_kept begin (events_in batches) (sent_in batches) shards sound of ends
 
 pub operator_gets : OperatorGets
 operator_gets options file script printed served =
-    kept_with options.workers _ served.ran.batches served.ran.shards served.ran.begins_sound (batches_of_shards [] _ served.ran.batches served.ran.are_batches) served.ran.ends
+    kept_with options.workers _ served.ran.batches served.ran.shards served.ran.begins_sound
+    (batches_of_shards [] _ served.ran.batches served.ran.are_batches) served.ran.ends

@@ -4,6 +4,7 @@ use Rattle.std.specs.List.{flat_map}
 use Rattle.std.specs.Prelude.{◌⊎◌, Option, Some, None, option_map, slice_get}
 use Rattle.std.proofs.lemmas.Bool.{cases_eq, cases_order}
 use Rattle.std.proofs.lemmas.Option.{slice_get_past, slice_get_within}
+use Rattle.machine.specs.declared.numbers.TheConstants.{MAX_ENTRIES}
 use Rattle.frames.specs.Octets.{RawEvent, RawOut}
 use Rattle.machine.specs.State.{State}
 use Rattle.shardlog.specs.declared.entry.Epoch.{Epoch}
@@ -34,17 +35,21 @@ pub record Cutting (before : NodeState) (count : ℕ) (here : NodeState) : Type 
 pub cutting_begins : (before : NodeState) → NodeKeeps before → Cutting before 0 before
 cutting_begins before keeps = record { directory = refl; cut = λ n lt. absurd (omega (arith, lt)); uncut = λ n le. refl; keeps = keeps }
 
-pub cutting_goes_on : (before here next : NodeState) (count : ℕ) (epoch : Epoch) → Cutting before count here → Cuts here count epoch next → NodeKeeps next → Cutting before (count + 1) next
+pub cutting_goes_on : (before here next : NodeState) (count : ℕ) (epoch : Epoch) → Cutting before count here → Cuts here count epoch next → NodeKeeps next
+    → Cutting before (count + 1) next
 cutting_goes_on before here next count epoch h c keeps = record {
   directory = ap (λ (n : NodeState). n.directory) c.changed ∙ h.directory;
   cut = λ n lt. ap (λ (m : NodeState). slice_get m.shards n) c.changed ∙ at n lt (cases_eq count n);
-  uncut = λ n le. ap (λ (m : NodeState). slice_get m.shards n) c.changed ∙ set_elsewhere here.shards count n (cut_log c.shard) (λ e. absurd (omega (arith, e, le))) ∙ h.uncut n (omega (arith, le));
+  uncut = λ n le. ap (λ (m : NodeState). slice_get m.shards n) c.changed
+      ∙ set_elsewhere here.shards count n (cut_log c.shard) (λ e. absurd (omega (arith, e, le))) ∙ h.uncut n (omega (arith, le));
   keeps = keeps;
 }
   where
-    at : (n : ℕ) → n < count + 1 → (count ≡ n) ⊎ (count ≡ n → ⊥) → slice_get (set here.shards count (cut_log c.shard)) n ≡ option_map cut_log (slice_get before.shards n)
+    at : (n : ℕ) → n < count + 1 → (count ≡ n) ⊎ (count ≡ n → ⊥)
+        → slice_get (set here.shards count (cut_log c.shard)) n ≡ option_map cut_log (slice_get before.shards n)
     at n lt (inl e) =
-        ap (slice_get (set here.shards count (cut_log c.shard))) (sym e) ∙ set_there here.shards count (cut_log c.shard) (slice_get_within here.shards count c.shard c.stands)
+        ap (slice_get (set here.shards count (cut_log c.shard))) (sym e)
+        ∙ set_there here.shards count (cut_log c.shard) (slice_get_within here.shards count c.shard c.stands)
         ∙ sym (ap (option_map cut_log) (sym (h.uncut n (omega (arith, e))) ∙ ap (slice_get here.shards) (sym e) ∙ c.stands))
     at n lt (inr ne) = set_elsewhere here.shards count n (cut_log c.shard) ne ∙ h.cut n (omega (arith, lt, ne))
 
@@ -70,7 +75,7 @@ empty_cut : (o : Option Log) (l : Log) → option_map cut_log o ≡ Some l → l
 empty_cut None l e = absurd cc
 empty_cut (Some k) l e = let same : cut_log k ≡ l = cc in ap (λ (m : Log). m.entries) (sym same)
 
-pub cut_room : (before after : NodeState) → AreCut before after → HasRoom after 65536
+pub cut_room : (before after : NodeState) → AreCut before after → HasRoom after MAX_ENTRIES
 cut_room before after cut = λ n l at.
     let none : l.entries ≡ [] = empty_cut (slice_get before.shards n) l (sym (cut.each n) ∙ at) in
     let few : length l.entries ≡ 0 = ap length none in
@@ -81,33 +86,41 @@ less_room node more count le room = λ n l at. omega (arith, le, room n l at)
 
 -- ---- a part is handled
 
-takes_room : (before : NodeState) (raw : RawEvent) (handled : Handled) (after : NodeState) (count : ℕ) → Takes before raw handled after → HasRoom before (suc count) → HasRoom after count
+takes_room : (before : NodeState) (raw : RawEvent) (handled : Handled) (after : NodeState) (count : ℕ) → Takes before raw handled after
+    → HasRoom before (suc count) → HasRoom after count
 takes_room before raw handled after count t room = λ n l at.
     elim (set_or_not before.shards t.place n t.next l (sym (ap (λ (m : NodeState). slice_get m.shards n) t.changed) ∙ at)) [
-      | inl h ↦ let longer : length l.entries ≡ length t.shard.entries + 1 = ap (λ (m : Log). length m.entries) (sym h.1) ∙ ap length t.handles.added ∙ length-append t.shard.entries (t.handles.entry ∷ []) in
+      | inl h ↦ let longer : length l.entries ≡ length t.shard.entries + 1 = ap (λ (m : Log). length m.entries) (sym h.1) ∙ ap length t.handles.added
+          ∙ length-append t.shard.entries (t.handles.entry ∷ []) in
           omega (arith, longer, room t.place t.shard t.is_for.stands)
       | inr h ↦ omega (arith, room n l h)
     ]
 
-runs_room : (before : NodeState) (raws : List RawEvent) (done : List Handled) (after : NodeState) (count : ℕ) → Runs before raws done after → HasRoom before (length raws + count) → HasRoom after count
+runs_room : (before : NodeState) (raws : List RawEvent) (done : List Handled) (after : NodeState) (count : ℕ) → Runs before raws done after
+    → HasRoom before (length raws + count) → HasRoom after count
 runs_room before [] [] after count runs room = subst (λ (n : NodeState). HasRoom n count) (sym runs) (less_room before (0 + count) count (omega arith) room)
 runs_room before [] (d ∷ ds) after count runs room = absurd runs
 runs_room before (r ∷ rs) [] after count runs room = absurd runs
 runs_room before (r ∷ rs) (d ∷ ds) after count (between, first, more) room =
-    runs_room between rs ds after count more (takes_room before r d between (length rs + count) first (less_room before (length (r ∷ rs) + count) (suc (length rs + count)) (omega arith) room))
+    runs_room between rs ds after count more (takes_room before r d between (length rs + count) first
+    (less_room before (length (r ∷ rs) + count) (suc (length rs + count)) (omega arith) room))
 
 -- no journal was full
-pub never_full : (ready : NodeState) (raws : List RawEvent) (done : List Handled) (c : Cause) (after : NodeState) → HasRoom ready (length raws) → Stops ready raws done c after → c ≡ cause.JournalFull → ⊥
+pub never_full : (ready : NodeState) (raws : List RawEvent) (done : List Handled) (c : Cause) (after : NodeState) → HasRoom ready (length raws)
+    → Stops ready raws done c after → c ≡ cause.JournalFull → ⊥
 never_full ready raws done c after room stops full =
     let refused : Refuses after stops.next cause.JournalFull = subst (λ (k : Cause). Refuses after stops.next k) full stops.refuses in
-    let long : length raws ≡ length stops.handled + suc (length stops.rest) = ap length stops.raws_are ∙ length-append stops.handled (stops.next ∷ stops.rest) in
+    let long : length raws ≡ length stops.handled + suc (length stops.rest) = ap length stops.raws_are
+    ∙ length-append stops.handled (stops.next ∷ stops.rest) in
     let left : HasRoom after (suc (length stops.rest)) =
-    runs_room ready stops.handled done after (suc (length stops.rest)) stops.runs (less_room ready (length raws) (length stops.handled + suc (length stops.rest)) (omega (arith, long)) room) in
+    runs_room ready stops.handled done after (suc (length stops.rest)) stops.runs
+    (less_room ready (length raws) (length stops.handled + suc (length stops.rest)) (omega (arith, long)) room) in
     let at = left refused.0 refused.1 refused.2.stands in
     omega (arith, refused.3, at)
 
 -- why a part stopped
-pub part_stops : (before ready : NodeState) (raws : List RawEvent) (done : List Handled) (c : Cause) (after : NodeState) → whole ready.shards ≡ whole before.shards
+pub part_stops : (before ready : NodeState) (raws : List RawEvent) (done : List Handled) (c : Cause) (after : NodeState)
+    → whole ready.shards ≡ whole before.shards
     → Stops ready raws done c after → EventsStop (Some (whole before.shards)) raws (stopped_by c)
 part_stops before ready raws done c after same stops = subst (λ (S : State). EventsStop (Some S) raws (stopped_by c)) same (by c stops.refuses)
   where
@@ -130,7 +143,8 @@ part_stops before ready raws done c after same stops = subst (λ (S : State). Ev
 
 -- ---- in the code: the register before, the one in whose journals room is made, and the same as the code has it then
 
-module _ (before made ready : NodeState) (count : ℕ) (makes : MakesRoom before count made) (seen : ready ≡ made) (raws : List RawEvent) (counted : length raws ≡ count) where
+module _ (before made ready : NodeState) (count : ℕ) (makes : MakesRoom before count made) (seen : ready ≡ made) (raws : List RawEvent)
+    (counted : length raws ≡ count) where
   ready_made : MakesRoom before count ready
   ready_made = subst (λ (n : NodeState). MakesRoom before count n) (sym seen) makes
 
@@ -140,18 +154,23 @@ module _ (before made ready : NodeState) (count : ℕ) (makes : MakesRoom before
   pub part_runs : (done : List Handled) (after : NodeState) → Runs ready raws done after → RunsPart before raws done after
   part_runs done after runs = record { ready = ready; makes = subst (λ (n : ℕ). MakesRoom before n ready) (sym counted) ready_made; runs = runs }
 
-  pub part_run : (done : List Handled) (after : NodeState) → IsRun (whole ready.shards) raws (map sent_of done) (whole after.shards) → IsRun (whole before.shards) raws (map sent_of done) (whole after.shards)
+  pub part_run : (done : List Handled) (after : NodeState) → IsRun (whole ready.shards) raws (map sent_of done) (whole after.shards)
+      → IsRun (whole before.shards) raws (map sent_of done) (whole after.shards)
   part_run done after run = subst (λ (S : State). IsRun S raws (map sent_of done) (whole after.shards)) same_whole run
 
   pub part_goes_on : (done : List Handled) (after : NodeState) → NodeKeeps made → Runs ready raws done after → Continues before raws (map sent_of done) after
-  part_goes_on done after keeps runs = part_continues before ready count raws done after ready_made (ap (λ (n : NodeState). length n.shards) seen ∙ keeps.shards.count) runs
+  part_goes_on done after keeps runs = part_continues before ready count raws done after ready_made
+      (ap (λ (n : NodeState). length n.shards) seen ∙ keeps.shards.count) runs
 
   pub part_not_full : (done : List Handled) (c : Cause) (after : NodeState) → HasRoom made count → Stops ready raws done c after → c ≡ cause.JournalFull → ⊥
   part_not_full done c after room stops full =
-      never_full ready raws done c after (subst (λ (n : ℕ). HasRoom ready n) (sym counted) (subst (λ (n : NodeState). HasRoom n count) (sym seen) room)) stops full
+      never_full ready raws done c after (subst (λ (n : ℕ). HasRoom ready n) (sym counted)
+      (subst (λ (n : NodeState). HasRoom n count) (sym seen) room)) stops full
 
-  pub part_stopped : (done : List Handled) (c : Cause) (after : NodeState) (fault : Fault) → fault ≡ stopped_by c → Stops ready raws done c after → EventsStop (Some (whole before.shards)) raws fault
-  part_stopped done c after fault is stops = subst (λ (f : Fault). EventsStop (Some (whole before.shards)) raws f) (sym is) (part_stops before ready raws done c after same_whole stops)
+  pub part_stopped : (done : List Handled) (c : Cause) (after : NodeState) (fault : Fault) → fault ≡ stopped_by c → Stops ready raws done c after
+      → EventsStop (Some (whole before.shards)) raws fault
+  part_stopped done c after fault is stops = subst (λ (f : Fault). EventsStop (Some (whole before.shards)) raws f) (sym is)
+      (part_stops before ready raws done c after same_whole stops)
 
 -- ---- what a part sends
 
@@ -159,7 +178,13 @@ flat_of : (done : List Handled) → flat_map (λ o. o) (map sent_of done) ≡ fl
 flat_of [] = refl
 flat_of (d ∷ ds) = ap (λ (l : List RawOut). sent_of d ++ l) (flat_of ds)
 
-pub part_sends : (before after : NodeState) (raws : List RawEvent) (done : List Handled) (sent sent_after : List RawOut) → IsRun (whole before.shards) raws (map sent_of done) (whole after.shards)
+pub part_sends : (before after : NodeState) (raws : List RawEvent) (done : List Handled) (sent sent_after : List RawOut)
+    → IsRun (whole before.shards) raws (map sent_of done) (whole after.shards)
     → Continues before raws (map sent_of done) after → sent_after ≡ sent ++ flat_map sent_of done
     → (outs : List (List RawOut)) × RunsAlone before raws outs after × (sent_after ≡ sent ++ flat_map (λ o. o) outs)
-part_sends before after raws done sent sent_after run continues sends = (map sent_of done, (run, continues), sends ∙ ap (λ (l : List RawOut). sent ++ l) (sym (flat_of done)))
+part_sends before after raws done sent sent_after run continues sends = (
+  map sent_of done,
+  (run, continues),
+  sends
+      ∙ ap (λ (l : List RawOut). sent ++ l) (sym (flat_of done)),
+)

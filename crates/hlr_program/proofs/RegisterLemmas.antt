@@ -29,7 +29,8 @@ goes_on_join : (a b c : SharedState) (r s : List RawEvent) (x y : List (List Raw
 goes_on_join a b c r s x y (each_first, first) (each_next, next) = (
   omega (arith, each_first, each_next, length-append x y, length-append r s),
   λ begin events sent at. subst (λ (es : List RawEvent). StandsBehind begin es (sent ++ (x ++ y)) c) (append_assoc events r s)
-      (subst (λ (os : List (List RawOut)). StandsBehind begin ((events ++ r) ++ s) os c) (append_assoc sent x y) (next begin (events ++ r) (sent ++ x) (first begin events sent at))),
+      (subst (λ (os : List (List RawOut)). StandsBehind begin ((events ++ r) ++ s) os c) (append_assoc sent x y)
+      (next begin (events ++ r) (sent ++ x) (first begin events sent at))),
 )
 
 -- ---- registers
@@ -58,13 +59,15 @@ ran_each (Shared a) (Alone b) events sent h = absurd h
 
 -- ---- what is known of the state
 
-pub unknown_before : (a b : Register) (events : List RawEvent) (sent : List (List RawOut)) → RunsTo a events sent b → IsUnknown (state_known b) → IsUnknown (state_known a)
+pub unknown_before : (a b : Register) (events : List RawEvent) (sent : List (List RawOut)) → RunsTo a events sent b → IsUnknown (state_known b)
+    → IsUnknown (state_known a)
 unknown_before (Alone a) (Alone b) events sent h u = absurd u
 unknown_before (Shared a) (Shared b) events sent h u = tt
 unknown_before (Alone a) (Shared b) events sent h u = absurd h
 unknown_before (Shared a) (Alone b) events sent h u = tt
 
-pub known_run : (a b : Register) (batches : List BatchRun) → RunsTo a (events_in batches) (sent_in batches) b → AreRunFrom (state_known a) batches (state_known b)
+pub known_run : (a b : Register) (batches : List BatchRun) → RunsTo a (events_in batches) (sent_in batches) b
+    → AreRunFrom (state_known a) batches (state_known b)
 known_run (Alone a) (Alone b) batches h = h.0
 known_run (Shared a) (Shared b) batches h = tt
 known_run (Alone a) (Shared b) batches h = absurd h

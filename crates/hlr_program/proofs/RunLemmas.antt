@@ -13,8 +13,10 @@ run_join S T U (x ∷ xs) ys (M, first, rest) k = (M, first, run_join M T U xs y
 pub runs_join : (S T U : State) (es bs : List RawEvent) (x y : List (List RawOut)) → IsRun S es x T → IsRun T bs y U → IsRun S (es ++ bs) (x ++ y) U
 runs_join S T U es bs x y h k = record {
   entries = h.entries ++ k.entries;
-  events = map-append (λ e. e.event) h.entries k.entries ∙ ap (λ (l : List RawEvent). l ++ map (λ e. e.event) k.entries) h.events ∙ ap (λ (l : List RawEvent). es ++ l) k.events;
-  outs = map-append (λ e. e.outs) h.entries k.entries ∙ ap (λ (l : List (List RawOut)). l ++ map (λ e. e.outs) k.entries) h.outs ∙ ap (λ (l : List (List RawOut)). x ++ l) k.outs;
+  events = map-append (λ e. e.event) h.entries k.entries ∙ ap (λ (l : List RawEvent). l ++ map (λ e. e.event) k.entries) h.events
+      ∙ ap (λ (l : List RawEvent). es ++ l) k.events;
+  outs = map-append (λ e. e.outs) h.entries k.entries ∙ ap (λ (l : List (List RawOut)). l ++ map (λ e. e.outs) k.entries) h.outs
+      ∙ ap (λ (l : List (List RawOut)). x ++ l) k.outs;
   run = run_join S T U h.entries k.entries h.run k.run;
 }
 

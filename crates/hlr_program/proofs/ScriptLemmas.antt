@@ -25,7 +25,8 @@ use Rattle.hlr_program.proofs.RegisterLemmas.{known_run, ran_join, ran_none}
 
 -- ---- the first batch
 
-lines_of_parts : (text first : List ℕ) (more : List (List ℕ)) → 0 < length text → parts 10 text ≡ first ∷ more → (line : List ℕ) × (rest : List (List ℕ)) × (lines text ≡ line ∷ rest)
+lines_of_parts : (text first : List ℕ) (more : List (List ℕ)) → 0 < length text → parts 10 text ≡ first ∷ more → (line : List ℕ) ×
+    (rest : List (List ℕ)) × (lines text ≡ line ∷ rest)
 unfolding lines
 lines_of_parts text first [] some e = (first, lines [], lines_last text first some e)
 lines_of_parts text first (second ∷ more) some e = (first, without_empty_last (second ∷ more), rw e refl)
@@ -106,7 +107,8 @@ pub record AtBatch (start : Register) (ls : List (List ℕ)) (ids : List (List �
   pub ran : RunsTo start (events_in batches) (sent_in batches) here
 
 -- And what they print is printed.
-pub record AtPlace (start : Register) (ls : List (List ℕ)) (old out : Option (List ℕ)) (ids : List (List ℕ)) (here : Register) (text : List ℕ) (before : ℕ) : Type 0 where
+pub record AtPlace (start : Register) (ls : List (List ℕ)) (old out : Option (List ℕ)) (ids : List (List ℕ)) (here : Register) (text : List ℕ)
+    (before : ℕ) : Type 0 where
   pub at : AtBatch start ls ids here text before
   pub appends : Appends old out (printed_of at.batches)
 
@@ -127,29 +129,36 @@ script_begins start script text out ids before none same zeroth good = record {
 }
 
 pub script_ends : (start : Register) (script : List ℕ) (old out : Option (List ℕ)) (ids : List (List ℕ)) (here : Register) (text : List ℕ) (before : ℕ)
-    → AtPlace start (lines script) old out ids here text before → lines text ≡ [] → (batches : List BatchRun) × RunsScript script start batches here × Appends old out (printed_of batches)
+    → AtPlace start (lines script) old out ids here text before → lines text ≡ [] → (batches : List BatchRun) × RunsScript script start batches here
+    × Appends old out (printed_of batches)
 script_ends start script old out ids here text before h none = (
   h.at.batches,
   record {
-    are_batches = subst (λ (ls : List (List (List ℕ))). AreBatches [] ls h.at.batches) (sym (h.at.split ∙ ap (λ (ls : List (List ℕ)). h.at.done ++ batches_of ls) none ∙ append-nil h.at.done)) h.at.are;
+    are_batches = subst (λ (ls : List (List (List ℕ))). AreBatches [] ls h.at.batches)
+        (sym (h.at.split ∙ ap (λ (ls : List (List ℕ)). h.at.done ++ batches_of ls) none ∙ append-nil h.at.done)) h.at.are;
     ran = h.at.ran;
   },
   h.appends,
 )
 
 -- one more batch is handled
-pub batch_handled : (start : Register) (ls : List (List ℕ)) (ids noted : List (List ℕ)) (here next : Register) (text behind : List ℕ) (before number : ℕ) (sent : List RawOut)
-    → 0 < length text → (h : AtBatch start ls ids here text before) → (k : Handles ids here (batch_of (lines text)) sent next) → lines behind ≡ behind_batch (lines text)
+pub batch_handled : (start : Register) (ls : List (List ℕ)) (ids noted : List (List ℕ)) (here next : Register) (text behind : List ℕ) (before number : ℕ)
+    (sent : List RawOut)
+    → 0 < length text → (h : AtBatch start ls ids here text before) → (k : Handles ids here (batch_of (lines text)) sent next)
+    → lines behind ≡ behind_batch (lines text)
     → (0 < length behind → number ≡ before + length (batch_of (lines text)) + 1) → noted ≡ noted_in ids sent
     → (m : AtBatch start ls noted next behind number) × (printed_of m.batches ≡ printed_of h.batches ++ sent_lines sent)
 batch_handled start ls ids noted here next text behind before number sent some h k is counted notes = (
   record {
     done = h.done ++ batch_of (lines text) ∷ [];
     batches = h.batches ++ k.batch ∷ [];
-    split = h.split ∙ ap (λ (bs : List (List (List ℕ))). h.done ++ bs) (first_batch text some) ∙ sym (append_assoc h.done (batch_of (lines text) ∷ []) (batches_of (behind_batch (lines text))))
+    split = h.split ∙ ap (λ (bs : List (List (List ℕ))). h.done ++ bs) (first_batch text some)
+        ∙ sym (append_assoc h.done (batch_of (lines text) ∷ []) (batches_of (behind_batch (lines text))))
         ∙ ap (λ (l : List (List ℕ)). (h.done ++ batch_of (lines text) ∷ []) ++ batches_of l) (sym is);
-    are = are_more [] h.done h.batches (batch_of (lines text)) k.batch h.are (subst (λ (i : List (List ℕ)). LinesEvents i (batch_of (lines text)) k.batch.events) h.ids_are k.are_events) k.one_each;
-    ids_are = notes ∙ ap (noted_in ids) k.sent_is ∙ ap (λ (i : List (List ℕ)). noted_in i (frames_of k.batch)) h.ids_are ∙ sym (noted_more [] h.batches k.batch);
+    are = are_more [] h.done h.batches (batch_of (lines text)) k.batch h.are
+        (subst (λ (i : List (List ℕ)). LinesEvents i (batch_of (lines text)) k.batch.events) h.ids_are k.are_events) k.one_each;
+    ids_are = notes ∙ ap (noted_in ids) k.sent_is ∙ ap (λ (i : List (List ℕ)). noted_in i (frames_of k.batch)) h.ids_are
+        ∙ sym (noted_more [] h.batches k.batch);
     number = λ more. let here_is = h.number some in omega (arith, counted more, here_is, before_more h.done (batch_of (lines text)));
     good = subst (AllByRecursion IsGood) (sym is) (good_behind (lines text) h.good);
     ran = subst (λ (es : List RawEvent). RunsTo start es (sent_in (h.batches ++ k.batch ∷ [])) next) (sym events_are)
@@ -166,9 +175,12 @@ batch_handled start ls ids noted here next text behind before number sent some h
     sent_are = flat_push (λ b. b.sent) h.batches k.batch
 
 -- and printed
-pub batch_printed : (start : Register) (ls : List (List ℕ)) (old out more : Option (List ℕ)) (ids noted : List (List ℕ)) (here next : Register) (text behind : List ℕ) (before number : ℕ)
-    (sent : List RawOut) (written : List ℕ) → 0 < length text → AtPlace start ls old out ids here text before → Handles ids here (batch_of (lines text)) sent next
-    → lines behind ≡ behind_batch (lines text) → (0 < length behind → number ≡ before + length (batch_of (lines text)) + 1) → noted ≡ noted_in ids sent → written ≡ sent_lines sent
+pub batch_printed : (start : Register) (ls : List (List ℕ)) (old out more : Option (List ℕ)) (ids noted : List (List ℕ)) (here next : Register)
+    (text behind : List ℕ) (before number : ℕ)
+    (sent : List RawOut) (written : List ℕ) → 0 < length text → AtPlace start ls old out ids here text before
+    → Handles ids here (batch_of (lines text)) sent next
+    → lines behind ≡ behind_batch (lines text) → (0 < length behind → number ≡ before + length (batch_of (lines text)) + 1) → noted ≡ noted_in ids sent
+    → written ≡ sent_lines sent
     → Appends out more written → AtPlace start ls old more noted next behind number
 batch_printed start ls old out more ids noted here next text behind before number sent written some h k is counted notes wrote printed =
     let m = batch_handled start ls ids noted here next text behind before number sent some h.at k is counted notes in
@@ -184,7 +196,8 @@ abbrev pub Stopped : (script : List ℕ) → Register → Fault → (old out : O
 Stopped script start fault old out = (printed : List ℕ) × StopsBatches script (state_known start) fault printed × Appends old out printed
 
 -- a batch stops: nothing of it is printed
-pub batch_stopped : (start : Register) (script : List ℕ) (old out : Option (List ℕ)) (ids : List (List ℕ)) (here : Register) (text : List ℕ) (before : ℕ) (fault : Fault)
+pub batch_stopped : (start : Register) (script : List ℕ) (old out : Option (List ℕ)) (ids : List (List ℕ)) (here : Register) (text : List ℕ) (before : ℕ)
+    (fault : Fault)
     → 0 < length text → AtPlace start (lines script) old out ids here text before → BatchStops ids before (state_known here) (batch_of (lines text)) fault
     → Stopped script start fault old out
 batch_stopped start script old out ids here text before fault some h stops = (
@@ -206,15 +219,19 @@ batch_stopped start script old out ids here text before fault some h stops = (
 )
 
 -- memory runs out for the text of a batch
-pub batch_unwritten : (start : Register) (script : List ℕ) (old out : Option (List ℕ)) (ids : List (List ℕ)) (here : Register) (text : List ℕ) (before : ℕ) (fault : Fault)
+pub batch_unwritten : (start : Register) (script : List ℕ) (old out : Option (List ℕ)) (ids : List (List ℕ)) (here : Register) (text : List ℕ) (before : ℕ)
+    (fault : Fault)
     → 0 < length text → AtPlace start (lines script) old out ids here text before → fault ≡ Memory → Stopped script start fault old out
 batch_unwritten start script old out ids here text before fault some h memory =
     subst (λ (f : Fault). Stopped script start f old out) (sym memory) (batch_stopped start script old out ids here text before Memory some h tt)
 
 -- the writer fails
-pub batch_broken : (start : Register) (script : List ℕ) (old out more : Option (List ℕ)) (ids noted : List (List ℕ)) (here next : Register) (text behind : List ℕ) (before number : ℕ)
-    (sent : List RawOut) (written : List ℕ) (fault : Fault) → 0 < length text → AtPlace start (lines script) old out ids here text before → Handles ids here (batch_of (lines text)) sent next
-    → lines behind ≡ behind_batch (lines text) → (0 < length behind → number ≡ before + length (batch_of (lines text)) + 1) → noted ≡ noted_in ids sent → written ≡ sent_lines sent
+pub batch_broken : (start : Register) (script : List ℕ) (old out more : Option (List ℕ)) (ids noted : List (List ℕ)) (here next : Register)
+    (text behind : List ℕ) (before number : ℕ)
+    (sent : List RawOut) (written : List ℕ) (fault : Fault) → 0 < length text → AtPlace start (lines script) old out ids here text before
+    → Handles ids here (batch_of (lines text)) sent next
+    → lines behind ≡ behind_batch (lines text) → (0 < length behind → number ≡ before + length (batch_of (lines text)) + 1) → noted ≡ noted_in ids sent
+    → written ≡ sent_lines sent
     → fault ≡ Output → WritesFront out written more → Stopped script start fault old more
 batch_broken start script old out more ids noted here next text behind before number sent written fault some h k is counted notes wrote output front =
     let m = batch_handled start (lines script) ids noted here next text behind before number sent some h.at k is counted notes in (
@@ -229,7 +246,8 @@ batch_broken start script old out more ids noted here next text behind before nu
         met = state_known next;
         run = known_run start next m.0.batches m.0.ran;
         left = front.left;
-        front = m.1 ∙ ap (λ (w : List ℕ). printed_of h.at.batches ++ w) (sym wrote ∙ front.whole) ∙ sym (append_assoc (printed_of h.at.batches) front.written front.left);
+        front = m.1 ∙ ap (λ (w : List ℕ). printed_of h.at.batches ++ w) (sym wrote ∙ front.whole)
+            ∙ sym (append_assoc (printed_of h.at.batches) front.written front.left);
       }),
       Appends-trans old out more (printed_of h.at.batches) front.written h.appends front.appends,
     )

@@ -54,7 +54,8 @@ may_be_loaded s is = record {
   withdrawn = λ w. ap (option_map machine_register) (is.withdrawn w);
 }
 
-found_loaded : (found : Option Subscriber) (s : machine.Subscriber) → ((c : Subscriber) → found ≡ Some c → IsFresh c) → option_map machine_subscriber found ≡ Some s → IsLoaded s
+found_loaded : (found : Option Subscriber) (s : machine.Subscriber) → ((c : Subscriber) → found ≡ Some c → IsFresh c)
+    → option_map machine_subscriber found ≡ Some s → IsLoaded s
 found_loaded None s fresh e = absurd cc
 found_loaded (Some c) s fresh e = let same : machine_subscriber c ≡ s = cc in subst IsLoaded same (may_be_loaded c (fresh c refl))
 

@@ -15,15 +15,18 @@ pub record Writing (old : Option (List ℕ)) (all left : List ℕ) (here : Optio
 pub writing_begins : (old : Option (List ℕ)) (all : List ℕ) → Writing old all all old
 writing_begins old all = record { written = []; whole = refl; appends = Appends-nil old }
 
-pub writing_goes_on : (old : Option (List ℕ)) (all left more : List ℕ) (here next : Option (List ℕ)) (n : ℕ) → Writing old all left here → Appends here next (take n left) → more ≡ drop n left
+pub writing_goes_on : (old : Option (List ℕ)) (all left more : List ℕ) (here next : Option (List ℕ)) (n : ℕ) → Writing old all left here
+    → Appends here next (take n left) → more ≡ drop n left
     → Writing old all more next
 writing_goes_on old all left more here next n h took rest = record {
   written = h.written ++ take n left;
-  whole = h.whole ∙ ap (λ (l : List ℕ). h.written ++ l) (sym (take-append-drop n left) ∙ ap (λ (l : List ℕ). take n left ++ l) (sym rest)) ∙ sym (append_assoc h.written (take n left) more);
+  whole = h.whole ∙ ap (λ (l : List ℕ). h.written ++ l) (sym (take-append-drop n left) ∙ ap (λ (l : List ℕ). take n left ++ l) (sym rest))
+      ∙ sym (append_assoc h.written (take n left) more);
   appends = Appends-trans old here next h.written (take n left) h.appends took;
 }
 
-pub writing_kept : (old : Option (List ℕ)) (all left : List ℕ) (here next : Option (List ℕ)) → Writing old all left here → Keeps here next → Writing old all left next
+pub writing_kept : (old : Option (List ℕ)) (all left : List ℕ) (here next : Option (List ℕ)) → Writing old all left here → Keeps here next
+    → Writing old all left next
 writing_kept old all left here next h kept = record { written = h.written; whole = h.whole; appends = Appends-kept old here next h.written h.appends kept }
 
 pub writing_ends : (old : Option (List ℕ)) (all left : List ℕ) (here : Option (List ℕ)) → Writing old all left here → left ≡ [] → Appends old here all

@@ -5,7 +5,7 @@ use Rattle.std.specs.List.{zip}
 use Rattle.std.specs.List.Sorted.{IsPermutation}
 use Rattle.machine.specs.Holders.{serving}
 use Rattle.machine.specs.Keys.{shard_of}
-use Rattle.machine.specs.Numbers.{shards as shard_count}
+use Rattle.machine.specs.declared.numbers.TheConstants.{SHARDS}
 use Rattle.machine.specs.Parts.{part}
 use Rattle.machine.specs.State.{State}
 use Rattle.frames.specs.Octets.{RawEntry, RawEvent, RawOut, StepOctets}
@@ -32,7 +32,7 @@ pub record IsKept (begin : State) (events : List RawEvent) (sent : List (List Ra
   -- Each of them has the invariant of every journal, from the shard's part of the first state to its part of the last: one
   -- subscriber's entries by themselves are a legal journal, to the same record and the same dialogues of this subscriber, unless an
   -- update of this subscriber met a full shard.
-  pub keep : (n : ℕ) → n < shard_count → Keeps n (part begin n) (journals n) (part end n)
+  pub keep : (n : ℕ) → n < SHARDS → Keeps n (part begin n) (journals n) (part end n)
   -- Exactly the serving register, or none, holds each subscriber.
   pub holders : (imsi : List ℕ)
       → AreHolders (shard_of imsi) (part begin (shard_of imsi)) (journals (shard_of imsi)) (part end (shard_of imsi)) imsi (serving (end.records imsi))

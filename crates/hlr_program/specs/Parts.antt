@@ -1,5 +1,6 @@
 -- The parts of a batch, and the cuts between them (profile). A cut changes no state, only which entries a listing shows.
 use Rattle.std.specs.Prelude.{◌≡◌, ◌≤◌, ◌⊎◌, ℕ, ◌+◌, List, [], length, Some, option_map, slice_get}
+use Rattle.machine.specs.declared.numbers.TheConstants.{MAX_ENTRIES}
 use Rattle.frames.specs.Octets.{RawEvent}
 use Rattle.shardlog.specs.declared.entry.Handled.{Handled}
 use Rattle.shardlog.specs.Log.{Log, log}
@@ -8,7 +9,7 @@ use Rattle.wholenode.specs.Nodes.{NodeState}
 
 -- Each journal has room for n more entries.
 abbrev pub HasRoom : NodeState → ℕ → Type 0
-HasRoom node count = (n : ℕ) (l : Log) → slice_get node.shards n ≡ Some l → length l.entries + count ≤ 65536
+HasRoom node count = (n : ℕ) (l : Log) → slice_get node.shards n ≡ Some l → length l.entries + count ≤ MAX_ENTRIES
 
 -- a shard whose journal is cut: the journal is empty, and begins in the current state
 abbrev pub cut_log : Log → Log

@@ -1,7 +1,7 @@
 -- The events that a script stands for, and what the register does with them: one run, batch by batch (profile).
 use Rattle.std.specs.Prelude.{◌≡◌, ℕ, List, [], ◌∷◌, ◌++◌, length, map, Option, Some, None}
 use Rattle.std.specs.List.{flat_map, range_with_len}
-use Rattle.machine.specs.Numbers.{shards as shard_count}
+use Rattle.machine.specs.declared.numbers.TheConstants.{SHARDS}
 use Rattle.machine.specs.Events as machine
 use Rattle.machine.specs.Opening.{opening}
 use Rattle.machine.specs.State.{State}
@@ -22,8 +22,8 @@ use Rattle.hlr_program.specs.Printed.{sent_lines, noted_in}
 abbrev pub AreEvents : (ids : List (List ℕ)) → Line → List RawEvent → Type 0
 AreEvents ids (Frame from field) events =
     (groups : List Group) × (octets : List ℕ) × IsOctets field groups × (octets_of ids groups ≡ Some octets) × (events ≡ RawFrame from octets ∷ [])
-AreEvents ids (Clock now) events = events ≡ map (λ n. RawClock n now) (range_with_len 0 shard_count)
-AreEvents ids Expire events = events ≡ map (λ n. RawExpire n) (range_with_len 0 shard_count)
+AreEvents ids (Clock now) events = events ≡ map (λ n. RawClock n now) (range_with_len 0 SHARDS)
+AreEvents ids Expire events = events ≡ map (λ n. RawExpire n) (range_with_len 0 SHARDS)
 AreEvents ids Batch events = events ≡ []
 AreEvents ids (Codes imsi codes) events = events ≡ RawChange imsi (machine.Codes codes) ∷ []
 AreEvents ids (Withdraw imsi) events = events ≡ RawChange imsi machine.Withdraw ∷ []

@@ -2,6 +2,7 @@
 
 ghost use Rattle.std.specs.Prelude.{◌≡◌, ◌≢◌, ◌≤◌, ◌↔◌, ◌++◌, List, IsTrue, IfOk, IfErr, OnOk, Some, map, length};
 ghost use Rattle.std.specs.List.{flat_map};
+ghost use Rattle.machine.specs.declared.numbers.TheConstants.{MAX_ENTRIES};
 ghost use Rattle.frames.specs.Octets.{RawOut};
 ghost use Rattle.hlrcore.specs.Events.{raw_event};
 ghost use Rattle.shard_state.specs.Frames.{raw_out};
@@ -17,17 +18,12 @@ ghost use Rattle.hlr_program.specs.Stopping.{EventsStop};
 use crate::fault::Fault;
 use bumpalo::Bump;
 use hlrcore::{Out, RawEvent};
+use machine::numbers::{MAX_ENTRIES, SHARDS};
 use records::Loaded;
 use shardlog::{Handled, Shard};
 use std::alloc::{AllocError, Global};
 use std::marker::Model;
 use wholenode::{Cause, Node};
-
-/// The number of shards (profile).
-pub const SHARDS: u8 = 16;
-
-/// How many events a part of a batch, and how many entries a journal may have (profile).
-pub const MAX_EVENTS: usize = 65_536;
 
 /// The sixteen shards, and an arena for one frame at a time.
 #[derive(Drop)]
@@ -68,10 +64,12 @@ impl Alone {
 
     /// Handles a part of a batch, and appends what it sends.
     pub fn send_part(&mut self, part: Vec<RawEvent>, sent: &mut Vec<Out>) -> Result<(), Fault>
-        requires { length part.items ≤ 65536 }
-        ensures sends { OnOk result ((outs : List (List RawOut)) × RunsAlone self.old (map raw_event part.items) outs self.new
+        requires { length part.items ≤ MAX_ENTRIES }
+        ensures sends { OnOk result ((outs : List (List RawOut))
+            × RunsAlone self.old (map raw_event part.items) outs self.new
             × (map raw_out sent.new.items ≡ map raw_out sent.old.items ++ flat_map (λ o. o) outs)) }
-        ensures stops { IfErr result (EventsStop (Some (whole self.old.shards)) (map raw_event part.items)) }
+        ensures stops { IfErr result (EventsStop (Some (whole self.old.shards))
+            (map raw_event part.items)) }
     {
         let done = self.run_part(&part)?;
         push_outs(sent, done)?;
@@ -81,12 +79,16 @@ impl Alone {
     /// Handles a part of a batch, of at most 65,536 events. If a journal has no room for that many more entries, all journals are
     /// cut first, so no journal is ever full.
     fn run_part(&mut self, part: &[RawEvent]) -> Result<Vec<Handled>, Fault>
-        requires { length part.now ≤ 65536 }
-        ensures runs { IfOk result (λ done. RunsPart self.old (map raw_event part.now) done.items self.new) }
+        requires { length part.now ≤ MAX_ENTRIES }
+        ensures runs { IfOk result (λ done. RunsPart self.old
+            (map raw_event part.now) done.items self.new) }
         // For the whole state they are a run of the machine, and the journals have its last entries.
-        ensures run { IfOk result (λ done. IsRun (whole self.old.shards) (map raw_event part.now) (map sent_of done.items) (whole self.new.shards)) }
-        ensures continues { IfOk result (λ done. Continues self.old (map raw_event part.now) (map sent_of done.items) self.new) }
-        ensures stops { IfErr result (EventsStop (Some (whole self.old.shards)) (map raw_event part.now)) }
+        ensures run { IfOk result (λ done. IsRun (whole self.old.shards) (map raw_event part.now)
+            (map sent_of done.items) (whole self.new.shards)) }
+        ensures continues { IfOk result (λ done. Continues self.old (map raw_event part.now)
+            (map sent_of done.items) self.new) }
+        ensures stops { IfErr result (EventsStop (Some (whole self.old.shards))
+            (map raw_event part.now)) }
     {
         self.make_room(part.len())?;
         let fault = match self.node.run(&mut self.bump, part) {
@@ -98,7 +100,7 @@ impl Alone {
 
     /// Cuts all journals, if one of them has no room for `count` more entries.
     fn make_room(&mut self, count: usize) -> Result<(), AllocError>
-        requires { count ≤ 65536 }
+        requires { count ≤ MAX_ENTRIES }
         ensures makes { OnOk result (MakesRoom self.old count self.new) }
         ensures room { OnOk result (HasRoom self.new count) }
         ensures keeps { OnOk result (NodeKeeps self.new) }
@@ -116,7 +118,7 @@ impl Alone {
     {
         let shards = self.node.shards();
         for shard in shards {
-            if count > MAX_EVENTS - shard.entries().len() {
+            if count > MAX_ENTRIES - shard.entries().len() {
                 return false;
             }
         }
@@ -150,7 +152,8 @@ fn stopped(cause: Cause) -> Fault
 
 /// Appends what was sent for several events.
 fn push_outs(sent: &mut Vec<Out>, done: Vec<Handled>) -> Result<(), AllocError>
-    ensures { OnOk result (map raw_out sent.new.items ≡ map raw_out sent.old.items ++ flat_map sent_of done.items) }
+    ensures { OnOk result (map raw_out sent.new.items
+        ≡ map raw_out sent.old.items ++ flat_map sent_of done.items) }
 {
     for handled in done {
         push_all(sent, handled.outs)?;

@@ -2,6 +2,7 @@
 
 ghost use Rattle.std.specs.Prelude.{◌≡◌, ◌<◌, ◌≤◌, ◌∷◌, ◌+◌, [], ℕ, List, length, map, Some, IfOk, IfErr, OnOk};
 ghost use Rattle.std.specs.List.{AllByRecursion, range_with_len};
+ghost use Rattle.machine.specs.declared.numbers.TheConstants.{MAX_ENTRIES};
 ghost use Rattle.frames.specs.Octets.{RawEvent as Event, RawFrame, RawClock, RawExpire};
 ghost use Rattle.records.specs.File.{lines};
 ghost use Rattle.hlrcore.specs.Events.{raw_event};
@@ -15,13 +16,13 @@ ghost use Rattle.hlr_program.specs.Registers.{state_known};
 ghost use Rattle.hlr_program.specs.Runs.{AreEvents};
 ghost use Rattle.hlr_program.specs.Stopping.{BatchStops};
 
-use crate::alone::{MAX_EVENTS, SHARDS};
 use crate::check::{check_letters, is_end};
 use crate::fault::Fault;
 use crate::register::Register;
 use hlr_input::{Item, LineFault, Place, read_line, read_octets};
 use hlr_types::{Peer, Tid};
 use hlrcore::{Change, Out, RawEvent, ShardNumber};
+use machine::numbers::{MAX_ENTRIES, SHARDS};
 use std::alloc::{AllocError, Global};
 use std::mem;
 use std::sync::Wait;
@@ -56,12 +57,14 @@ impl Pending {
         register: &mut Register,
         event: RawEvent,
     ) -> Result<(), Fault>
-        requires { length self.now.part.items ≤ 65536 }
-        ensures adds { OnOk result (Adds (progress register.old self.old) (raw_event event ∷ []) (progress register.new self.new)) }
-        ensures few { OnOk result (length self.new.part.items ≤ 65536) }
-        ensures stops { IfErr result (AddingStops (progress register.old self.old) (raw_event event ∷ [])) }
+        requires { length self.now.part.items ≤ MAX_ENTRIES }
+        ensures adds { OnOk result (Adds (progress register.old self.old) (raw_event event ∷ [])
+            (progress register.new self.new)) }
+        ensures few { OnOk result (length self.new.part.items ≤ MAX_ENTRIES) }
+        ensures stops { IfErr result (AddingStops (progress register.old self.old)
+            (raw_event event ∷ [])) }
     {
-        if self.part.len() >= MAX_EVENTS {
+        if self.part.len() >= MAX_ENTRIES {
             self.run(rt, register)?;
         }
         self.part.push(event).map_err(|_| Fault::Memory)?;
@@ -74,8 +77,9 @@ impl Pending {
         rt: &R,
         register: &mut Register,
     ) -> Result<(), Fault>
-        requires { length self.now.part.items ≤ 65536 }
-        ensures adds { OnOk result (Adds (progress register.old self.old) [] (progress register.new self.new)) }
+        requires { length self.now.part.items ≤ MAX_ENTRIES }
+        ensures adds { OnOk result (Adds (progress register.old self.old) []
+            (progress register.new self.new)) }
         ensures none { OnOk result (self.new.part.items ≡ []) }
         ensures stops { IfErr result (AddingStops (progress register.old self.old) []) }
     {
@@ -96,12 +100,16 @@ pub fn handle_batch<'a, R: Threads + Wait + Sync>(
     sent: &mut Vec<Out>,
 ) -> Result<Place<'a>, Fault>
     requires { AllByRecursion IsGood (batch_of (lines from.rest.now)) }
-    ensures handles { OnOk result (Handles ids.now register.old (batch_of (lines from.entry.rest.now)) (map raw_out sent.new.items) register.new) }
-    ensures behind { IfOk result (λ place. lines place.rest.now ≡ behind_batch (lines from.entry.rest.now)) }
-    ensures shorter { 0 < length from.entry.rest.now → IfOk result (λ place. length place.rest.now < length from.entry.rest.now) }
+    ensures handles { OnOk result (Handles ids.now register.old
+        (batch_of (lines from.entry.rest.now)) (map raw_out sent.new.items) register.new) }
+    ensures behind { IfOk result (λ place. lines place.rest.now
+        ≡ behind_batch (lines from.entry.rest.now)) }
+    ensures shorter { 0 < length from.entry.rest.now
+        → IfOk result (λ place. length place.rest.now < length from.entry.rest.now) }
     ensures number { IfOk result (λ place. 0 < length place.rest.now
         → place.before ≡ from.entry.before + length (batch_of (lines from.entry.rest.now)) + 1) }
-    ensures stops { IfErr result (BatchStops ids.now from.entry.before (state_known register.old) (batch_of (lines from.entry.rest.now))) }
+    ensures stops { IfErr result (BatchStops ids.now from.entry.before (state_known register.old)
+        (batch_of (lines from.entry.rest.now))) }
 {
     check_letters(alloc, from, ids.len())?;
     let mut batch = Pending::new(alloc);
@@ -119,16 +127,20 @@ fn handle_lines<'a, R: Threads + Wait + Sync>(
     from: Place<'a>,
     ids: &[Tid],
 ) -> Result<Place<'a>, Fault>
-    requires few { length batch.now.part.items ≤ 65536 }
+    requires few { length batch.now.part.items ≤ MAX_ENTRIES }
     requires good { AllByRecursion IsGood (batch_of (lines from.rest.now)) }
     requires known { AllByRecursion (HasIds (length ids.now)) (batch_of (lines from.rest.now)) }
-    ensures adds { OnOk result (AddsLines ids.now (progress register.old batch.old) (batch_of (lines from.entry.rest.now)) (progress register.new batch.new)) }
-    ensures few { OnOk result (length batch.new.part.items ≤ 65536) }
-    ensures behind { IfOk result (λ place. lines place.rest.now ≡ behind_batch (lines from.entry.rest.now)) }
-    ensures shorter { 0 < length from.entry.rest.now → IfOk result (λ place. length place.rest.now < length from.entry.rest.now) }
+    ensures adds { OnOk result (AddsLines ids.now (progress register.old batch.old)
+        (batch_of (lines from.entry.rest.now)) (progress register.new batch.new)) }
+    ensures few { OnOk result (length batch.new.part.items ≤ MAX_ENTRIES) }
+    ensures behind { IfOk result (λ place. lines place.rest.now
+        ≡ behind_batch (lines from.entry.rest.now)) }
+    ensures shorter { 0 < length from.entry.rest.now
+        → IfOk result (λ place. length place.rest.now < length from.entry.rest.now) }
     ensures number { IfOk result (λ place. 0 < length place.rest.now
         → place.before ≡ from.entry.before + length (batch_of (lines from.entry.rest.now)) + 1) }
-    ensures stops { IfErr result (LinesStop ids.now (progress register.old batch.old) (batch_of (lines from.entry.rest.now))) }
+    ensures stops { IfErr result (LinesStop ids.now (progress register.old batch.old)
+        (batch_of (lines from.entry.rest.now))) }
 {
     let mut place = from;
     'lines: while let Some((line, behind)) = place.next() {
@@ -150,11 +162,12 @@ fn add_line<R: Threads + Wait + Sync>(
     line: &[u8],
     ids: &[Tid],
 ) -> Result<(), Fault>
-    requires few { length batch.now.part.items ≤ 65536 }
+    requires few { length batch.now.part.items ≤ MAX_ENTRIES }
     requires good { IsGood line.now }
     requires known { HasIds (length ids.now) line.now }
-    ensures adds { OnOk result (AddsLine ids.now (progress register.old batch.old) line.now (progress register.new batch.new)) }
-    ensures few { OnOk result (length batch.new.part.items ≤ 65536) }
+    ensures adds { OnOk result (AddsLine ids.now (progress register.old batch.old) line.now
+        (progress register.new batch.new)) }
+    ensures few { OnOk result (length batch.new.part.items ≤ MAX_ENTRIES) }
     ensures stops { IfErr result (LineStops ids.now (progress register.old batch.old) line.now) }
 {
     match read_line(alloc, line) {
@@ -173,11 +186,13 @@ fn add_item<R: Threads + Wait + Sync>(
     item: Item,
     ids: &[Tid],
 ) -> Result<(), Fault>
-    requires few { length batch.now.part.items ≤ 65536 }
+    requires few { length batch.now.part.items ≤ MAX_ENTRIES }
     requires known { (events : List Event) × AreEvents ids.now (line_of item) events }
-    ensures adds { OnOk result (AddsSaid ids.now (progress register.old batch.old) (line_of item.entry) (progress register.new batch.new)) }
-    ensures few { OnOk result (length batch.new.part.items ≤ 65536) }
-    ensures stops { IfErr result (SaidStops ids.now (progress register.old batch.old) (line_of item.entry)) }
+    ensures adds { OnOk result (AddsSaid ids.now (progress register.old batch.old)
+        (line_of item.entry) (progress register.new batch.new)) }
+    ensures few { OnOk result (length batch.new.part.items ≤ MAX_ENTRIES) }
+    ensures stops { IfErr result (SaidStops ids.now (progress register.old batch.old)
+        (line_of item.entry)) }
 {
     match item {
         Item::Frame { from, octets } => {
@@ -200,8 +215,10 @@ fn add_item<R: Threads + Wait + Sync>(
 
 /// A received frame, with these ids in place of the letters.
 fn frame(alloc: Global, from: Peer, octets: &[u8], ids: &[Tid]) -> Result<RawEvent, AllocError>
-    requires { (groups : List Group) × (found : List ℕ) × IsOctets octets.now groups × (octets_of ids.now groups ≡ Some found) }
-    ensures { IfOk result (λ event. (groups : List Group) × (found : List ℕ) × IsOctets octets.now groups
+    requires { (groups : List Group) × (found : List ℕ) × IsOctets octets.now groups
+        × (octets_of ids.now groups ≡ Some found) }
+    ensures { IfOk result (λ event. (groups : List Group) ×
+        (found : List ℕ) × IsOctets octets.now groups
         × (octets_of ids.now groups ≡ Some found) × (raw_event event ≡ RawFrame from found)) }
 {
     match read_octets(alloc, octets, ids)? {
@@ -217,10 +234,12 @@ fn add_clocks<R: Threads + Wait + Sync>(
     batch: &mut Pending,
     now: u64,
 ) -> Result<(), Fault>
-    requires few { length batch.now.part.items ≤ 65536 }
-    ensures adds { OnOk result (Adds (progress register.old batch.old) (map (λ n. RawClock n now) (range_with_len 0 16)) (progress register.new batch.new)) }
-    ensures few { OnOk result (length batch.new.part.items ≤ 65536) }
-    ensures stops { IfErr result (AddingStops (progress register.old batch.old) (map (λ n. RawClock n now) (range_with_len 0 16))) }
+    requires few { length batch.now.part.items ≤ MAX_ENTRIES }
+    ensures adds { OnOk result (Adds (progress register.old batch.old)
+        (map (λ n. RawClock n now) (range_with_len 0 16)) (progress register.new batch.new)) }
+    ensures few { OnOk result (length batch.new.part.items ≤ MAX_ENTRIES) }
+    ensures stops { IfErr result (AddingStops (progress register.old batch.old)
+        (map (λ n. RawClock n now) (range_with_len 0 16))) }
 {
     for number in 0..SHARDS {
         let shard = ShardNumber::new(number).unwrap();
@@ -235,10 +254,12 @@ fn add_expiries<R: Threads + Wait + Sync>(
     register: &mut Register,
     batch: &mut Pending,
 ) -> Result<(), Fault>
-    requires few { length batch.now.part.items ≤ 65536 }
-    ensures adds { OnOk result (Adds (progress register.old batch.old) (map (λ n. RawExpire n) (range_with_len 0 16)) (progress register.new batch.new)) }
-    ensures few { OnOk result (length batch.new.part.items ≤ 65536) }
-    ensures stops { IfErr result (AddingStops (progress register.old batch.old) (map (λ n. RawExpire n) (range_with_len 0 16))) }
+    requires few { length batch.now.part.items ≤ MAX_ENTRIES }
+    ensures adds { OnOk result (Adds (progress register.old batch.old)
+        (map (λ n. RawExpire n) (range_with_len 0 16)) (progress register.new batch.new)) }
+    ensures few { OnOk result (length batch.new.part.items ≤ MAX_ENTRIES) }
+    ensures stops { IfErr result (AddingStops (progress register.old batch.old)
+        (map (λ n. RawExpire n) (range_with_len 0 16))) }
 {
     for number in 0..SHARDS {
         let shard = ShardNumber::new(number).unwrap();

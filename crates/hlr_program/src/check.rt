@@ -14,7 +14,8 @@ use std::alloc::{AllocError, Global};
 /// Finds the first line of a script that has none of the forms.
 pub fn check_script(alloc: Global, text: &[u8]) -> Result<(), Fault>
     ensures good { OnOk result (AllByRecursion IsGood (lines text.now)) }
-    ensures bad { (n : ℕ) → result ≡ Err (Fault.BadLine n) → IsFirst IsGood IsBad (lines text.now) 0 n }
+    ensures bad { (n : ℕ) → result ≡ Err (Fault.BadLine n)
+        → IsFirst IsGood IsBad (lines text.now) 0 n }
     ensures of_script { IfErr result IsScriptFault }
 {
     let mut place = Place::new(text);
@@ -29,9 +30,11 @@ pub fn check_script(alloc: Global, text: &[u8]) -> Result<(), Fault>
 
 /// Finds the first line of a batch with a letter without an id, if the first `known` letters have one.
 pub fn check_letters(alloc: Global, from: Place, known: usize) -> Result<(), Fault>
-    ensures known { OnOk result (AllByRecursion (HasIds known) (batch_of (lines from.entry.rest.now))) }
+    ensures known { OnOk result (AllByRecursion (HasIds known)
+        (batch_of (lines from.entry.rest.now))) }
     ensures unknown { (n : ℕ) → result ≡ Err (Fault.BadLine n)
-        → IsFirst (HasIds known) (LacksId known) (batch_of (lines from.entry.rest.now)) from.entry.before n }
+        → IsFirst (HasIds known) (LacksId known)
+        (batch_of (lines from.entry.rest.now)) from.entry.before n }
     ensures of_script { IfErr result IsScriptFault }
 {
     let mut place = from;

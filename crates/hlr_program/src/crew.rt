@@ -2,6 +2,7 @@
 
 ghost use Rattle.std.specs.Prelude.{◌≡◌, ◌≤◌, ◌++◌, [], List, None, IfOk, IfErr, OnOk, map, length};
 ghost use Rattle.std.specs.List.{flat_map};
+ghost use Rattle.machine.specs.declared.numbers.TheConstants.{MAX_ENTRIES};
 ghost use Rattle.frames.specs.Octets.{RawEvent as Event, RawOut};
 ghost use Rattle.machine.specs.State.{State};
 ghost use Rattle.hlrcore.specs.Events.{raw_event};
@@ -18,7 +19,7 @@ use std::alloc::{AllocError, Global};
 use std::marker::Model;
 use std::sync::Wait;
 use std::thread::Threads;
-use workers::{SharedFault, SharedRegister};
+use workers::SharedRegister;
 
 /// A register whose batches are handled by 1 to 16 workers.
 #[derive(Drop)]
@@ -60,8 +61,9 @@ impl Crew {
         part: Vec<RawEvent>,
         sent: &mut Vec<Out>,
     ) -> Result<(), Fault>
-        requires { length part.items ≤ 65536 }
-        ensures sends { OnOk result ((outs : List (List RawOut)) × GoesOn self.old (map raw_event part.items) outs self.new
+        requires { length part.items ≤ MAX_ENTRIES }
+        ensures sends { OnOk result ((outs : List (List RawOut))
+            × GoesOn self.old (map raw_event part.items) outs self.new
             × (map raw_out sent.new.items ≡ map raw_out sent.old.items ++ flat_map (λ o. o) outs)) }
         ensures stops { IfErr result (EventsStop None (map raw_event part.items)) }
     {
@@ -73,7 +75,8 @@ impl Crew {
 
     /// Takes the shards out of their locks, if jobs and receipts account for their journals.
     pub fn into_shards(self) -> Result<Vec<Shard>, Fault>
-        ensures hands_out { IfOk result (λ shards. (begin : State) (events : List Event) (sent : List (List RawOut))
+        ensures hands_out { IfOk result (λ shards. (begin : State) (events : List Event)
+            (sent : List (List RawOut))
             → StandsBehind begin events sent self → HandsOut begin events sent shards.items) }
         ensures stops { IfErr result (HandingOutStops None) }
     {

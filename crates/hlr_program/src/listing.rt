@@ -29,7 +29,8 @@ fn push_asked_listings(
     shards: &[Shard],
     asked: bool,
 ) -> Result<(), AllocError>
-    ensures { OnOk result ((listed : List ℕ) × Asked asked (Lists shards.now) listed × (text.new.items ≡ text.old.items ++ listed)) }
+    ensures { OnOk result ((listed : List ℕ) × Asked asked (Lists shards.now) listed
+        × (text.new.items ≡ text.old.items ++ listed)) }
 {
     if asked {
         return push_listings(alloc, text, shards);
@@ -43,7 +44,8 @@ fn push_asked_saved(
     shards: &[Shard],
     asked: bool,
 ) -> Result<(), AllocError>
-    ensures { OnOk result ((saved : List ℕ) × Asked asked (SavesLines shards.now) saved × (text.new.items ≡ text.old.items ++ saved)) }
+    ensures { OnOk result ((saved : List ℕ) × Asked asked (SavesLines shards.now) saved
+        × (text.new.items ≡ text.old.items ++ saved)) }
 {
     if asked {
         return push_saved(alloc, text, shards);
@@ -52,7 +54,8 @@ fn push_asked_saved(
 }
 
 fn push_listings(alloc: Global, text: &mut Vec<u8>, shards: &[Shard]) -> Result<(), AllocError>
-    ensures { OnOk result ((listed : List ℕ) × Lists shards.now listed × (text.new.items ≡ text.old.items ++ listed)) }
+    ensures { OnOk result ((listed : List ℕ) × Lists shards.now listed
+        × (text.new.items ≡ text.old.items ++ listed)) }
 {
     text.extend_from_slice(list_records(alloc, shards)?.as_bytes())?;
     text.extend_from_slice(list_dialogues(alloc, shards)?.as_bytes())?;
@@ -61,7 +64,8 @@ fn push_listings(alloc: Global, text: &mut Vec<u8>, shards: &[Shard]) -> Result<
 }
 
 fn push_saved(alloc: Global, text: &mut Vec<u8>, shards: &[Shard]) -> Result<(), AllocError>
-    ensures { OnOk result ((saved : List ℕ) × SavesLines shards.now saved × (text.new.items ≡ text.old.items ++ saved)) }
+    ensures { OnOk result ((saved : List ℕ) × SavesLines shards.now saved
+        × (text.new.items ≡ text.old.items ++ saved)) }
 {
     let file = save_records(alloc, shards)?;
     push_behind_v(text, file.as_bytes())

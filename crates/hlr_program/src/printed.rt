@@ -1,22 +1,19 @@
 //! The lines that are printed.
 
-ghost use Rattle.std.specs.Prelude.{◌≡◌, ◌<◌, ◌++◌, ◌∷◌, [], map, slice_index, IfOk, IfErr, OnOk};
+ghost use Rattle.std.specs.Prelude.{◌≡◌, ◌++◌, ◌∷◌, [], map, IfOk, IfErr, OnOk};
 ghost use Rattle.shard_state.specs.Answers.{raw_out};
-ghost use Rattle.hex.specs.Hex.{upper_digits, encode_upper};
 ghost use Rattle.std.specs.Io.KnownBytes.{Appends};
 ghost use Rattle.hlr_program.specs.Printed.{WritesFront, sent_line, sent_lines, noted_in};
 ghost use Rattle.hlr_program.specs.Statuses.{message_of};
 
 use crate::fault::Fault;
 use arrayvec::ArrayString;
+use hex::encode_upper;
 use hlr_input::Letters;
 use hlrcore::Out;
 use std::alloc::{AllocError, Global};
 use std::fmt::Write as _;
 use std::io::{ErrorKind, Write};
-
-/// The upper case hexadecimal digits.
-const DIGITS: &[u8; 16] = b"0123456789ABCDEF";
 
 /// Room for the longest fault line: the words around a number of 20 digits.
 const MAX_TOLD: usize = 64;
@@ -29,7 +26,7 @@ pub fn lines_of(alloc: Global, sent: &[Out], letters: &mut Letters) -> Result<Ve
 {
     let mut text = Vec::new(alloc);
     for frame in sent {
-        push_sent(&mut text, frame)?;
+        push_sent(alloc, &mut text, frame)?;
         letters.note(&frame.octets)?;
     }
     Ok(text)
@@ -67,30 +64,15 @@ pub fn tell<W: Write>(fault: Fault, err: &mut W)
 }
 
 /// Appends the line of a sent frame: `S`, the address, and the octets in upper case.
-pub fn push_sent(text: &mut Vec<u8>, sent: &Out) -> Result<(), AllocError>
-    ensures { OnOk result (text.new.items ≡ text.old.items ++ sent_line sent.now.to sent.now.octets.items) }
+pub fn push_sent(alloc: Global, text: &mut Vec<u8>, sent: &Out) -> Result<(), AllocError>
+    ensures { OnOk result (text.new.items
+        ≡ text.old.items ++ sent_line sent.now.to sent.now.octets.items) }
 {
+    let octets = encode_upper(alloc, sent.octets.as_slice())?;
     text.extend_from_slice(b"S ")?;
     text.extend_from_slice(sent.to.digits().text().as_slice())?;
     text.push(b' ')?;
-    push_octets(text, &sent.octets)?;
+    text.extend_from_slice(octets.as_bytes())?;
     text.push(b'\n')?;
     Ok(())
-}
-
-fn push_octets(text: &mut Vec<u8>, octets: &[u8]) -> Result<(), AllocError>
-    ensures { OnOk result (text.new.items ≡ text.old.items ++ encode_upper octets.now) }
-{
-    for octet in octets {
-        text.push(digit(*octet / 16))?;
-        text.push(digit(*octet % 16))?;
-    }
-    Ok(())
-}
-
-fn digit(value: u8) -> u8
-    requires { value < 16 }
-    ensures { result ≡ slice_index upper_digits value }
-{
-    DIGITS[value as usize]
 }

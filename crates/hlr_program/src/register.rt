@@ -20,7 +20,8 @@ pub enum Register {
 }
 
 impl Register {
-    ghost use Rattle.std.specs.Prelude.{◌≡◌, ◌≤◌, IfOk, IfErr, OnOk, map, length};
+    ghost use Rattle.std.specs.Prelude.{◌≤◌, IfOk, IfErr, OnOk, map, length};
+    ghost use Rattle.machine.specs.declared.numbers.TheConstants.{MAX_ENTRIES};
     ghost use Rattle.hlrcore.specs.Events.{raw_event};
     ghost use Rattle.shard_state.specs.Frames.{raw_out};
     ghost use Rattle.hlr_program.specs.Registers.{HandsOver, IsOf, OpensWith, SendsPart, state_known};
@@ -47,9 +48,11 @@ impl Register {
         part: Vec<RawEvent>,
         sent: &mut Vec<Out>,
     ) -> Result<(), Fault>
-        requires { length part.items ≤ 65536 }
-        ensures sends { OnOk result (SendsPart self.old (map raw_event part.items) (map raw_out sent.old.items) self.new (map raw_out sent.new.items)) }
-        ensures stops { IfErr result (EventsStop (state_known self.old) (map raw_event part.items)) }
+        requires { length part.items ≤ MAX_ENTRIES }
+        ensures sends { OnOk result (SendsPart self.old (map raw_event part.items)
+            (map raw_out sent.old.items) self.new (map raw_out sent.new.items)) }
+        ensures stops { IfErr result (EventsStop (state_known self.old)
+            (map raw_event part.items)) }
     {
         match self {
             Register::Alone(alone) => alone.send_part(part, sent),

@@ -1,6 +1,6 @@
 //! A run of the program.
 
-ghost use Rattle.std.specs.Prelude.{◌≡◌, ◌≤◌, ℕ, List, [], Option, IfOk, IfErr, IfSome, OnOk};
+ghost use Rattle.std.specs.Prelude.{◌≡◌, ◌≤◌, ℕ, List, Option, IfOk, IfErr, IfSome, OnOk};
 ghost use Rattle.std.specs.List.{AllByRecursion};
 ghost use Rattle.std.specs.Result.{result_err};
 ghost use Rattle.std.specs.Io.KnownBytes.{Appends};
@@ -45,7 +45,8 @@ pub fn serve_script<R: Threads + Wait + Sync, A: Read, B: Read, W: Write, E: Wri
 ) -> u8
     // The program, at every status: whether the run succeeds or with which fault it ends, what is printed on `err`, and what is
     // printed on `out`, for readers whose octets are known.
-    ensures ends { (fault : Option Fault) × (result ≡ status_at fault) × Tells (E.contents err.old) (E.contents err.new) fault
+    ensures ends { (fault : Option Fault) × (result ≡ status_at fault)
+        × Tells (E.contents err.old) (E.contents err.new) fault
         × IfSome (A.remaining records.old) (λ file. IfSome (B.remaining script.old) (λ lines.
         Ends options.now file lines (W.contents out.old) (W.contents out.new) fault)) }
     // Options that are not served never end with status 0, whatever is read.
@@ -68,7 +69,8 @@ fn serve<R: Threads + Wait + Sync, A: Read, B: Read, W: Write>(
     script: &mut B,
     out: &mut W,
 ) -> Result<(), Fault>
-    ensures ends { IfSome (A.remaining records.old) (λ file. IfSome (B.remaining script.old) (λ lines.
+    ensures ends { IfSome (A.remaining records.old)
+        (λ file. IfSome (B.remaining script.old) (λ lines.
         Ends options.now file lines (W.contents out.old) (W.contents out.new) (result_err result))) }
     ensures served { OnOk result (options.now.workers ≤ 16) }
 {
@@ -82,9 +84,11 @@ fn serve<R: Threads + Wait + Sync, A: Read, B: Read, W: Write>(
 
 /// The contents of the records file.
 fn load<R: Read>(alloc: Global, reader: &mut R) -> Result<Loaded, Fault>
-    ensures loaded { IfOk result (λ loaded. IfSome (R.remaining reader.old) (λ file. IsLoadedFrom file loaded)) }
+    ensures loaded { IfOk result (λ loaded. IfSome (R.remaining reader.old)
+        (λ file. IsLoadedFrom file loaded)) }
     ensures sound { IfOk result (λ loaded. Sound (opening_of loaded)) }
-    ensures stops { IfErr result (λ fault. IfSome (R.remaining reader.old) (λ file. StopsRecords file fault)) }
+    ensures stops { IfErr result (λ fault. IfSome (R.remaining reader.old)
+        (λ file. StopsRecords file fault)) }
 {
     match read_all(alloc, reader) {
         Ok(text) => load_text(alloc, &text),
@@ -107,8 +111,10 @@ fn load_text(alloc: Global, text: &[u8]) -> Result<Loaded, Fault>
 /// The script, each line of which has one of the forms.
 fn read_script<R: Read>(alloc: Global, reader: &mut R) -> Result<Vec<u8>, Fault>
     ensures good { IfOk result (λ script. AllByRecursion IsGood (lines script.items)) }
-    ensures whole { IfOk result (λ script. IfSome (R.remaining reader.old) (λ all. script.items ≡ all)) }
-    ensures stops { IfErr result (λ fault. IfSome (R.remaining reader.old) (λ all. StopsScript all fault)) }
+    ensures whole { IfOk result (λ script. IfSome (R.remaining reader.old)
+        (λ all. script.items ≡ all)) }
+    ensures stops { IfErr result (λ fault. IfSome (R.remaining reader.old)
+        (λ all. StopsScript all fault)) }
 {
     match read_all(alloc, reader) {
         Ok(text) => match check_script(alloc, &text) {
@@ -132,9 +138,11 @@ fn run_loaded<R: Threads + Wait + Sync, W: Write>(
     requires good { AllByRecursion IsGood (lines script.now) }
     requires sound { Sound (opening_of loaded) }
     requires workers { options.now.workers ≤ 16 }
-    ensures ran { OnOk result ((printed : List ℕ) × RunsAndLists options.now loaded script.now printed
+    ensures ran { OnOk result ((printed : List ℕ)
+        × RunsAndLists options.now loaded script.now printed
         × Appends (W.contents out.old) (W.contents out.new) printed) }
-    ensures stops { IfErr result (λ fault. (printed : List ℕ) × StopsRunning options.now loaded script.now fault printed
+    ensures stops { IfErr result (λ fault.
+        (printed : List ℕ) × StopsRunning options.now loaded script.now fault printed
         × Appends (W.contents out.old) (W.contents out.new) printed) }
 {
     let ran = run_and_list(rt, alloc, options, loaded, script, out);
@@ -166,9 +174,11 @@ fn run_and_list<R: Threads + Wait + Sync, W: Write>(
     requires good { AllByRecursion IsGood (lines script.now) }
     requires sound { Sound (opening_of loaded) }
     requires workers { options.now.workers ≤ 16 }
-    ensures ran { OnOk result ((printed : List ℕ) × RunsAndLists options.now loaded script.now printed
+    ensures ran { OnOk result ((printed : List ℕ)
+        × RunsAndLists options.now loaded script.now printed
         × Appends (W.contents out.old) (W.contents out.new) printed) }
-    ensures stops { IfErr result (λ fault. (printed : List ℕ) × StopsRunning options.now loaded script.now fault printed
+    ensures stops { IfErr result (λ fault.
+        (printed : List ℕ) × StopsRunning options.now loaded script.now fault printed
         × Appends (W.contents out.old) (W.contents out.new) printed) }
 {
     let mut register = Register::new(alloc, loaded, options.workers)?;
@@ -187,9 +197,11 @@ fn run<R: Threads + Wait + Sync, W: Write>(
     out: &mut W,
 ) -> Result<(), Fault>
     requires { AllByRecursion IsGood (lines script.now) }
-    ensures ran { OnOk result ((batches : List BatchRun) × RunsScript script.now register.old batches register.new
+    ensures ran { OnOk result ((batches : List BatchRun)
+        × RunsScript script.now register.old batches register.new
         × Appends (W.contents out.old) (W.contents out.new) (printed_of batches)) }
-    ensures stops { IfErr result (λ fault. (printed : List ℕ) × StopsBatches script.now (state_known register.old) fault printed
+    ensures stops { IfErr result (λ fault.
+        (printed : List ℕ) × StopsBatches script.now (state_known register.old) fault printed
         × Appends (W.contents out.old) (W.contents out.new) printed) }
 {
     let mut letters = Letters::new(alloc);

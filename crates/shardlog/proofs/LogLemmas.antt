@@ -1,11 +1,11 @@
 -- The invariant of a journal, how it begins, and how it grows.
-use Rattle.std.proofs.Common.{◌≡◌, ◌<◌, ◌≤◌, ◌+◌, ℕ, List, [], ◌∷◌, ◌++◌, length, length-append, map, Vec, Global, Option, Some, refl, sym, ap, ◌∙◌, subst, arith}
+use Rattle.std.proofs.Common.{◌≡◌, ◌<◌, ◌+◌, ℕ, List, [], ◌∷◌, ◌++◌, length, length-append, map, Vec, Global, refl, sym, ap, ◌∙◌, subst, arith}
 use Rattle.std.proofs.lemmas.List.{length-map, map-append}
-use Rattle.machine.specs.Events.{Event}
+use Rattle.machine.specs.declared.numbers.TheConstants.{MAX_ENTRIES}
 use Rattle.machine.specs.Holders.{IsNamed, holders}
-use Rattle.machine.specs.State.{Dialogue, State}
+use Rattle.machine.specs.State.{State}
 use Rattle.machine_laws.proofs.Naming.{unnamed_stays}
-use Rattle.frames.specs.Octets.{RawEvent, RawEntry, RawOut, IsEvent, IsRouted, StepOctets}
+use Rattle.frames.specs.Octets.{RawEvent, RawEntry, IsRouted, StepOctets}
 use Rattle.frames.specs.OctetJournals.{ChainOctets, LegalOctets, RawEpoch, first_raw_base, joined_raws}
 use Rattle.frames_laws.proofs.OctetLaws.{chain_cut, chain_joined, event_one, holders_of_octets, isolation_of_octets, octets_push}
 use Rattle.shard_state.specs.Shards.{ShardState, IsSameShard, directory_of, state_of}
@@ -57,11 +57,13 @@ unfolding state_of
 directory_is s = refl
 
 -- a step appends its entry
-pub grown : (base s t : ShardState) (entries : List RawEntry) (entry : RawEntry) → IsLog (log base entries s) → IsRouted (directory_of s.directory) entry.event s.shard
-    → StepOctets (state_of s) entry (state_of t) → IsSameShard s t → length entries < 65536 → IsLog (log base (entries ++ entry ∷ []) t)
+pub grown : (base s t : ShardState) (entries : List RawEntry) (entry : RawEntry) → IsLog (log base entries s)
+    → IsRouted (directory_of s.directory) entry.event s.shard
+    → StepOctets (state_of s) entry (state_of t) → IsSameShard s t → length entries < MAX_ENTRIES → IsLog (log base (entries ++ entry ∷ []) t)
 grown base s t entries entry is routed step same lt = record {
   legal = octets_push base.shard (state_of base) (state_of s) (state_of t) entries entry is.legal
-      (subst (λ n. IsRouted (state_of s).directory entry.event n) is.same.shard (subst (λ d. IsRouted d entry.event s.shard) (sym (directory_is s)) routed)) step;
+      (subst (λ n. IsRouted (state_of s).directory entry.event n) is.same.shard
+      (subst (λ d. IsRouted d entry.event s.shard) (sym (directory_is s)) routed)) step;
   same = record { shard = same.shard ∙ is.same.shard; directory = same.directory ∙ is.same.directory; hlr = same.hlr ∙ is.same.hlr };
   few = let count = length-append entries (entry ∷ []) in omega (arith, count);
 }
@@ -87,13 +89,16 @@ entries_after before after entry made put is =
     ap (map raw_entry) put ∙ map-append raw_entry before (entry ∷ []) ∙ ap (λ (e : RawEntry). raw_entries before ++ e ∷ []) is
 
 pub handled_log : (base s t : ShardState) (before after : List Entry) (event : RawEvent) (a : StepAnswer) → IsLog (log base (raw_entries before) s)
-    → raw_entries after ≡ raw_entries before ++ entry_of event a ∷ [] → IsRouted (directory_of s.directory) event s.shard → StepOctets (state_of s) (entry_of event a) (state_of t)
-    → IsSameShard s t → length before < 65536 → IsLog (log base (raw_entries after) t)
+    → raw_entries after ≡ raw_entries before ++ entry_of event a ∷ [] → IsRouted (directory_of s.directory) event s.shard
+    → StepOctets (state_of s) (entry_of event a) (state_of t)
+    → IsSameShard s t → length before < MAX_ENTRIES → IsLog (log base (raw_entries after) t)
 handled_log base s t before after event a is put routed step same lt =
     let count = length-map before raw_entry in
-    subst (λ (es : List RawEntry). IsLog (log base es t)) (sym put) (grown base s t (raw_entries before) (entry_of event a) is routed step same (omega (arith, count)))
+    subst (λ (es : List RawEntry). IsLog (log base es t)) (sym put)
+    (grown base s t (raw_entries before) (entry_of event a) is routed step same (omega (arith, count)))
 
-pub handles : (old : Log) (base s t : ShardState) (before after : List Entry) (event : RawEvent) (a : StepAnswer) (handled : Handled) → log base (raw_entries before) s ≡ old
+pub handles : (old : Log) (base s t : ShardState) (before after : List Entry) (event : RawEvent) (a : StepAnswer) (handled : Handled)
+    → log base (raw_entries before) s ≡ old
     → raw_entries after ≡ raw_entries before ++ entry_of event a ∷ [] → StepOctets (state_of s) (entry_of event a) (state_of t)
     → map raw_out handled.outs.items ≡ a.outs → handled.position ≡ length before → Handles old event handled (log base (raw_entries after) t)
 handles old base s t before after event a handled seen put step outs position =

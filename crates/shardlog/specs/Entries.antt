@@ -2,7 +2,7 @@
 use Rattle.std.specs.Prelude.{List, map}
 use Rattle.frames.specs.Octets.{RawEntry}
 use Rattle.shard_state.specs.Frames.{raw_out}
-use Rattle.hlrcore.specs.Events.{raw_event}
+pub use Rattle.hlrcore.specs.Events.{raw_event}
 use Rattle.shardlog.specs.declared.entry.Entry.{Entry}
 
 abbrev pub raw_entry : Entry → RawEntry

@@ -1,12 +1,13 @@
 -- A shard with its journal, and the invariant of such a journal.
-use Rattle.std.specs.Prelude.{◌≡◌, ◌≤◌, ℕ, List, [], length, refl}
+use Rattle.std.specs.Prelude.{◌≤◌, ℕ, List, length, refl}
 use Rattle.std.specs.Coded.{Coded, code_by, coded×, coded_list}
+use Rattle.machine.specs.declared.numbers.TheConstants.{MAX_ENTRIES}
 use Rattle.machine.specs.Holders.{serving}
 use Rattle.machine.specs.Isolation.{SameOf, own}
 use Rattle.machine.specs.State.{State}
 use Rattle.frames.specs.Octets.{RawEntry}
 use Rattle.frames.specs.OctetJournals.{AreHolders, LegalOctets, NoRawTurnedAway, only_raw_of}
-use Rattle.shard_state.specs.Shards.{ShardState, shard_state_code, IsSameShard, records_of, state_of}
+use Rattle.shard_state.specs.Shards.{ShardState, shard_state_code, IsSameShard, state_of}
 use Rattle.shardlog.specs.Codes.{entry_code}
 
 -- The state in which the journal begins, its entries, and the current state of the shard.
@@ -27,7 +28,7 @@ log_code =
 pub record IsLog (l : Log) : Type 0 where
   pub legal : LegalOctets l.base.shard (state_of l.base) l.entries (state_of l.state)
   pub same : IsSameShard l.base l.state
-  pub few : length l.entries ≤ 65536
+  pub few : length l.entries ≤ MAX_ENTRIES
 
 -- What holds for a journal from one state to another, by the octets of its entries alone: exactly the serving register, or
 -- none, holds each subscriber; and the entries of one subscriber by themselves are a legal journal, to the same record and the
@@ -42,4 +43,4 @@ pub record Keeps (n : ℕ) (base : State) (entries : List RawEntry) (state : Sta
 pub record LogKeeps (l : Log) : Type 0 where
   pub journal : Keeps l.base.shard (state_of l.base) l.entries (state_of l.state)
   pub same : IsSameShard l.base l.state
-  pub few : length l.entries ≤ 65536
+  pub few : length l.entries ≤ MAX_ENTRIES

@@ -9,5 +9,6 @@ mod shard;
 
 pub use entry::{Entry, Epoch, Handled};
 pub use fault::ShardFault;
+pub use hlrcore::RawEvent;
 pub use laws::joined_journals_keep;
-pub use shard::{MAX_ENTRIES, Shard};
+pub use shard::Shard;

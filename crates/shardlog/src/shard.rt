@@ -2,6 +2,7 @@
 
 ghost use Rattle.std.specs.Prelude.{◌≡◌, ◌≢◌, ◌⊎◌, ◌++◌, ◌∷◌, [], List, length, IfOk, IfErr, OnOk, OnErr, MatchResult, Err};
 ghost use Rattle.frames.specs.OctetJournals.{RawEpoch};
+ghost use Rattle.machine.specs.declared.numbers.TheConstants.{MAX_ENTRIES};
 ghost use Rattle.machine.specs.Routing.{route};
 ghost use Rattle.machine.specs.Step.{HasNoRoom};
 ghost use Rattle.shard_state.specs.Shards.{directory_of, state_of};
@@ -14,12 +15,10 @@ ghost use Rattle.shardlog.specs.Chains.{LeadTo, raw_epoch};
 use crate::entry::{Entry, Epoch, Handled};
 use crate::fault::ShardFault;
 use hlrcore::{Event, State};
+use machine::numbers::MAX_ENTRIES;
 use std::alloc::{AllocError, Global};
 use std::marker::Model;
 use std::mem;
-
-/// How many entries a journal may have (profile).
-pub const MAX_ENTRIES: usize = 65_536;
 
 /// A shard with its journal, which is legal: its entries lead from the base to the state.
 #[derive(Drop)]
@@ -65,16 +64,25 @@ impl Shard {
     /// `NoRoom` if it is an operator's change that would open a dialogue in a full shard; `Memory` if an allocation fails. On
     /// error nothing changes.
     pub fn handle(&mut self, event: &Event) -> Result<Handled, ShardFault>
-        ensures handles { IfOk result (λ handled. Handles self.old (raw_of event.now) handled self.new) }
+        // A step of the machine over octets, which leaves each open dialogue as it is that the event does not name.
+        ensures handles { IfOk result (λ handled. Handles self.old
+            (raw_of event.now) handled self.new) }
         // The invariant of every journal.
         ensures keeps { LogKeeps self.new }
-        ensures not_mine { result ≡ Err ShardFault.NotMine → route (directory_of self.old.state.directory) (event_of event.now) ≢ self.old.state.shard }
-        ensures mine { route (directory_of self.old.state.directory) (event_of event.now) ≢ self.old.state.shard
-            → MatchResult result (λ _. ⊥) (λ fault. (fault ≡ ShardFault.NotMine) ⊎ (fault ≡ ShardFault.Memory)) }
-        ensures full { result ≡ Err ShardFault.JournalFull → (route (directory_of self.old.state.directory) (event_of event.now) ≡ self.old.state.shard)
-            × (length self.old.entries ≡ 65536) }
-        ensures room { length self.old.entries ≡ 65536 → OnOk result ⊥ }
-        ensures no_room { result ≡ Err ShardFault.NoRoom → HasNoRoom (state_of self.old.state) (event_of event.now) }
+        ensures not_mine { result ≡ Err ShardFault.NotMine
+            → route (directory_of self.old.state.directory)
+            (event_of event.now) ≢ self.old.state.shard }
+        ensures mine { route (directory_of self.old.state.directory)
+            (event_of event.now) ≢ self.old.state.shard
+            → MatchResult result (λ _. ⊥)
+            (λ fault. (fault ≡ ShardFault.NotMine) ⊎ (fault ≡ ShardFault.Memory)) }
+        ensures full { result ≡ Err ShardFault.JournalFull
+            → (route (directory_of self.old.state.directory) (event_of event.now)
+            ≡ self.old.state.shard)
+            × (length self.old.entries ≡ MAX_ENTRIES) }
+        ensures room { length self.old.entries ≡ MAX_ENTRIES → OnOk result ⊥ }
+        ensures no_room { result ≡ Err ShardFault.NoRoom
+            → HasNoRoom (state_of self.old.state) (event_of event.now) }
         ensures no_step { HasNoRoom (state_of self.old.state) (event_of event.now) → OnOk result ⊥ }
         ensures err { OnErr result (self.new ≡ self.old) }
     {
@@ -97,8 +105,12 @@ impl Shard {
 
     /// The error for an event when the journal is full.
     fn refusal(&self, event: &Event) -> ShardFault
-        ensures { (result ≡ ShardFault.NotMine) × (route (directory_of self.now.state.directory) (event_of event.now) ≢ self.now.state.shard)
-            ⊎ (result ≡ ShardFault.JournalFull) × (route (directory_of self.now.state.directory) (event_of event.now) ≡ self.now.state.shard) }
+        ensures { (result ≡ ShardFault.NotMine)
+            × (route (directory_of self.now.state.directory)
+            (event_of event.now) ≢ self.now.state.shard)
+            ⊎ (result ≡ ShardFault.JournalFull)
+            × (route (directory_of self.now.state.directory) (event_of event.now)
+            ≡ self.now.state.shard) }
     {
         if self.state.is_mine(event) {
             ShardFault::JournalFull
@@ -132,11 +144,13 @@ impl Shard {
 
     /// Cuts the journal off, and returns it with its base. The next journal is empty and begins in the current state.
     pub fn cut(&mut self) -> Result<Epoch, AllocError>
-        ensures epoch { IfOk result (λ epoch. (epoch.base ≡ self.old.base) × (raw_entries epoch.entries.items ≡ self.old.entries)) }
+        ensures epoch { IfOk result (λ epoch. (epoch.base ≡ self.old.base)
+            × (raw_entries epoch.entries.items ≡ self.old.entries)) }
         ensures next { OnOk result (self.new ≡ log self.old.state [] self.old.state) }
         ensures keeps { LogKeeps self.old × LogKeeps self.new }
         // If epochs lead to the shard, they also do with this one appended.
-        ensures leads { IfOk result (λ epoch. (epochs : List RawEpoch) → LeadTo epochs self.old → LeadTo (epochs ++ raw_epoch epoch ∷ []) self.new) }
+        ensures leads { IfOk result (λ epoch. (epochs : List RawEpoch) → LeadTo epochs self.old
+            → LeadTo (epochs ++ raw_epoch epoch ∷ []) self.new) }
         ensures err { OnErr result (self.new ≡ self.old) }
     {
         let next = self.state.try_copy()?;

@@ -1,5 +1,5 @@
 -- Cutting the journal of one shard, and the shard that an event is for.
-use Rattle.std.proofs.Common.{◌≡◌, ℕ, List, [], ◌∷◌, ◌++◌, set, refl, sym, ap, subst, ◌∙◌}
+use Rattle.std.proofs.Common.{◌≡◌, ℕ, List, [], ◌∷◌, ◌++◌, set, sym, ap, subst, ◌∙◌}
 use Rattle.std.specs.Prelude.{Result, Ok, Err, IfOk, OnOk, OnErr, Some, slice_get}
 use Rattle.machine.specs.Events.{Event}
 use Rattle.machine.specs.Routing.{route}

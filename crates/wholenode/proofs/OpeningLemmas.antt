@@ -1,21 +1,21 @@
 -- The shards at the beginning.
 use Rattle.std.proofs.Common.{◌≡◌, ℕ, ◌+◌, ◌<◌, zero, suc, List, [], ◌∷◌, ◌++◌, length, length-append, refl, sym, ap, subst, ◌∙◌, append_assoc, arith, inl, inr, eq-eqb, Bool, true, false, cond, ◌==◌}
-use Rattle.std.specs.Prelude.{Option, Some, None, slice_get, nat_lt}
+use Rattle.std.specs.Prelude.{Some, None, slice_get, nat_lt}
 use Rattle.std.proofs.lemmas.Bool.{both_ways, ltb-true}
 use Rattle.std.proofs.lemmas.Option.{get_or_from_slice_get}
 use Rattle.std.proofs.Math.Seq.{get_or-append_seam}
 use Rattle.machine.specs.Keys.{shard_of, shard_of_id}
 use Rattle.machine.specs.Opening.{opening}
 use Rattle.machine.specs.Parts.{part, union}
-use Rattle.machine.specs.State.{Dialogue, State}
+use Rattle.machine.specs.State.{State}
 use Rattle.machine_laws.proofs.Steps.{shard_small}
 use Rattle.records.specs.Loaded.{Subscribers}
 use Rattle.records.specs.Maps.{DirectoryMap, RecordMap, part_of}
 use Rattle.records.specs.Parts.{AreParts}
-use Rattle.shard_state.specs.Shards.{IsOpening, ShardState, directory_of, records_of, state_of}
-use Rattle.shardlog.specs.Log.{Log, LogKeeps, log}
+use Rattle.shard_state.specs.Shards.{directory_of, records_of, state_of}
+use Rattle.shardlog.specs.Log.{Log}
 use Rattle.wholenode.specs.Keeping.{AreShards}
-use Rattle.wholenode.specs.Nodes.{node, state_at, states, whole}
+use Rattle.wholenode.specs.Nodes.{node, state_at, states}
 use Rattle.wholenode.specs.Opening.{AreOpening, BeginsWith, Opens, OpensWith}
 use Rattle.wholenode.proofs.Places.{below_or_last, there}
 

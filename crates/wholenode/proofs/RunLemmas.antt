@@ -1,8 +1,9 @@
 -- Events that are handled one after another, and those that are not.
-use Rattle.std.proofs.Common.{◌≡◌, ℕ, suc, ◌+◌, ◌<◌, ◌≤◌, List, [], ◌∷◌, ◌++◌, map, length, take, drop, get_or, set, refl, sym, ap, subst, ◌∙◌, arith}
+use Rattle.std.proofs.Common.{◌≡◌, ℕ, suc, ◌+◌, ◌<◌, List, [], ◌∷◌, ◌++◌, map, length, take, drop, get_or, set, refl, sym, ap, subst, ◌∙◌}
 use Rattle.std.specs.Prelude.{Some, slice_get}
 use Rattle.std.proofs.lemmas.List.{map-append, take_more}
 use Rattle.std.proofs.Math.Seq.{split_at, take-length}
+use Rattle.machine.specs.declared.numbers.TheConstants.{MAX_ENTRIES}
 use Rattle.machine.specs.Events.{Event}
 use Rattle.machine.specs.Routing.{route}
 use Rattle.machine.specs.Step.{HasNoRoom}
@@ -15,7 +16,7 @@ use Rattle.shardlog.specs.declared.entry.Handled.{Handled}
 use Rattle.shardlog.specs.declared.fault.ShardFault.{ShardFault}
 use Rattle.shardlog.specs.declared.fault.ShardFault.TheVariants as shard
 use Rattle.shardlog.specs.Handling.{Handles, LeavesUnnamed}
-use Rattle.shardlog.specs.Log.{Log, LogKeeps}
+use Rattle.shardlog.specs.Log.{Log}
 use Rattle.shardlog.proofs.LogLemmas.{leaves_unnamed}
 use Rattle.wholenode.specs.declared.fault.Cause.{Cause}
 use Rattle.wholenode.specs.Causes.{unhandled}
@@ -73,12 +74,12 @@ pub refuses : (before : NodeState) (directory : DirectoryMap) (shards : List Log
     (l : Log)
     → node directory shards ≡ before → AreShards directory shards → slice_get shards n ≡ Some l → IsEvent raw e
     → route (directory_of directory) e ≡ n
-    → (fault ≡ shard.JournalFull → length l.entries ≡ 65536) → (fault ≡ shard.NoRoom → HasNoRoom (state_of l.state) e)
+    → (fault ≡ shard.JournalFull → length l.entries ≡ MAX_ENTRIES) → (fault ≡ shard.NoRoom → HasNoRoom (state_of l.state) e)
     → Refuses before raw (unhandled fault)
 refuses before directory shards raw e fault n l seen are at is routed full none = subst (λ (b : NodeState). Refuses b raw (unhandled fault))
     seen (by fault full none)
   where
-    by : (f : ShardFault) → (f ≡ shard.JournalFull → length l.entries ≡ 65536) → (f ≡ shard.NoRoom → HasNoRoom (state_of l.state) e)
+    by : (f : ShardFault) → (f ≡ shard.JournalFull → length l.entries ≡ MAX_ENTRIES) → (f ≡ shard.NoRoom → HasNoRoom (state_of l.state) e)
         → Refuses (node directory shards) raw (unhandled f)
     by shard.NotMine full none = tt
     by shard.JournalFull full none = (n, l, record { routed = (e, is, routed); stands = at }, full refl)

@@ -19,13 +19,11 @@ use Rattle.machine_laws.proofs.Parts.{AgreeOn, agree_alike, agree_sym}
 use Rattle.machine_laws.proofs.Steps.{shard_small}
 use Rattle.machine_laws.proofs.Transfer.{Alike, put_at_same, put_at_other, same_out}
 use Rattle.machine_laws.proofs.Unions.{parts_of_union}
-use Rattle.frames.specs.Octets.{IsEvent, IsRouted, RawEntry, RawEvent, RunOctets, SpellsEntry, StepOctets}
+use Rattle.frames.specs.Octets.{IsEvent, IsRouted, RawEntry, RawEvent, RunOctets, StepOctets}
 use Rattle.frames.specs.OctetJournals.{AreHolders, LegalOctets, MergesOctets}
 use Rattle.frames_laws.proofs.OctetLaws.{event_one, merge_of_octets}
 use Rattle.records.specs.Maps.{DirectoryMap}
 use Rattle.shard_state.specs.Shards.{IsSameShard, ShardState, directory_of, state_of}
-use Rattle.shardlog.specs.declared.entry.Handled.{Handled}
-use Rattle.shardlog.specs.Handling.{Handles}
 use Rattle.shardlog.specs.Log.{Log, LogKeeps}
 use Rattle.wholenode.specs.Keeping.{AreShards, HoldsServing, IsShardAt, JournalsMerge, NodeKeeps}
 use Rattle.wholenode.specs.Nodes.{NodeState, base_at, bases, journal_at, journals, node, state_at, states, whole, whole_base}

@@ -1,5 +1,6 @@
 -- How handling events changes the shards of a register, and the state that they are together.
 use Rattle.std.specs.Prelude.{◌≡◌, ℕ, List, [], ◌∷◌, ◌++◌, map, length, Some, slice_get, slice_set}
+use Rattle.machine.specs.declared.numbers.TheConstants.{MAX_ENTRIES}
 use Rattle.machine.specs.Events.{Event}
 use Rattle.machine.specs.State.{State}
 use Rattle.machine.specs.Step.{HasNoRoom}
@@ -55,7 +56,7 @@ pub record IsRun (S : State) (raws : List RawEvent) (sent : List (List RawOut)) 
 abbrev pub Refuses : NodeState → RawEvent → Cause → Type 0
 Refuses node raw Memory = Unit {0}
 Refuses node raw ResetRefused = Unit {0}
-Refuses node raw JournalFull = (n : ℕ) × (l : Log) × IsFor node raw n l × (length l.entries ≡ 65536)
+Refuses node raw JournalFull = (n : ℕ) × (l : Log) × IsFor node raw n l × (length l.entries ≡ MAX_ENTRIES)
 Refuses node raw NoRoom = (e : Event) × IsEvent raw e × HasNoRoom (whole node.shards) e
 
 -- The first events are handled; the next one is refused, for this cause, and changes nothing.

@@ -1,8 +1,8 @@
 -- The invariant of a register's shards.
-use Rattle.std.specs.Prelude.{◌≡◌, ◌<◌, ℕ, List, length, Some, slice_get}
+use Rattle.std.specs.Prelude.{◌≡◌, ℕ, List, length, Some, slice_get}
 use Rattle.machine.specs.Holders.{serving}
 use Rattle.machine.specs.Keys.{shard_of}
-use Rattle.machine.specs.Numbers.{shards as shard_count}
+use Rattle.machine.specs.declared.numbers.TheConstants.{SHARDS}
 use Rattle.machine.specs.Parts.{part}
 use Rattle.machine.specs.Sound.{Sound}
 use Rattle.frames.specs.Octets.{RawEntry, RunOctets}
@@ -22,7 +22,7 @@ pub record IsShardAt (n : ℕ) (directory : DirectoryMap) (hlr : List ℕ) (l : 
 -- There are sixteen shards, indexed by their numbers, with one directory and one HLR number.
 pub record AreShards (directory : DirectoryMap) (shards : List Log) : Type 0 where
   pub hlr : List ℕ
-  pub count : length shards ≡ shard_count
+  pub count : length shards ≡ SHARDS
   pub each : (n : ℕ) (l : Log) → slice_get shards n ≡ Some l → IsShardAt n directory hlr l
 
 -- Exactly the serving register, or none, holds the subscriber, by the octets in the journal of the subscriber's shard.

@@ -1,12 +1,12 @@
 -- The shards of a register, and the state that they are together.
-use Rattle.std.specs.Prelude.{◌≡◌, ℕ, List, [], Option, Some, None, slice_get, refl}
+use Rattle.std.specs.Prelude.{ℕ, List, [], Option, Some, None, slice_get, refl}
 use Rattle.std.specs.Coded.{Coded, code_by, coded×, coded_list}
 use Rattle.machine.specs.Opening.{opening}
 use Rattle.machine.specs.Parts.{union}
 use Rattle.machine.specs.State.{State}
 use Rattle.frames.specs.Octets.{RawEntry}
 use Rattle.records.specs.Maps.{DirectoryMap, directory_map_code}
-use Rattle.shard_state.specs.Shards.{ShardState, state_of}
+use Rattle.shard_state.specs.Shards.{state_of}
 use Rattle.shardlog.specs.Log.{Log, log_code}
 
 -- The directory, by which each event finds its shard, and the shards with their journals, indexed by their numbers.

@@ -1,6 +1,6 @@
 -- The shards at the beginning.
 use Rattle.std.specs.Prelude.{◌≡◌, ℕ, List, [], length, Some, slice_get}
-use Rattle.machine.specs.Numbers.{shards as shard_count}
+use Rattle.machine.specs.declared.numbers.TheConstants.{SHARDS}
 use Rattle.machine.specs.Opening.{opening}
 use Rattle.machine.specs.Parts.{part}
 use Rattle.records.specs.Loaded.{Subscribers}
@@ -31,5 +31,5 @@ pub record AreOpening (loaded : Subscribers) (count : ℕ) (shards : List Log) :
 -- Together the shards are the state with which the register begins: the loaded records, no dialogue, and each clock at 0.
 pub record BeginsWith (loaded : Subscribers) (node : NodeState) : Type 0 where
   pub directory_is : node.directory ≡ loaded.directory
-  pub shards_are : AreOpening loaded shard_count node.shards
+  pub shards_are : AreOpening loaded SHARDS node.shards
   pub whole_is : whole node.shards ≡ opening (records_of loaded.records) (directory_of loaded.directory) loaded.hlr

@@ -86,10 +86,14 @@ impl Node {
     ///
     /// Limitation: after a fault the arena's contents are unspecified. Use a new one then.
     pub fn run(&mut self, bump: &mut Bump, events: &[RawEvent]) -> Result<Vec<Handled>, NodeFault>
-        ensures handled { IfOk result (λ done. Runs self.old (map raw_event events.now) done.items self.new) }
+        // Step by step; a step leaves each open dialogue as it is that its event does not name.
+        ensures handled { IfOk result (λ done. Runs self.old
+            (map raw_event events.now) done.items self.new) }
         // For the whole state they are a run of the machine over octets.
-        ensures run { IfOk result (λ done. IsRun (whole self.old.shards) (map raw_event events.now) (map sent_of done.items) (whole self.new.shards)) }
-        ensures stops { IfErr result (λ fault. Stops self.old (map raw_event events.now) fault.done.items fault.cause self.new) }
+        ensures run { IfOk result (λ done. IsRun (whole self.old.shards) (map raw_event events.now)
+            (map sent_of done.items) (whole self.new.shards)) }
+        ensures stops { IfErr result (λ fault. Stops self.old
+            (map raw_event events.now) fault.done.items fault.cause self.new) }
         ensures keeps { NodeKeeps self.new }
     {
         let mut done = Vec::new(self.alloc);
@@ -108,7 +112,8 @@ impl Node {
 
     /// Handles one event. On error nothing changes.
     pub fn handle(&mut self, bump: &mut Bump, raw: &RawEvent) -> Result<Handled, Cause>
-        ensures takes { IfOk result (λ handled. Takes self.old (raw_event raw.now) handled self.new) }
+        ensures takes { IfOk result (λ handled. Takes self.old
+            (raw_event raw.now) handled self.new) }
         ensures refused { IfErr result (λ cause. Refuses self.old (raw_event raw.now) cause) }
         ensures err { OnErr result (self.new ≡ self.old) }
         ensures keeps { NodeKeeps self.new }

@@ -61,7 +61,8 @@ pub sends_lot : (jobs rest first more : List Job) (shares : ℕ) (v w : Hand) �
 sends_lot jobs rest first more shares v w h cut is =
     let lots = h.0 in
     let sent : map Do (lots ++ first ∷ []) ≡ map Do lots ++ Do first ∷ [] = map-append Do lots (first ∷ []) in
-    let joined : jobs_in (lots ++ first ∷ []) ≡ jobs_in lots ++ first = flat_map-append (λ l. l) lots (first ∷ []) ∙ ap (λ l. jobs_in lots ++ l) (append-nil first) in (
+    let joined : jobs_in (lots ++ first ∷ []) ≡ jobs_in lots ++ first = flat_map-append (λ l. l) lots (first ∷ [])
+    ∙ ap (λ l. jobs_in lots ++ l) (append-nil first) in (
       lots ++ first ∷ [],
       is ∙ ap (λ (u : Hand). hand true u.shares (u.sent ++ Do first ∷ []) u.taken) h.1 ∙ ap (λ s. hand true shares s []) (sym sent),
       ap (λ l. l ++ more) joined ∙ append_assoc (jobs_in lots) first more ∙ ap (λ l. jobs_in lots ++ l) (sym cut) ∙ h.2,

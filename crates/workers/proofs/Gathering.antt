@@ -24,10 +24,12 @@ one_more shares joined jobs workers others mine all v u x h served is now =
           ∙ ap₂ (λ (y z : Hand). hand y.sends (y.shares + z.shares) y.sent (v.taken ++ u.taken)) h.sent served.own
           ∙ ap (hand true (shares + 1) (batch_of h.lots workers)) (sym taken);
       stopped = let a = ap stops_in taken in let b = stops_in-append v.taken u.taken in let c = h.stopped in let d = served.stopped in omega arith;
-      answered = ap numbers_of taken ∙ numbers_of-append v.taken u.taken ∙ ap₂ ◌++◌ h.answered (sym (served.answered.1 refl)) ∙ sym (map-append (λ r. r.job) others mine) ∙ ap jobs_of (sym is);
+      answered = ap numbers_of taken ∙ numbers_of-append v.taken u.taken ∙ ap₂ ◌++◌ h.answered (sym (served.answered.1 refl))
+          ∙ sym (map-append (λ r. r.job) others mine) ∙ ap jobs_of (sym is);
     }
 
-pub gathers : {V E : Type 0} (items : V → List Receipt) (mine : List Receipt) (shares joined : ℕ) (jobs : List Job) (workers : ℕ) (refused : Bool) (v u x : Hand) (others all : Result V E)
+pub gathers : {V E : Type 0} (items : V → List Receipt) (mine : List Receipt) (shares joined : ℕ) (jobs : List Job) (workers : ℕ) (refused : Bool)
+    (v u x : Hand) (others all : Result V E)
     → IfOk others (λ o. HasGathered shares joined jobs workers (jobs_of (items o)) v)
     → HasTaken 1 u (jobs_of mine) refused
     → x ≡ hand v.sends (v.shares + u.shares) v.sent (v.taken ++ u.taken)

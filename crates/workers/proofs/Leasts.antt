@@ -14,7 +14,8 @@ all_more P ns n h one = All-append P ns (n ∷ []) h (all_one P n one)
 
 module _ (journals : List (List RawEntry)) (jobs : List Job) (receipts : List Receipt) where
   -- the number is accounted for
-  pub keeps : (least : Option ℕ) (n : ℕ) → Account journals jobs receipts n → (ns : List ℕ) → LeastAmong journals jobs receipts ns least → LeastAmong journals jobs receipts (ns ++ n ∷ []) least
+  pub keeps : (least : Option ℕ) (n : ℕ) → Account journals jobs receipts n → (ns : List ℕ) → LeastAmong journals jobs receipts ns least
+      → LeastAmong journals jobs receipts (ns ++ n ∷ []) least
   keeps None n good ns h = all_more (Account journals jobs receipts) ns n h good
   keeps (Some m) n good ns h = record {
     among = Contains-append_left ns (n ∷ []) m h.among;
@@ -31,7 +32,8 @@ module _ (journals : List (List RawEntry)) (jobs : List Job) (receipts : List Re
   }
 
   -- the number is not accounted for, and below the least
-  pub falls : (least : Option ℕ) (n : ℕ) → (Account journals jobs receipts n → ⊥) → ((m : ℕ) → least ≡ Some m → n < m) → (ns : List ℕ) → LeastAmong journals jobs receipts ns least → IsLeastOf journals jobs receipts (ns ++ n ∷ []) n
+  pub falls : (least : Option ℕ) (n : ℕ) → (Account journals jobs receipts n → ⊥) → ((m : ℕ) → least ≡ Some m → n < m) → (ns : List ℕ)
+      → LeastAmong journals jobs receipts ns least → IsLeastOf journals jobs receipts (ns ++ n ∷ []) n
   falls None n bad below ns h = record {
     among = Contains-append_right ns (n ∷ []) n (0, omega arith, refl);
     fails = bad;
@@ -40,5 +42,6 @@ module _ (journals : List (List RawEntry)) (jobs : List Job) (receipts : List Re
   falls (Some m) n bad below ns h = record {
     among = Contains-append_right ns (n ∷ []) n (0, omega arith, refl);
     fails = bad;
-    least = all_more (λ x. x < n → Account journals jobs receipts x) ns n (λ k d low under. let lt = below m refl in h.least k d low (omega arith)) (λ under. absurd (omega arith));
+    least = all_more (λ x. x < n → Account journals jobs receipts x) ns n (λ k d low under. let lt = below m refl in h.least k d low (omega arith))
+        (λ under. absurd (omega arith));
   }

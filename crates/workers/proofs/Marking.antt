@@ -39,4 +39,5 @@ pub once_all : (logs : List Log) (receipts : List Receipt) (n : ℕ) → length 
     → ((k position : ℕ) (e : RawEntry) → k < n → entry_at (journal_list logs) k position ≡ Some e → count_by (names_place k position) receipts ≡ 1)
     → EachNamedOnce (journal_list logs) receipts
 once_all logs receipts n all once shard position e stands =
-    ⊎_elim (λ here. let low = here.1 in once shard position e (omega arith) stands) (λ over. absurd (past logs shard position e over.0 stands)) (slice_get_cases logs shard).1
+    ⊎_elim (λ here. let low = here.1 in once shard position e (omega arith) stands) (λ over. absurd (past logs shard position e over.0 stands))
+    (slice_get_cases logs shard).1

@@ -24,7 +24,8 @@ at_snoc (x ∷ xs) a b zero e = inl e
 at_snoc (x ∷ xs) a b (suc j) e = at_snoc xs a b j e
 
 -- the total after a change of one pass
-total_set : (f : Hand → ℕ) (views : List Hand) (port : ℕ) (v w : Hand) → get_elem? views port ≡ some v → sum_by f (set views port w) + f v ≡ sum_by f views + f w
+total_set : (f : Hand → ℕ) (views : List Hand) (port : ℕ) (v w : Hand) → get_elem? views port ≡ some v
+    → sum_by f (set views port w) + f v ≡ sum_by f views + f w
 total_set f [] port v w at = absurd (some-ne-none v (sym at))
 total_set f (x ∷ xs) zero v w at = let same = ap f (some-injective x v at) in let a = sum_by-cons f x xs in let b = sum_by-cons f w xs in omega arith
 total_set f (x ∷ xs) (suc i) v w at =
@@ -33,7 +34,8 @@ total_set f (x ∷ xs) (suc i) v w at =
 abbrev Each : (ℕ → Hand → Type 0) → List Hand → Type 0
 Each F views = (port : ℕ) (v : Hand) → get_elem? views port ≡ some v → F port v
 
-each_set : (F : ℕ → Hand → Type 0) (views : List Hand) (port : ℕ) (w : Hand) → F port w → ((j : ℕ) (u : Hand) → j ≢ port → get_elem? views j ≡ some u → F j u) → Each F (set views port w)
+each_set : (F : ℕ → Hand → Type 0) (views : List Hand) (port : ℕ) (w : Hand) → F port w → ((j : ℕ) (u : Hand) → j ≢ port → get_elem? views j ≡ some u → F j u)
+    → Each F (set views port w)
 each_set F views port w mine others j u at =
     ⊎_elim
     (λ (x : (j ≡ port) × (w ≡ u)). subst (λ (y : ℕ × Hand). F y.0 y.1) (λ i. (sym x.0 i, x.1 i)) mine)
@@ -57,7 +59,8 @@ begins = record {
     first zero v at = subst (Fits 0 [] 0) (some-injective _ _ at) ((λ _. (refl, refl)), λ _. refl)
     first (suc port) v at = absurd (some-ne-none v (sym at))
 
-pub sends : (n port : ℕ) (v : Hand) (x : Work) → v.sends ≡ true → IsBatch (v.sent ++ x ∷ []) → Pushes Kept n port v x (λ w. w ≡ hand v.sends v.shares (v.sent ++ x ∷ []) v.taken)
+pub sends : (n port : ℕ) (v : Hand) (x : Work) → v.sends ≡ true → IsBatch (v.sent ++ x ∷ [])
+    → Pushes Kept n port v x (λ w. w ≡ hand v.sends v.shares (v.sent ++ x ∷ []) v.taken)
 sends n port v x may batch items views room h at =
     let w : Hand = hand v.sends v.shares (v.sent ++ x ∷ []) v.taken in
     let mine = h.fits port v at in
@@ -103,12 +106,14 @@ hires port v may some_share items views h at =
     let r : Hand = hand false 1 [] [] in
     let mine = h.fits port v at in
     let vs : List Hand = set views port l in
-    let old : Each (Fits h.sender (h.got ++ items)) vs = each_set (Fits h.sender (h.got ++ items)) views port l ((λ _. mine.0 may), λ none. absurd (omega arith)) (λ j u other e. h.fits j u e) in
+    let old : Each (Fits h.sender (h.got ++ items)) vs = each_set (Fits h.sender (h.got ++ items)) views port l
+    ((λ _. mine.0 may), λ none. absurd (omega arith)) (λ j u other e. h.fits j u e) in
     record {
       sender = h.sender;
       got = h.got;
       batch = h.batch;
-      shares = let total = total_set (λ u. u.shares) views port v l at in let was = h.shares in let more = sum_by_push (λ (u : Hand). u.shares) vs r in omega arith;
+      shares = let total = total_set (λ u. u.shares) views port v l at in let was = h.shares in let more = sum_by_push
+          (λ (u : Hand). u.shares) vs r in omega arith;
       taken = λ weight.
           let total = total_set (λ u. sum_by weight u.taken) views port v l at in let was = h.taken weight in
           let more = sum_by_push (λ (u : Hand). sum_by weight u.taken) vs r in omega arith;
@@ -116,7 +121,8 @@ hires port v may some_share items views h at =
           (λ (is : r ≡ u). subst (Fits h.sender (h.got ++ items) j) is ((λ p. absurd (off p)), λ _. refl)) (at_snoc vs r u j e);
     }
 
-pub joins : (port : ℕ) (v : Hand) (other : ℕ) (u : Hand) → Merges Kept port v other u (hand v.sends (v.shares + u.shares) v.sent (v.taken ++ u.taken)) (hand false 0 [] [])
+pub joins : (port : ℕ) (v : Hand) (other : ℕ) (u : Hand) → Merges Kept port v other u (hand v.sends (v.shares + u.shares) v.sent (v.taken ++ u.taken))
+    (hand false 0 [] [])
 joins port v other u items views h at two at' =
     let both : Hand = hand v.sends (v.shares + u.shares) v.sent (v.taken ++ u.taken) in
     let spent : Hand = hand false 0 [] [] in
@@ -130,7 +136,8 @@ joins port v other u items views h at two at' =
       sender = h.sender;
       got = h.got;
       batch = h.batch;
-      shares = let one = total_set (λ y. y.shares) views port v both at in let next = total_set (λ y. y.shares) vs other u spent at' in let was = h.shares in omega arith;
+      shares = let one = total_set (λ y. y.shares) views port v both at in let next = total_set
+          (λ y. y.shares) vs other u spent at' in let was = h.shares in omega arith;
       taken = λ weight.
           let one = total_set (λ y. sum_by weight y.taken) views port v both at in let next = total_set (λ y. sum_by weight y.taken) vs other u spent at' in
           let was = h.taken weight in let more = sum_by-append weight v.taken u.taken in omega arith;
@@ -152,7 +159,8 @@ nothing f (x ∷ xs) none idle =
     let rest : sum_by f xs ≡ 0 = nothing f xs (omega arith) (λ j u e. idle (suc j) u e) in omega arith
 
 -- if one pass has every share, the total is its own
-alone : (f : Hand → ℕ) (views : List Hand) (port : ℕ) (v : Hand) → get_elem? views port ≡ some v → sum_by (λ u. u.shares) views ≡ v.shares → Each (λ _ u. u.shares ≡ 0 → f u ≡ 0) views → sum_by f views ≡ f v
+alone : (f : Hand → ℕ) (views : List Hand) (port : ℕ) (v : Hand) → get_elem? views port ≡ some v → sum_by (λ u. u.shares) views ≡ v.shares
+    → Each (λ _ u. u.shares ≡ 0 → f u ≡ 0) views → sum_by f views ≡ f v
 alone f [] port v at all idle = absurd (some-ne-none v (sym at))
 alone f (x ∷ xs) zero v at all idle =
     let same = some-injective x v at in

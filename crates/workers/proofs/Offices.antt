@@ -45,14 +45,16 @@ shard_at n directory hlr l keeps is = record {
 }
 
 -- the shards with the bases of one register
-pub shards_of_bases : (directory : DirectoryMap) (shards : List Log) (bases : List ShardState) → bases_of shards ≡ bases → All LogKeeps shards → AreBases directory bases
+pub shards_of_bases : (directory : DirectoryMap) (shards : List Log) (bases : List ShardState) → bases_of shards ≡ bases → All LogKeeps shards
+    → AreBases directory bases
     → AreShards directory shards
 shards_of_bases directory shards bases same keeps are = record {
   hlr = are.hlr;
   count = sym (length-map shards base_of) ∙ ap length same ∙ are.count;
   each = λ n l e.
       let kept : LogKeeps l = subst LogKeeps (get_or_from_slice_get shards n l l e) (keeps n l (slice_get_within shards n l e)) in
-      let at : slice_get bases n ≡ Some l.base = sym (ap (λ (xs : List ShardState). slice_get xs n) same) ∙ slice_get-map base_of shards n ∙ ap (option_map base_of) e in
+      let at : slice_get bases n ≡ Some l.base = sym (ap (λ (xs : List ShardState). slice_get xs n) same) ∙ slice_get-map base_of shards n
+      ∙ ap (option_map base_of) e in
       shard_at n directory are.hlr l kept (are.each n l.base at);
 }
 
@@ -66,5 +68,6 @@ same_more shards bases n l base lengths low at base_is same so_far =
     let same_there : get_or (bases_of shards) n base ≡ get_or bases n base = get_or_from_slice_get (bases_of shards) n l.base base here ∙ same ∙ base_is in
     take_more_same (bases_of shards) bases n base (omega (arith, length-map shards base_of)) (omega arith) so_far same_there
 
-pub keeps_more : (shards : List Log) (n : ℕ) (l : Log) → n < length shards → l ≡ get_or shards n l → LogKeeps l → All LogKeeps (take n shards) → All LogKeeps (take (n + 1) shards)
+pub keeps_more : (shards : List Log) (n : ℕ) (l : Log) → n < length shards → l ≡ get_or shards n l → LogKeeps l → All LogKeeps (take n shards)
+    → All LogKeeps (take (n + 1) shards)
 keeps_more shards n l low at keeps so_far = All-more LogKeeps shards n l low so_far (subst LogKeeps at keeps)

@@ -64,7 +64,8 @@ unfolding put_at
 put_other js k xs n other = ap (λ b. cond b xs (js n)) (ne_eqb k n other)
 
 -- first all of journal k, and then the others
-drain : (k : ℕ) → k < 16 → ((js : ℕ → List RawEntry) → NoneFrom k js → Merged js) → (xs : List RawEntry) (js : ℕ → List RawEntry) → js k ≡ xs → NoneFrom (suc k) js
+drain : (k : ℕ) → k < 16 → ((js : ℕ → List RawEntry) → NoneFrom k js → Merged js) → (xs : List RawEntry) (js : ℕ → List RawEntry) → js k ≡ xs
+    → NoneFrom (suc k) js
     → Merged js
 drain k small go [] js is none = go js (λ n le lt. ⊎_elim (λ (e : k ≡ n). ap js (sym e) ∙ is) (λ (ne : k ≡ n → ⊥). none n (omega arith) lt) (cases_eq k n))
 drain k small go (x ∷ xs) js is none =
@@ -144,7 +145,8 @@ module _ (jobs : List Job) (receipts : List Receipt) where
         (IsPermutation-map pair_at (numbers_of_jobs jobs) are.order are.each_once)
 
 abbrev RunOfJobs : List Log → List Job → List Receipt → Type 0
-RunOfJobs shards jobs receipts = (run : IsRunInSomeOrder (whole_base shards) (events_of_jobs jobs) (sent_for receipts) (whole shards)) × MergesOctets (journals shards) run.entries
+RunOfJobs shards jobs receipts = (run : IsRunInSomeOrder (whole_base shards) (events_of_jobs jobs) (sent_for receipts) (whole shards))
+    × MergesOctets (journals shards) run.entries
 
 -- If jobs and receipts, pairwise by their numbers, account for the journals of sixteen shards, the jobs are such a run from the bases, and its entries merge the journals.
 pub run_of_jobs : (directory : DirectoryMap) (shards : List Log) (jobs : List Job) (receipts : List Receipt) → AreShards directory shards

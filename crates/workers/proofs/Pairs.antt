@@ -22,7 +22,8 @@ abbrev receipts_at : ℕ → List Receipt → List Receipt
 receipts_at n receipts = filter (λ r. eqb r.job n) receipts
 
 -- how many jobs have a number
-length_put : (n : ℕ) (j : Job) (jobs : List Job) (b : Bool) → eqb j.number n ≡ b → length (jobs_at n jobs) ≡ count n (map number_of jobs) → length (jobs_at n (j ∷ jobs)) ≡ count n (map number_of (j ∷ jobs))
+length_put : (n : ℕ) (j : Job) (jobs : List Job) (b : Bool) → eqb j.number n ≡ b → length (jobs_at n jobs) ≡ count n (map number_of jobs)
+    → length (jobs_at n (j ∷ jobs)) ≡ count n (map number_of (j ∷ jobs))
 length_put n j jobs true is rest =
     let a = count-cons n j.number (map number_of jobs) in let one : one_at n j.number ≡ 1 = ap (λ b. cond b 1 0) is in
     let b : length (jobs_at n (j ∷ jobs)) ≡ suc (length (jobs_at n jobs)) = ap (λ c. length (cond c (j ∷ jobs_at n jobs) (jobs_at n jobs))) is in omega arith
@@ -41,21 +42,24 @@ counted_at (n ∷ ns) zero d low = let a = count-cons n n ns in let b = one_at-s
 counted_at (n ∷ ns) (suc k) d low = let a = count-cons (get_or ns k d) n ns in let b = counted_at ns k d (omega arith) in omega arith
 
 module _ (journals : List (List RawEntry)) where
-  pairs_push : (jobs : List Job) (receipts : List Receipt) (j : Job) (r : Receipt) → ArePairs journals jobs receipts → IsPair journals j r → ArePairs journals (jobs ++ j ∷ []) (receipts ++ r ∷ [])
+  pairs_push : (jobs : List Job) (receipts : List Receipt) (j : Job) (r : Receipt) → ArePairs journals jobs receipts → IsPair journals j r
+      → ArePairs journals (jobs ++ j ∷ []) (receipts ++ r ∷ [])
   pairs_push [] [] j r h one = (one, tt)
   pairs_push [] (y ∷ receipts) j r h one = absurd h
   pairs_push (x ∷ jobs) [] j r h one = absurd h
   pairs_push (x ∷ jobs) (y ∷ receipts) j r h one = (h.0, pairs_push jobs receipts j r h.1 one)
 
   -- one more pair
-  pub pairs_more : (jobs : List Job) (receipts : List Receipt) (i : ℕ) (j : Job) (r : Receipt) → i < length jobs → i < length receipts → j ≡ get_or jobs i j → r ≡ get_or receipts i r
+  pub pairs_more : (jobs : List Job) (receipts : List Receipt) (i : ℕ) (j : Job) (r : Receipt) → i < length jobs → i < length receipts → j ≡ get_or jobs i j
+      → r ≡ get_or receipts i r
       → ArePairs journals (take i jobs) (take i receipts) → IsPair journals j r → ArePairs journals (take (i + 1) jobs) (take (i + 1) receipts)
   pairs_more jobs receipts i j r low too job_is receipt_is h one =
       let a : take (i + 1) jobs ≡ take i jobs ++ j ∷ [] = take_more jobs i j low ∙ ap (λ x. take i jobs ++ x ∷ []) (sym job_is) in
       let b : take (i + 1) receipts ≡ take i receipts ++ r ∷ [] = take_more receipts i r too ∙ ap (λ x. take i receipts ++ x ∷ []) (sym receipt_is) in
       subst (λ (p : List Job × List Receipt). ArePairs journals p.0 p.1) (λ i. (sym a i, sym b i)) (pairs_push (take i jobs) (take i receipts) j r h one)
 
-  pairs_put : (a b : Bool) (j : Job) (r : Receipt) (jobs : List Job) (receipts : List Receipt) → b ≡ a → IsPair journals j r → ArePairs journals jobs receipts → ArePairs journals (cond a (j ∷ jobs) jobs) (cond b (r ∷ receipts) receipts)
+  pairs_put : (a b : Bool) (j : Job) (r : Receipt) (jobs : List Job) (receipts : List Receipt) → b ≡ a → IsPair journals j r → ArePairs journals jobs receipts
+      → ArePairs journals (cond a (j ∷ jobs) jobs) (cond b (r ∷ receipts) receipts)
   pairs_put true true j r jobs receipts is one rest = (one, rest)
   pairs_put true false j r jobs receipts is one rest = absurd (true≢false (sym is))
   pairs_put false true j r jobs receipts is one rest = absurd (true≢false is)
@@ -89,7 +93,8 @@ module _ (journals : List (List RawEntry)) where
   same_numbers (j ∷ jobs) [] h = absurd h
   same_numbers (j ∷ jobs) (r ∷ receipts) h = ap₂ ◌∷◌ (sym h.0.number) (same_numbers jobs receipts h.1)
 
-  accounted : (jobs : List Job) (receipts : List Receipt) (n : ℕ) → AreApart (map number_of jobs) → ArePairs journals jobs receipts → EachNamedOnce journals receipts
+  accounted : (jobs : List Job) (receipts : List Receipt) (n : ℕ) → AreApart (map number_of jobs) → ArePairs journals jobs receipts
+      → EachNamedOnce journals receipts
       → 0 < count n (map number_of jobs) → Account journals jobs receipts n
   accounted jobs receipts n apart pairs once some =
       let most = apart n in let len = length_at n jobs in
@@ -105,10 +110,12 @@ module _ (journals : List (List RawEntry)) where
       }
 
   -- numbers that are apart, pairs, and places that are named once account for the journals
-  pub reconciles : (jobs : List Job) (receipts : List Receipt) → AreApart (map number_of jobs) → ArePairs journals jobs receipts → EachNamedOnce journals receipts → Reconciles journals jobs receipts
+  pub reconciles : (jobs : List Job) (receipts : List Receipt) → AreApart (map number_of jobs) → ArePairs journals jobs receipts
+      → EachNamedOnce journals receipts → Reconciles journals jobs receipts
   reconciles jobs receipts apart pairs once =
       let P : ℕ → Type 0 = Account journals jobs receipts in
-      let each : All P (map number_of jobs) = λ k d low. accounted jobs receipts (get_or (map number_of jobs) k d) apart pairs once (counted_at (map number_of jobs) k d low) in
+      let each : All P (map number_of jobs) = λ k d low. accounted jobs receipts (get_or (map number_of jobs) k d) apart pairs once
+      (counted_at (map number_of jobs) k d low) in
       record {
         each = All-append P (map number_of jobs) (map job_of receipts) each (subst (All P) (same_numbers jobs receipts pairs) each);
         none_stray = λ shard position s. let one = once shard position s.entry s.stands in let none = s.unnamed in omega arith;

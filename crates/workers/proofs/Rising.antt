@@ -20,7 +20,8 @@ twice (y ∷ z ∷ ys) (suc k) low same =
 pub rising : (ys : List ℕ) → ((k : ℕ) → k + 1 < length ys → get_or ys k 0 ≤ get_or ys (k + 1) 0) → AreApart ys → IsStrictlyIncreasing ys
 rising ys up apart k low =
     let once = apart (get_or ys k 0) in let le = up k low in
-    let apart_here : get_or ys k 0 ≢ get_or ys (k + 1) 0 = λ same. let two = twice ys k (omega arith) (subst (λ j. get_or ys k 0 ≡ get_or ys j 0) (add-one k) same) in omega arith in
+    let apart_here : get_or ys k 0 ≢ get_or ys (k + 1) 0 = λ same. let two = twice ys k (omega arith)
+    (subst (λ j. get_or ys k 0 ≡ get_or ys j 0) (add-one k) same) in omega arith in
     omega arith
 
 -- a rearranged list keeps its numbers apart
@@ -28,7 +29,8 @@ pub apart_moved : (xs ys : List ℕ) → IsPermutation xs ys → AreApart xs →
 apart_moved xs ys moved apart n = let a = sum_by-IsPermutation (one_at n) xs ys moved in let b = apart n in omega arith
 
 -- the keys of a list that is sorted by them
-pub rising_keys : {X : Type 0} (key : X → ℕ) (xs : List X) → IsNonDecreasingBy key xs → (k : ℕ) → k + 1 < length (map key xs) → get_or (map key xs) k 0 ≤ get_or (map key xs) (k + 1) 0
+pub rising_keys : {X : Type 0} (key : X → ℕ) (xs : List X) → IsNonDecreasingBy key xs → (k : ℕ) → k + 1 < length (map key xs)
+    → get_or (map key xs) k 0 ≤ get_or (map key xs) (k + 1) 0
 rising_keys key [] sorted k low = absurd (omega arith)
 rising_keys key (x ∷ xs) sorted k low =
     let len = length-map (x ∷ xs) key in
@@ -36,7 +38,8 @@ rising_keys key (x ∷ xs) sorted k low =
     let a = get_or-map key (x ∷ xs) k x 0 (omega arith) in let b = get_or-map key (x ∷ xs) (k + 1) x 0 (omega arith) in omega arith
 
 rising_tail : (x : ℕ) (xs : List ℕ) → IsStrictlyIncreasing (x ∷ xs) → IsStrictlyIncreasing xs
-rising_tail x xs h k low = let P : ℕ → ℕ → Type 0 = λ a b. get_or (x ∷ xs) a 0 < get_or (x ∷ xs) b 0 in subst (λ (p : ℕ × ℕ). P p.0 p.1) (λ i. (add-one k i, (add-one (k + 1)) i)) (h (k + 1) (omega arith))
+rising_tail x xs h k low = let P : ℕ → ℕ → Type 0 = λ a b. get_or (x ∷ xs) a 0 < get_or (x ∷ xs) b 0 in subst (λ (p : ℕ × ℕ). P p.0 p.1)
+    (λ i. (add-one k i, (add-one (k + 1)) i)) (h (k + 1) (omega arith))
 
 count_above : (n x : ℕ) (xs : List ℕ) → n ≤ x → IsStrictlyIncreasing (x ∷ xs) → count n xs ≡ 0
 count_above n x [] le h = refl
@@ -52,7 +55,8 @@ apart_rising [] h n = omega arith
 apart_rising (x ∷ xs) h n = apart_at n x xs h (eqb x n) refl (apart_rising xs (rising_tail x xs h) n)
   where
     apart_at : (n x : ℕ) (xs : List ℕ) → IsStrictlyIncreasing (x ∷ xs) → (b : Bool) → eqb x n ≡ b → count n xs ≤ 1 → count n (x ∷ xs) ≤ 1
-    apart_at n x xs h true is rest = let same : x ≡ n = grind (arith, nat_tests) in let a = count-cons n x xs in let b = count_above n x xs (omega arith) h in let c : one_at n x ≤ 1 = subst (λ b. cond b 1 0 ≤ 1) (sym is) (omega arith) in omega arith
+    apart_at n x xs h true is rest = let same : x ≡ n = grind (arith, nat_tests) in let a = count-cons n x xs in let b = count_above n x xs
+        (omega arith) h in let c : one_at n x ≤ 1 = subst (λ b. cond b 1 0 ≤ 1) (sym is) (omega arith) in omega arith
     apart_at n x xs h false is rest = let a = count-cons n x xs in let c : one_at n x ≡ 0 = ap (λ b. cond b 1 0) is in omega arith
 
 -- ---- rising lists of the same numbers are the same

@@ -24,14 +24,17 @@ pub begins : HasTaken 0 (hand false 1 [] []) [] false
 begins = record { own = refl; stopped = refl; answered = (([], refl), λ _. refl) }
 
 -- the view after x was taken
-after : (v w : Hand) (x : Work) → v ≡ hand false 1 [] v.taken → w ≡ hand v.sends v.shares v.sent (v.taken ++ x ∷ []) → (w ≡ hand false 1 [] w.taken) × (w.taken ≡ v.taken ++ x ∷ [])
+after : (v w : Hand) (x : Work) → v ≡ hand false 1 [] v.taken → w ≡ hand v.sends v.shares v.sent (v.taken ++ x ∷ [])
+    → (w ≡ hand false 1 [] w.taken) × (w.taken ≡ v.taken ++ x ∷ [])
 after v w x only is =
     let taken : w.taken ≡ v.taken ++ x ∷ [] = ap (λ (u : Hand). u.taken) is in
-    let same : hand v.sends v.shares v.sent (v.taken ++ x ∷ []) ≡ hand false 1 [] (v.taken ++ x ∷ []) = ap (λ (u : Hand). hand u.sends u.shares u.sent (v.taken ++ x ∷ [])) only in
+    let same : hand v.sends v.shares v.sent (v.taken ++ x ∷ []) ≡ hand false 1 [] (v.taken ++ x ∷ []) = ap
+    (λ (u : Hand). hand u.sends u.shares u.sent (v.taken ++ x ∷ [])) only in
     (is ∙ same ∙ ap (hand false 1 []) (sym taken), taken)
 
 -- a `Stop` was taken
-pub stopped : (stops : ℕ) (v w : Hand) (x : Work) (receipts : List ℕ) (refused : Bool) → HasTaken stops v receipts refused → w ≡ hand v.sends v.shares v.sent (v.taken ++ x ∷ []) → x ≡ Stop → HasTaken (stops + 1) w receipts refused
+pub stopped : (stops : ℕ) (v w : Hand) (x : Work) (receipts : List ℕ) (refused : Bool) → HasTaken stops v receipts refused
+    → w ≡ hand v.sends v.shares v.sent (v.taken ++ x ∷ []) → x ≡ Stop → HasTaken (stops + 1) w receipts refused
 stopped stops v w x receipts refused h is stop =
     let now = after v w Stop h.own (is ∙ ap (λ y. hand v.sends v.shares v.sent (v.taken ++ y ∷ [])) stop) in
     let numbers : numbers_of w.taken ≡ numbers_of v.taken = ap numbers_of now.1 ∙ numbers_of-append v.taken (Stop ∷ []) ∙ append-nil (numbers_of v.taken) in
@@ -47,7 +50,8 @@ with_lot v w lot now =
     ap numbers_of now ∙ numbers_of-append v.taken (Do lot ∷ []) ∙ ap (λ l. numbers_of v.taken ++ l) (append-nil (map (λ j. j.number) lot))
 
 -- a lot was taken, and there is no memory for its receipts
-pub passed : (stops : ℕ) (v w : Hand) (x : Work) (lot : List Job) (receipts : List ℕ) (refused : Bool) → HasTaken stops v receipts refused → w ≡ hand v.sends v.shares v.sent (v.taken ++ x ∷ []) → x ≡ Do lot → HasTaken stops w receipts true
+pub passed : (stops : ℕ) (v w : Hand) (x : Work) (lot : List Job) (receipts : List ℕ) (refused : Bool) → HasTaken stops v receipts refused
+    → w ≡ hand v.sends v.shares v.sent (v.taken ++ x ∷ []) → x ≡ Do lot → HasTaken stops w receipts true
 passed stops v w x lot receipts refused h is does =
     let now = after v w (Do lot) h.own (is ∙ ap (λ y. hand v.sends v.shares v.sent (v.taken ++ y ∷ [])) does) in
     let more : List ℕ = map (λ j. j.number) lot in
@@ -61,7 +65,8 @@ passed stops v w x lot receipts refused h is does =
     }
 
 -- a lot was taken, and its jobs have their receipts
-pub received : (stops : ℕ) (v w : Hand) (x : Work) (lot : List Job) (receipts : List ℕ) → HasTaken stops v receipts false → w ≡ hand v.sends v.shares v.sent (v.taken ++ x ∷ []) → x ≡ Do lot → HasTaken stops w (receipts ++ map (λ j. j.number) lot) false
+pub received : (stops : ℕ) (v w : Hand) (x : Work) (lot : List Job) (receipts : List ℕ) → HasTaken stops v receipts false
+    → w ≡ hand v.sends v.shares v.sent (v.taken ++ x ∷ []) → x ≡ Do lot → HasTaken stops w (receipts ++ map (λ j. j.number) lot) false
 received stops v w x lot receipts h is does =
     let now = after v w (Do lot) h.own (is ∙ ap (λ y. hand v.sends v.shares v.sent (v.taken ++ y ∷ [])) does) in
     let more : List ℕ = map (λ j. j.number) lot in

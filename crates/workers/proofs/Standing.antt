@@ -84,9 +84,11 @@ goes_on_by before jobs receipts after pairs is = (
     are_bases = h.are_bases;
     before_cut = h.before_cut;
     sent_before_cut = h.sent_before_cut;
-    events_are = ap (λ (l : List RawEvent). l ++ events_of_jobs jobs) h.events_are ∙ append_assoc h.before_cut (events_of_jobs before.jobs) (events_of_jobs jobs)
+    events_are = ap (λ (l : List RawEvent). l ++ events_of_jobs jobs) h.events_are
+        ∙ append_assoc h.before_cut (events_of_jobs before.jobs) (events_of_jobs jobs)
         ∙ ap (λ (l : List RawEvent). h.before_cut ++ l) (sym (map-append (λ (j : Job). j.event) before.jobs jobs));
-    sent_are = ap (λ (l : List (List RawOut)). l ++ sent_for receipts) h.sent_are ∙ append_assoc h.sent_before_cut (sent_for before.receipts) (sent_for receipts)
+    sent_are = ap (λ (l : List (List RawOut)). l ++ sent_for receipts) h.sent_are
+        ∙ append_assoc h.sent_before_cut (sent_for before.receipts) (sent_for receipts)
         ∙ ap (λ (l : List (List RawOut)). h.sent_before_cut ++ l) (sym (map-append (λ (r : Receipt). sent_at r.place) before.receipts receipts));
     pairs = map-append (λ (r : Receipt). r.job) before.receipts receipts ∙ ap₂ ◌++◌ h.pairs pairs ∙ sym (map-append (λ (j : Job). j.number) before.jobs jobs);
     to_cut = h.to_cut;
@@ -130,7 +132,8 @@ mapped f xs n y e = from (slice_get xs n) (sym (slice_get-map f xs n) ∙ e) ref
     from None is at = absurd (cc is)
     from (Some x) is at = (x, at, cc)
 
-cut_shards : (directory : DirectoryMap) (shards : List Log) → AreShards directory shards → All LogKeeps (map cut_log shards) → AreShards directory (map cut_log shards)
+cut_shards : (directory : DirectoryMap) (shards : List Log) → AreShards directory shards → All LogKeeps (map cut_log shards)
+    → AreShards directory (map cut_log shards)
 cut_shards directory shards are keeps = record {
   hlr = are.hlr;
   count = length-map shards cut_log ∙ are.count;
@@ -150,7 +153,8 @@ cut_bases : (shards : List Log) → bases_of (map cut_log shards) ≡ map state_
 cut_bases [] = refl
 cut_bases (l ∷ shards) = ap (λ (s : List ShardState). l.state ∷ s) (cut_bases shards)
 
-pub cut_stands : (before after : SharedState) (shards cut : List Log) → AreSettled before.bases before.jobs before.receipts shards → cut ≡ map cut_log shards → All LogKeeps cut
+pub cut_stands : (before after : SharedState) (shards cut : List Log) → AreSettled before.bases before.jobs before.receipts shards → cut ≡ map cut_log shards
+    → All LogKeeps cut
     → after ≡ shared_state (bases_of cut) [] [] → GoesOn before [] [] after
 cut_stands before after shards cut settled is keeps now = (
   refl,
@@ -162,7 +166,8 @@ cut_stands before after shards cut settled is keeps now = (
       (joined begin (whole_base shards) (whole shards) out.before_cut out.kept out.sent_before_cut out.sent_kept out.to_cut out.from_cut) in
       subst (StandsBehind begin (events ++ []) (sent ++ [])) (sym now) (record {
         directory = out.directory;
-        are_bases = bases_of_shards out.directory cut (subst (AreShards out.directory) (sym is) (cut_shards out.directory shards out.are_shards (subst (All LogKeeps) is keeps)));
+        are_bases = bases_of_shards out.directory cut (subst (AreShards out.directory) (sym is)
+            (cut_shards out.directory shards out.are_shards (subst (All LogKeeps) is keeps)));
         before_cut = events;
         sent_before_cut = sent;
         events_are = refl;
@@ -176,16 +181,19 @@ cut_stands before after shards cut settled is keeps now = (
 pub stays : (s after : SharedState) → after ≡ s → GoesOn s [] [] after
 stays s after is = (
   refl,
-  λ begin events sent h. subst (λ (p : List RawEvent × List (List RawOut)). StandsBehind begin p.0 p.1 after) (λ i. ((sym (append-nil events)) i, (sym (append-nil sent)) i))
+  λ begin events sent h. subst (λ (p : List RawEvent × List (List RawOut)). StandsBehind begin p.0 p.1 after)
+      (λ i. ((sym (append-nil events)) i, (sym (append-nil sent)) i))
       (subst (StandsBehind begin events sent) (sym is) h),
 )
 
 -- after nothing, these events
-pub goes_on_after : (a b c : SharedState) (events : List RawEvent) (sent : List (List RawOut)) → GoesOn a [] [] b → GoesOn b events sent c → GoesOn a events sent c
+pub goes_on_after : (a b c : SharedState) (events : List RawEvent) (sent : List (List RawOut)) → GoesOn a [] [] b → GoesOn b events sent c
+    → GoesOn a events sent c
 goes_on_after a b c events sent first next = (
   next.0,
   λ begin earlier sent_earlier h. next.1 begin earlier sent_earlier
-      (subst (λ (p : List RawEvent × List (List RawOut)). StandsBehind begin p.0 p.1 b) (λ i. (append-nil earlier i, append-nil sent_earlier i)) (first.1 begin earlier sent_earlier h)),
+      (subst (λ (p : List RawEvent × List (List RawOut)). StandsBehind begin p.0 p.1 b) (λ i. (append-nil earlier i, append-nil sent_earlier i))
+      (first.1 begin earlier sent_earlier h)),
 )
 
 -- ---- as the code has them
@@ -198,14 +206,18 @@ cut_goes before office now jobs no_jobs receipts no_receipts shards cut was sett
     (subst (λ (s : SharedState). AreSettled s.bases s.jobs s.receipts shards) (sym was) settled) is keeps
     (λ i. shared_state (bases i) (none i) (nothing i))
 
-pub closes : {V F : Type 0} (items : V → List Log) (s : SharedState) (office : List ShardState) (jobs : List Job) (receipts : List Receipt) (answer : Result V F)
+pub closes : {V F : Type 0} (items : V → List Log) (s : SharedState) (office : List ShardState) (jobs : List Job) (receipts : List Receipt)
+    (answer : Result V F)
     → s ≡ shared_state office jobs receipts → IfOk answer (λ v. AreSettled office jobs receipts (items v))
-    → IfOk answer (λ v. (begin : State) (events : List RawEvent) (sent : List (List RawOut)) → StandsBehind begin events sent s → HandsOut begin events sent (items v))
-closes items s office jobs receipts (Ok v) was settled = hands_out s (items v) (subst (λ (t : SharedState). AreSettled t.bases t.jobs t.receipts (items v)) (sym was) settled)
+    → IfOk answer (λ v. (begin : State) (events : List RawEvent) (sent : List (List RawOut)) → StandsBehind begin events sent s
+    → HandsOut begin events sent (items v))
+closes items s office jobs receipts (Ok v) was settled = hands_out s (items v)
+    (subst (λ (t : SharedState). AreSettled t.bases t.jobs t.receipts (items v)) (sym was) settled)
 closes items s office jobs receipts (Err fault) was settled = tt
 
 -- What a part does, once there is room.
-pub part_handled : (a b c after : SharedState) (jobs : List Job) (receipts : List Receipt) (raws : List RawEvent) (before now : List RawOut) → GoesOn a [] [] b → c ≡ b
+pub part_handled : (a b c after : SharedState) (jobs : List Job) (receipts : List Receipt) (raws : List RawEvent) (before now : List RawOut) → GoesOn a [] [] b
+    → c ≡ b
     → events_of_jobs jobs ≡ raws
     → jobs_of_receipts receipts ≡ numbers_of_jobs jobs → now ≡ before ++ flat_map (λ outs. outs) (sent_for receipts)
     → after ≡ shared_state c.bases (c.jobs ++ jobs) (c.receipts ++ receipts)
@@ -219,7 +231,8 @@ part_handled a b c after jobs receipts raws before now room same events pairs se
 )
 
 -- one more shard is cut
-pub cut_more : (done pushed rest left all : List Log) (l m : Log) → done ++ map cut_log left ≡ map cut_log all → left ≡ l ∷ rest → m ≡ cut_log l → pushed ≡ done ++ m ∷ []
+pub cut_more : (done pushed rest left all : List Log) (l m : Log) → done ++ map cut_log left ≡ map cut_log all → left ≡ l ∷ rest → m ≡ cut_log l
+    → pushed ≡ done ++ m ∷ []
     → pushed ++ map cut_log rest ≡ map cut_log all
 cut_more done pushed rest left all l m so_far first cut is =
     ap (λ (p : List Log). p ++ map cut_log rest) is ∙ append_assoc done (m ∷ []) (map cut_log rest) ∙ ap (λ (k : Log). done ++ k ∷ map cut_log rest) cut

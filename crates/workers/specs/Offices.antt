@@ -1,6 +1,6 @@
 -- The states in which the journals of an office's shards begin.
 use Rattle.std.specs.Prelude.{◌≡◌, ◌≢◌, ◌<◌, ℕ, List, length, map, take, Some, slice_get}
-use Rattle.machine.specs.Numbers.{shards as shard_count}
+use Rattle.machine.specs.declared.numbers.TheConstants.{SHARDS}
 use Rattle.records.specs.Loaded.{Subscribers}
 use Rattle.records.specs.Maps.{DirectoryMap}
 use Rattle.shard_state.specs.Shards.{ShardState}
@@ -14,7 +14,7 @@ bases_of shards = map (λ l. l.base) shards
 -- These are the bases of the shards when the records are loaded.
 pub record AreOpeningBases (loaded : Subscribers) (bases : List ShardState) : Type 0 where
   pub shards : List Log
-  pub opening : AreOpening loaded shard_count shards
+  pub opening : AreOpening loaded SHARDS shards
   pub bases_are : bases ≡ bases_of shards
 
 -- A base of the shard with this number, with this directory and this HLR number.
@@ -26,7 +26,7 @@ pub record IsBaseAt (n : ℕ) (directory : DirectoryMap) (hlr : List ℕ) (base 
 -- There are sixteen bases, indexed by their shards' numbers, with one directory and one HLR number.
 pub record AreBases (directory : DirectoryMap) (bases : List ShardState) : Type 0 where
   pub hlr : List ℕ
-  pub count : length bases ≡ shard_count
+  pub count : length bases ≡ SHARDS
   pub each : (n : ℕ) (base : ShardState) → slice_get bases n ≡ Some base → IsBaseAt n directory hlr base
 
 -- The shards before place n have these bases, and the shard at n has another.

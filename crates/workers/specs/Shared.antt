@@ -2,6 +2,7 @@
 use Rattle.std.specs.Prelude.{◌≡◌, ◌<◌, ◌+◌, ℕ, cond, nat_lt, List, [], ◌++◌, map, length, zip, Option, Some, None, slice_get, slice_index, refl}
 use Rattle.std.specs.Coded.{Coded, code_by, coded×, coded_list}
 use Rattle.std.specs.List.Sorted.{IsPermutation}
+use Rattle.machine.specs.declared.numbers.TheConstants.{MAX_ENTRIES}
 use Rattle.machine.specs.Parts.{union}
 use Rattle.machine.specs.State.{State}
 use Rattle.frames.specs.Account.{Job, Place, Receipt, Reconciles}
@@ -134,4 +135,4 @@ CountsFrom first ns = (k : ℕ) → k < length ns → slice_index ns k ≡ first
 -- the position after an entry, if a journal may have one there; else 0
 abbrev pub end_at : Option Place → ℕ
 end_at None = 0
-end_at (Some place) = cond (nat_lt place.position 65536) (place.position + 1) 0
+end_at (Some place) = cond (nat_lt place.position MAX_ENTRIES) (place.position + 1) 0

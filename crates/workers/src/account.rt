@@ -1,9 +1,9 @@
 //! Whether jobs and receipts account for the journals.
 
-ghost use Rattle.std.specs.Prelude.{◌≡◌, ◌==◌, ◌↔◌, ◌<◌, ◌≤◌, ◌++◌, ◌∷◌, [], ℕ, List, IsTrue, IsOk, IfErr, IfSome, MatchBool, filter, count_by, length, map, option_map, slice_get};
+ghost use Rattle.std.specs.Prelude.{◌≡◌, ◌==◌, ◌↔◌, ◌<◌, ◌≤◌, ◌++◌, ◌∷◌, [], ℕ, List, IsTrue, IsOk, IfErr, IfSome, MatchBool, filter, count_by, option_map, slice_get};
 ghost use Rattle.std.specs.Option.{option_copied};
 ghost use Rattle.frames.specs.Account.{Account, Answers, NoStray, Reconciles, Unaccounts, entry_at, names_place, numbers};
-ghost use Rattle.shardlog.specs.Entries.{raw_entry, raw_entries};
+ghost use Rattle.shardlog.specs.Entries.{raw_entry};
 ghost use Rattle.workers.specs.Journals.{journal_list};
 ghost use Rattle.workers.specs.Least.{HasStray, LeastAmong};
 ghost use Rattle.workers.specs.Only.{only};
@@ -66,7 +66,8 @@ fn is_named(receipt: &Receipt, shard: usize, position: usize) -> bool
 
 /// The entry at a position of a shard's journal.
 pub(crate) fn find_entry(shards: &[Shard], shard: usize, position: usize) -> Option<&Entry>
-    ensures { option_map raw_entry (option_copied result) ≡ entry_at (journal_list shards.now) shard position }
+    ensures { option_map raw_entry (option_copied result)
+        ≡ entry_at (journal_list shards.now) shard position }
 {
     match shard_at(shards, shard) {
         Some(found) => entry_in(found.entries(), position),
@@ -98,7 +99,8 @@ fn count_named(receipts: &[Receipt], shard: usize, position: usize) -> usize
 
 /// Whether the entry at the place has the job's event and the frames sent, and no other receipt names the place.
 fn is_answered(shards: &[Shard], receipts: &[Receipt], job: &Job, place: &Placed) -> bool
-    ensures { IsTrue result ↔ Answers (journal_list shards.now) receipts.now job.now (placed place.now) }
+    ensures { IsTrue result ↔ Answers (journal_list shards.now) receipts.now job.now
+        (placed place.now) }
 {
     let shard = usize::from(place.shard.number());
     let Some(entry) = find_entry(shards, shard, place.position) else {
@@ -133,7 +135,8 @@ fn least_with(
     least: Option<u64>,
     number: u64,
 ) -> Option<u64>
-    ensures least { (ns : List ℕ) → LeastAmong (journal_list shards.now) jobs.now receipts.now ns least
+    ensures least { (ns : List ℕ) → LeastAmong
+        (journal_list shards.now) jobs.now receipts.now ns least
         → LeastAmong (journal_list shards.now) jobs.now receipts.now (ns ++ number ∷ []) result }
     ensures from_one { IfSome least (λ n. 1 ≤ n) → 1 ≤ number → IfSome result (λ n. 1 ≤ n) }
 {
@@ -151,7 +154,8 @@ fn least_with(
 
 /// The least number of a job or a receipt that is not accounted for.
 fn least_fault(shards: &[Shard], jobs: &[Job], receipts: &[Receipt]) -> Option<u64>
-    ensures least { LeastAmong (journal_list shards.now) jobs.now receipts.now (numbers jobs.now receipts.now) result }
+    ensures least { LeastAmong (journal_list shards.now) jobs.now receipts.now
+        (numbers jobs.now receipts.now) result }
     ensures from_one { IfSome result (λ n. 1 ≤ n) }
 {
     let mut least = None;
@@ -166,7 +170,8 @@ fn least_fault(shards: &[Shard], jobs: &[Job], receipts: &[Receipt]) -> Option<u
 
 /// Whether some entry of a shard is named by no receipt.
 fn has_stray_in(count: usize, receipts: &[Receipt], shard: usize) -> bool
-    ensures { MatchBool result ((k : ℕ) × (k < count) × (count_by (names_place shard k) receipts.now ≡ 0))
+    ensures { MatchBool result ((k : ℕ) × (k < count)
+        × (count_by (names_place shard k) receipts.now ≡ 0))
         ((k : ℕ) → k < count → 0 < count_by (names_place shard k) receipts.now) }
 {
     for position in 0..count {
@@ -178,7 +183,8 @@ fn has_stray_in(count: usize, receipts: &[Receipt], shard: usize) -> bool
 }
 
 fn has_stray(shards: &[Shard], receipts: &[Receipt]) -> bool
-    ensures { MatchBool result (HasStray (journal_list shards.now) receipts.now) (NoStray (journal_list shards.now) receipts.now) }
+    ensures { MatchBool result (HasStray (journal_list shards.now) receipts.now)
+        (NoStray (journal_list shards.now) receipts.now) }
 {
     for (number, shard) in shards.iter().enumerate() {
         if has_stray_in(shard.entries().len(), receipts, number) {
@@ -196,7 +202,8 @@ fn has_stray(shards: &[Shard], receipts: &[Receipt]) -> bool
 /// the time is linear in them; otherwise, for example if a receipt is a refusal, it is jobs times receipts.
 pub fn reconcile(shards: &[Shard], jobs: &[Job], receipts: &[Receipt]) -> Result<(), Unaccounted>
     ensures ok { IsOk result ↔ Reconciles (journal_list shards.now) jobs.now receipts.now }
-    ensures err { IfErr result (λ fault. Unaccounts (journal_list shards.now) jobs.now receipts.now fault.0) }
+    ensures err { IfErr result (λ fault. Unaccounts
+        (journal_list shards.now) jobs.now receipts.now fault.0) }
 {
     if are_in_order(shards, jobs, receipts) {
         return Ok(());

@@ -32,7 +32,8 @@ pub(crate) fn apply(
     number: ShardNumber,
     event: &Event,
 ) -> Result<Placed, Refusal>
-    ensures ok { IfOk result (λ placed. IsPlaced number shard.old (raw_of event.now) placed shard.new) }
+    ensures ok { IfOk result (λ placed. IsPlaced number shard.old
+        (raw_of event.now) placed shard.new) }
     ensures err { OnErr result (shard.new ≡ shard.old) }
 {
     let handled = shard.handle(event)?;

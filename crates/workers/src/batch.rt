@@ -1,6 +1,6 @@
 //! A batch of jobs that workers share.
 
-ghost use Rattle.std.specs.Prelude.{◌≡◌, ◌+◌, ◌<◌, ◌≤◌, ◌++◌, ◌∷◌, [], List, length, map, replicate, true, false, IfOk, OnOk, IsOkAnd, IsTrue, ◌↔◌};
+ghost use Rattle.std.specs.Prelude.{◌≡◌, ◌+◌, ◌<◌, ◌≤◌, ◌++◌, ◌∷◌, [], List, map, replicate, true, false, IfOk, OnOk, IsOkAnd, IsTrue, ◌↔◌};
 ghost use Rattle.std.specs.List.Sorted.{IsPermutation, IsStrictlyIncreasing};
 ghost use Rattle.crossbeam_channel.specs.Claims.{view, IsSeatAt};
 ghost use Rattle.crossbeam_channel.specs.Ends.{sends_on, receives_on};
@@ -30,7 +30,8 @@ fn put<R: Wait>(rt: &R, channel: &Sender, mut seat: Seat, work: Work) -> Seat
     requires sends { (view seat).sends ≡ true }
     requires batch { IsBatch ((view seat).sent ++ work ∷ []) }
     ensures seat { IsSeatAt (sends_on channel.now) result }
-    ensures sent { view result ≡ hand true (view seat).shares ((view seat).sent ++ work ∷ []) (view seat).taken }
+    ensures sent { view result ≡ hand true (view seat).shares ((view seat).sent ++ work ∷ [])
+        (view seat).taken }
 {
     let mut work = work;
     for _ in rt.forever() {
@@ -55,7 +56,9 @@ fn put_jobs<R: Wait>(
     requires new { (view seat ≡ hand true (view seat).shares [] []) }
     requires most { 1 ≤ most }
     ensures seat { IsSeatAt (sends_on channel.now) result.0 }
-    ensures sent { (lots : List (List Job)) × (view result.0 ≡ hand true (view seat).shares (map Do lots) []) × OnOk result.1 (jobs_in lots ≡ jobs.now) }
+    ensures sent { (lots : List (List Job))
+        × (view result.0 ≡ hand true (view seat).shares (map Do lots) [])
+        × OnOk result.1 (jobs_in lots ≡ jobs.now) }
 {
     let mut rest = jobs;
     while !rest.is_empty() {
@@ -75,7 +78,8 @@ fn put_stops<R: Wait>(rt: &R, channel: &Sender, mut seat: Seat, count: usize) ->
     requires sends { (view seat).sends ≡ true }
     requires batch { IsBatch (view seat).sent }
     ensures seat { IsSeatAt (sends_on channel.now) result }
-    ensures sent { view result ≡ hand true (view seat).shares ((view seat).sent ++ replicate count Stop) (view seat).taken }
+    ensures sent { view result ≡ hand true (view seat).shares
+        ((view seat).sent ++ replicate count Stop) (view seat).taken }
 {
     for _ in 0..count {
         seat = put(rt, channel, seat, Work::Stop);
@@ -88,7 +92,8 @@ fn put_stops<R: Wait>(rt: &R, channel: &Sender, mut seat: Seat, count: usize) ->
 struct Serving<'a>(&'a Receiver);
 
 impl<'a> Promise<Served> for Serving<'a> {
-    ghost kept_by = { λ p r. IsSeatAt (receives_on p.0.now) r.seat × HasTaken 1 (view r.seat) (map (λ x. x.job) r.receipts.items) r.refused };
+    ghost kept_by = { λ p r. IsSeatAt (receives_on p.0.now) r.seat
+        × HasTaken 1 (view r.seat) (map (λ x. x.job) r.receipts.items) r.refused };
 }
 
 /// Starts `left` more workers, sends the jobs and one `Stop` for each of all `workers`, and joins those `left`.
@@ -112,7 +117,8 @@ fn team<'s, E, R: Threads + Wait + Sync, G: Gate + Sync>(
     requires left { left ≤ workers }
     requires workers { 1 ≤ workers }
     ensures seat { IsSeatAt (sends_on to.now) result.0 }
-    ensures ok { IfOk result.1 (λ r. HasGathered (view seat).shares left jobs.now workers (map (λ x. x.job) r.items) (view result.0)) }
+    ensures ok { IfOk result.1 (λ r. HasGathered (view seat).shares left jobs.now workers
+        (map (λ x. x.job) r.items) (view result.0)) }
 {
     if left == 0 {
         let most = lot_size(jobs.len(), workers);
@@ -152,8 +158,11 @@ fn gather(
 ) -> (Seat, Result<Vec<Receipt>, AllocError>)
     requires seat { IsSeatAt (sends_on to.now) seat × IsSeatAt (sends_on to.now) served.seat }
     ensures seat { IsSeatAt (sends_on to.now) result.0 }
-    ensures view { view result.0 ≡ hand (view seat).sends ((view seat).shares + (view served.seat).shares) (view seat).sent ((view seat).taken ++ (view served.seat).taken) }
-    ensures all { IfOk result.1 (λ all. IsOkAnd others (λ o. (all.items ≡ o.items ++ served.receipts.items) × (served.refused ≡ false))) }
+    ensures view { view result.0 ≡ hand (view seat).sends
+        ((view seat).shares + (view served.seat).shares) (view seat).sent
+        ((view seat).taken ++ (view served.seat).taken) }
+    ensures all { IfOk result.1 (λ all. IsOkAnd others
+        (λ o. (all.items ≡ o.items ++ served.receipts.items) × (served.refused ≡ false))) }
 {
     let Served {
         seat: theirs,
@@ -204,7 +213,8 @@ pub fn run_batch<R: Threads + Wait + Sync, G: Gate + Sync>(
 ) -> Result<Vec<Receipt>, AllocError>
     requires workers { (1 ≤ workers) × (workers ≤ 16) }
     requires distinct { AreApart (map (λ j. j.number) jobs.now) }
-    ensures one_each { IfOk result (λ rs. IsPermutation (map (λ j. j.number) jobs.now) (map (λ r. r.job) rs.items)) }
+    ensures one_each { IfOk result (λ rs. IsPermutation (map (λ j. j.number) jobs.now)
+        (map (λ r. r.job) rs.items)) }
     ensures rising { IfOk result (λ rs. IsStrictlyIncreasing (map (λ r. r.job) rs.items)) }
 {
     let (to, from, seat) = bounded_with(alloc, CAPACITY)?;
@@ -218,7 +228,8 @@ pub fn run_batch<R: Threads + Wait + Sync, G: Gate + Sync>(
             requires view { view seat ≡ hand true 17 [] [] }
             requires workers { (1 ≤ workers) × (workers ≤ 16) }
             ensures seat { IsSeatAt (sends_on sender.entry.now) result.0 }
-            ensures ok { IfOk result.1 (λ r. HasGathered 17 workers jobs.entry.now workers (map (λ x. x.job) r.items) (view result.0)) }
+            ensures ok { IfOk result.1 (λ r. HasGathered 17 workers jobs.entry.now workers
+                (map (λ x. x.job) r.items) (view result.0)) }
         {
             team(
                 scope, rt, alloc, sender, receiver, office, gate, jobs, workers, workers, seat,

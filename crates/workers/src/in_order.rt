@@ -1,6 +1,6 @@
 //! The usual batch: jobs and receipts are pairwise in ascending order. Two passes check it, and one for each shard.
 
-ghost use Rattle.std.specs.Prelude.{◌≡◌, ◌==◌, ◌<◌, ℕ, false, IsTrue, MatchOption, count_by, length};
+ghost use Rattle.std.specs.Prelude.{◌≡◌, ◌==◌, ◌<◌, ℕ, false, IsTrue, MatchOption, count_by};
 ghost use Rattle.frames.specs.Account.{Reconciles, names_place};
 ghost use Rattle.workers.specs.Journals.{journal_list};
 ghost use Rattle.workers.specs.Pairs.{ArePairs, EachNamedOnce, IsPair};
@@ -11,7 +11,8 @@ use crate::job::Job;
 use crate::marks::{WORDS, is_marked, mark};
 use crate::receipt::Receipt;
 use crate::same::{same_event, same_outs};
-use shardlog::{MAX_ENTRIES, Shard};
+use machine::numbers::MAX_ENTRIES;
+use shardlog::Shard;
 
 /// Whether the receipt is for the job, and its entry has the job's event and the receipt's frames.
 fn is_pair(shards: &[Shard], job: &Job, receipt: &Receipt) -> bool
@@ -60,7 +61,8 @@ fn position_in(receipt: &Receipt, shard: usize) -> Option<usize>
 
 /// Whether each of the `count` entries of one shard is named by exactly one receipt.
 fn names_once(count: usize, receipts: &[Receipt], shard: usize) -> bool
-    ensures { IsTrue result → (k : ℕ) → k < count → count_by (names_place shard k) receipts.now ≡ 1 }
+    ensures { IsTrue result → (k : ℕ) → k < count
+        → count_by (names_place shard k) receipts.now ≡ 1 }
 {
     if count > MAX_ENTRIES {
         return false;

@@ -95,7 +95,9 @@ impl Office {
     pub fn from_shards(alloc: Global, shards: Vec<Shard>) -> Result<Office, AllocError>
         requires { vec_len shards ≡ 16 }
         ensures bases { IfOk result (λ office. office ≡ bases_of shards.items) }
-        ensures one_register { IfOk result (λ office. (directory : DirectoryMap) → AreShards directory shards.items → AreBases directory office) }
+        ensures one_register { IfOk result
+            (λ office. (directory : DirectoryMap) → AreShards directory shards.items
+            → AreBases directory office) }
     {
         let mut locks = Vec::with_capacity(alloc, 16)?;
         let mut bases = Vec::with_capacity(alloc, 16)?;
@@ -120,7 +122,9 @@ impl Office {
         ensures sixteen { IfOk result (λ shards. vec_len shards ≡ 16) }
         ensures keeps { IfOk result (λ shards. All LogKeeps shards.items) }
         // If the bases are those of one register, the shards are its sixteen shards, and the laws of their merged journals apply.
-        ensures one_register { IfOk result (λ shards. (directory : DirectoryMap) → AreBases directory self → AreShards directory shards.items) }
+        ensures one_register { IfOk result
+            (λ shards. (directory : DirectoryMap) → AreBases directory self
+            → AreShards directory shards.items) }
         ensures place { (n : _) → result ≡ Err (PlaceFault.Swapped n) → n < 16 }
     {
         let Office {

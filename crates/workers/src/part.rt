@@ -13,10 +13,8 @@ use crate::receipt::Receipt;
 use crate::refusal::Refusal;
 use crate::shared_fault::SharedFault;
 use hlrcore::{Out, RawEvent};
+use machine::numbers::MAX_ENTRIES;
 use std::alloc::{AllocError, Global};
-
-/// How many entries a journal may have (profile).
-pub(crate) const MAX_ENTRIES: usize = 65_536;
 
 /// The events as jobs, numbered from `first` on.
 pub(crate) fn number_jobs(
@@ -66,7 +64,8 @@ pub(crate) fn first_fault(receipts: &[Receipt]) -> Option<SharedFault>
 
 /// Appends copies of the frames to those to be sent.
 fn copy_outs(alloc: Global, outs: &[Out], sent: &mut Vec<Out>) -> Result<(), AllocError>
-    ensures { OnOk result (map raw_out sent.new.items ≡ map raw_out sent.old.items ++ map raw_out outs.now) }
+    ensures { OnOk result (map raw_out sent.new.items
+        ≡ map raw_out sent.old.items ++ map raw_out outs.now) }
 {
     for out in outs {
         sent.push(out.try_copy(alloc)?)?;
@@ -76,7 +75,8 @@ fn copy_outs(alloc: Global, outs: &[Out], sent: &mut Vec<Out>) -> Result<(), All
 
 /// Appends copies of the frames sent for a job.
 fn copy_answer(alloc: Global, receipt: &Receipt, sent: &mut Vec<Out>) -> Result<(), AllocError>
-    ensures { OnOk result (map raw_out sent.new.items ≡ map raw_out sent.old.items ++ sent_at receipt.now.place) }
+    ensures { OnOk result (map raw_out sent.new.items
+        ≡ map raw_out sent.old.items ++ sent_at receipt.now.place) }
 {
     match &receipt.answer {
         Ok(placed) => copy_outs(alloc, &placed.outs, sent),
@@ -90,7 +90,8 @@ pub(crate) fn copy_sent(
     receipts: &[Receipt],
     sent: &mut Vec<Out>,
 ) -> Result<(), AllocError>
-    ensures { OnOk result (map raw_out sent.new.items ≡ map raw_out sent.old.items ++ flat_map (λ outs. outs) (sent_for receipts.now)) }
+    ensures { OnOk result (map raw_out sent.new.items
+        ≡ map raw_out sent.old.items ++ flat_map (λ outs. outs) (sent_for receipts.now)) }
 {
     for receipt in receipts {
         copy_answer(alloc, receipt, sent)?;

@@ -4,11 +4,12 @@ use crate::batch::run_batch;
 use crate::gate::OpenGate;
 use crate::job::Job;
 use crate::office::Office;
-use crate::part::{MAX_ENTRIES, copy_sent, first_fault, longest_with, number_jobs};
+use crate::part::{copy_sent, first_fault, longest_with, number_jobs};
 use crate::receipt::Receipt;
 use crate::settle::{cut_all, settle};
 use crate::shared_fault::SharedFault;
 use hlrcore::{Out, RawEvent};
+use machine::numbers::MAX_ENTRIES;
 use records::Loaded;
 use shardlog::Shard;
 use std::alloc::{AllocError, Global};
@@ -42,10 +43,11 @@ impl Model for SharedRegister {
 }
 
 impl SharedRegister {
-    ghost use Rattle.std.specs.Prelude.{◌≡◌, ◌≤◌, ◌++◌, [], List, length, map, flat_map, vec_len, IfOk, OnOk};
+    ghost use Rattle.std.specs.Prelude.{◌≡◌, ◌≤◌, ◌++◌, [], List, length, map, flat_map, IfOk, OnOk};
     ghost use Rattle.std.specs.List.Sorted.{IsStrictlyIncreasing};
     ghost use Rattle.frames.specs.Octets as octets;
     ghost use Rattle.hlrcore.specs.Events.{raw_event};
+    ghost use Rattle.machine.specs.declared.numbers.TheConstants.{MAX_ENTRIES};
     ghost use Rattle.machine.specs.Opening.{opening};
     ghost use Rattle.machine.specs.State.{State};
     ghost use Rattle.shard_state.specs.Frames.{raw_out};
@@ -54,7 +56,9 @@ impl SharedRegister {
 
     /// The register of a records file: its records, no open dialogue, and no job. On error the loaded value is dropped.
     pub fn new(alloc: Global, loaded: Loaded) -> Result<SharedRegister, AllocError>
-        ensures begins { IfOk result (StandsBehind (opening (records_of loaded.records) (directory_of loaded.directory) loaded.hlr) [] []) }
+        ensures begins { IfOk result (StandsBehind
+            (opening (records_of loaded.records)
+            (directory_of loaded.directory) loaded.hlr) [] []) }
     {
         let office = Office::new(alloc, loaded)?;
         Ok(SharedRegister {
@@ -82,8 +86,10 @@ impl SharedRegister {
         sent: &mut Vec<Out>,
     ) -> Result<(), SharedFault>
         requires workers { (1 ≤ workers) × (workers ≤ 16) }
-        requires few { length part.items ≤ 65536 }
-        ensures handles { OnOk result ((outs : List (List octets.RawOut)) × GoesOn self.old (map raw_event part.items) outs self.new × (map raw_out sent.new.items ≡ map raw_out sent.old.items ++ flat_map (λ o. o) outs)) }
+        requires few { length part.items ≤ MAX_ENTRIES }
+        ensures handles { OnOk result ((outs : List (List octets.RawOut))
+            × GoesOn self.old (map raw_event part.items) outs self.new
+            × (map raw_out sent.new.items ≡ map raw_out sent.old.items ++ flat_map (λ o. o) outs)) }
     {
         self.make_room(part.len())?;
         let jobs = self.number(part)?;
@@ -96,7 +102,9 @@ impl SharedRegister {
     /// Takes the shards out of their locks, if jobs and receipts since the last cut account for their journals. On error the shards
     /// are dropped.
     pub fn close(self) -> Result<Vec<Shard>, SharedFault>
-        ensures hands_out { IfOk result (λ shards. (begin : State) (events : List octets.RawEvent) (sent : List (List octets.RawOut)) → StandsBehind begin events sent self → HandsOut begin events sent shards.items) }
+        ensures hands_out { IfOk result (λ shards. (begin : State) (events : List octets.RawEvent)
+            (sent : List (List octets.RawOut)) → StandsBehind begin events sent self
+            → HandsOut begin events sent shards.items) }
     {
         let SharedRegister {
             alloc: _,
@@ -114,7 +122,7 @@ impl SharedRegister {
 
     /// Cuts all journals, if one of them has no room for `count` more entries.
     fn make_room(&mut self, count: usize) -> Result<(), SharedFault>
-        requires { count ≤ 65536 }
+        requires { count ≤ MAX_ENTRIES }
         ensures { OnOk result (GoesOn self.old [] [] self.new) }
     {
         if self.longest > MAX_ENTRIES - count {
@@ -143,7 +151,8 @@ impl SharedRegister {
     fn number(&mut self, part: Vec<RawEvent>) -> Result<Vec<Job>, SharedFault>
         ensures same { self.new ≡ self.old }
         ensures rising { IfOk result (λ jobs. IsStrictlyIncreasing (numbers_of_jobs jobs.items)) }
-        ensures events { IfOk result (λ jobs. events_of_jobs jobs.items ≡ map raw_event part.items) }
+        ensures events { IfOk result (λ jobs. events_of_jobs jobs.items
+            ≡ map raw_event part.items) }
     {
         let first = self.next;
         let Some(next) = first.checked_add(part.len() as u64) else {
@@ -162,7 +171,8 @@ impl SharedRegister {
     ) -> Result<Vec<Receipt>, SharedFault>
         requires workers { (1 ≤ workers) × (workers ≤ 16) }
         requires rising { IsStrictlyIncreasing (numbers_of_jobs jobs.now) }
-        ensures pairs { IfOk result (λ receipts. jobs_of_receipts receipts.items ≡ numbers_of_jobs jobs.now) }
+        ensures pairs { IfOk result (λ receipts. jobs_of_receipts receipts.items
+            ≡ numbers_of_jobs jobs.now) }
     {
         let Some(office) = &self.office else {
             return Err(SharedFault::Unaccounted(0));
@@ -176,7 +186,8 @@ impl SharedRegister {
 
     /// Appends the jobs and their receipts to those since the last cut.
     fn keep(&mut self, jobs: Vec<Job>, receipts: Vec<Receipt>) -> Result<(), AllocError>
-        ensures { OnOk result (self.new ≡ shared_state self.old.bases (self.old.jobs ++ jobs.items) (self.old.receipts ++ receipts.items)) }
+        ensures { OnOk result (self.new ≡ shared_state self.old.bases (self.old.jobs ++ jobs.items)
+            (self.old.receipts ++ receipts.items)) }
     {
         let mut jobs = jobs;
         let mut receipts = receipts;

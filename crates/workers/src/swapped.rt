@@ -11,7 +11,8 @@ use std::alloc::AllocError;
 /// The least place whose shard has another base than the one kept for that place.
 pub(crate) fn first_swapped(shards: &[Shard], bases: &[State]) -> Result<Option<usize>, AllocError>
     requires { length shards.now ≡ length bases.now }
-    ensures place { IfOk result (λ place. MatchOption place (bases_of shards.now ≡ bases.now) (IsFirstSwapped shards.now bases.now)) }
+    ensures place { IfOk result (λ place. MatchOption place (bases_of shards.now ≡ bases.now)
+        (IsFirstSwapped shards.now bases.now)) }
     ensures keeps { IfOk result (λ place. IfNone place (All LogKeeps shards.now)) }
 {
     for place in 0..shards.len() {

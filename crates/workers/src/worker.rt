@@ -41,7 +41,8 @@ pub fn serve<R: Wait, G: Gate>(
     requires seat { IsSeatAt (receives_on channel.now) seat }
     requires new { view seat ≡ hand false 1 [] [] }
     ensures seat { IsSeatAt (receives_on channel.now) result.seat }
-    ensures taken { HasTaken 1 (view result.seat) (map (λ r. r.job) result.receipts.items) result.refused }
+    ensures taken { HasTaken 1 (view result.seat)
+        (map (λ r. r.job) result.receipts.items) result.refused }
 {
     let mut bump = Bump::new(alloc);
     let mut receipts = Vec::new(alloc);
@@ -77,7 +78,8 @@ fn answer_lot<R: Wait, G: Gate>(
     gate: &G,
     receipts: &mut Vec<Receipt>,
 ) -> Result<(), AllocError>
-    ensures ok { OnOk result (map (λ r. r.job) receipts.new.items ≡ map (λ r. r.job) receipts.old.items ++ map (λ j. j.number) lot) }
+    ensures ok { OnOk result (map (λ r. r.job) receipts.new.items
+        ≡ map (λ r. r.job) receipts.old.items ++ map (λ j. j.number) lot) }
     ensures err { OnErr result (receipts.new.items ≡ receipts.old.items) }
 {
     receipts.reserve(lot.jobs.len())?;

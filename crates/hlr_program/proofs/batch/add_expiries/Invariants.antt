@@ -1,8 +1,10 @@
 use Rattle.std.proofs.Common.{◌≤◌, map, length}
 use Rattle.std.specs.List.{range_with_len}
+use Rattle.machine.specs.declared.numbers.TheConstants.{MAX_ENTRIES}
 use Rattle.frames.specs.Octets.{RawExpire}
 use Rattle.hlr_program.specs.Gathering.{Adds, progress}
 use Rattle.hlr_program.proofs.batch.add_expiries.Given as goal
 
 abbrev pub invariant-loop-number : goal.invariant-loop-number
-invariant-loop-number g l = Adds (progress l.fn.register l.fn.batch) (map (λ n. RawExpire n) (range_with_len 0 l.number)) (progress l.register l.batch) × (length l.batch.part.items ≤ 65536)
+invariant-loop-number g l = Adds (progress l.fn.register l.fn.batch) (map (λ n. RawExpire n) (range_with_len 0 l.number)) (progress l.register l.batch)
+    × (length l.batch.part.items ≤ MAX_ENTRIES)

@@ -15,5 +15,6 @@ pub returns-in_ok-event-in-Frame-clause-stops : goal.returns-in_ok-event-in-Fram
 returns-in_ok-event-in-Frame-clause-stops g c =
     let here = progress c.args.register.now c.args.batch.now in
     else_on _ _ c.add.result c.add.ensures.stops
-    (λ fault stops. frame_stops c.args.ids.now (line_of c.args.item) c.in-Frame.from c.in-Frame.octets.now (raw_event c.in_ok-event-in-Frame.event) here fault (ap line_of c.in-Frame.is)
+    (λ fault stops. frame_stops c.args.ids.now (line_of c.args.item) c.in-Frame.from c.in-Frame.octets.now (raw_event c.in_ok-event-in-Frame.event) here fault
+    (ap line_of c.in-Frame.is)
     c.in_ok-event-in-Frame.ensures stops)

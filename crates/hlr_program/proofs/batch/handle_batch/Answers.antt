@@ -14,12 +14,16 @@ returns-in_err-run-clause-stops g c =
     let start = progress c.args.register.now c.new-batch.result in
     let here = progress c.handle_lines.new.register c.handle_lines.new.batch in
     let ls = batch_of (lines c.args.from.rest.now) in
-    passed_on c.from_residual-in_err-run.result c.in_err-run.field-0.0 (BatchStops c.args.ids.now c.args.from.before (state_known c.args.register.now) ls) c.from_residual-in_err-run.ensures.1
-    (batch_stops c.args.ids.now c.args.from.before start ls c.in_err-run.field-0.0 (ap (map raw_event) c.new-batch.ensures.part) c.in_ok-check_letters.ensures.known
+    passed_on c.from_residual-in_err-run.result c.in_err-run.field-0.0
+    (BatchStops c.args.ids.now c.args.from.before (state_known c.args.register.now) ls) c.from_residual-in_err-run.ensures.1
+    (batch_stops c.args.ids.now c.args.from.before start ls c.in_err-run.field-0.0
+    (ap (map raw_event) c.new-batch.ensures.part) c.in_ok-check_letters.ensures.known
     (last_stops c.args.ids.now start here ls c.in_err-run.field-0.0 c.in_ok-behind.ensures.adds c.in_err-run.ensures.stops))
 
 pub returns-clause-handles : goal.returns-clause-handles
 returns-clause-handles g c =
-    handles c.args.ids.now (progress c.args.register.now c.new-batch.result) (progress c.handle_lines.new.register c.handle_lines.new.batch) (progress c.run.new.register c.run.new.self)
-    (batch_of (lines c.args.from.rest.now)) (ap (map raw_event) c.new-batch.ensures.part) (ap (map raw_out) c.new-batch.ensures.sent) c.in_ok-behind.ensures.adds c.in_ok-run.ensures.adds
+    handles c.args.ids.now (progress c.args.register.now c.new-batch.result) (progress c.handle_lines.new.register c.handle_lines.new.batch)
+    (progress c.run.new.register c.run.new.self)
+    (batch_of (lines c.args.from.rest.now)) (ap (map raw_event) c.new-batch.ensures.part)
+    (ap (map raw_out) c.new-batch.ensures.sent) c.in_ok-behind.ensures.adds c.in_ok-run.ensures.adds
     (ap (map raw_event) c.in_ok-run.ensures.none)

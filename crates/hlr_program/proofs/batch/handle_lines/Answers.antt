@@ -9,16 +9,20 @@ use Rattle.hlr_program.proofs.batch.handle_lines.Goals as goal
 
 pub returns-then-is_end-clause-adds : goal.returns-then-is_end-clause-adds
 returns-then-is_end-clause-adds g c =
-    adding_ends c.args.ids.now (progress c.args.register.now c.args.batch.now) (batch_of (lines c.args.from.rest.now)) (progress c.lines.register c.lines.batch) (batch_of (lines c.lines.place.rest.now))
+    adding_ends c.args.ids.now (progress c.args.register.now c.args.batch.now) (batch_of (lines c.args.from.rest.now)) (progress c.lines.register c.lines.batch)
+    (batch_of (lines c.lines.place.rest.now))
     c.lines.invariant.goes_on (batch_ends _ _ _ c.in-Some.ensures.line (sym c.is_end.ensures ∙ c.if-is_end.true))
 
 pub returns-in_err-add_line-clause-stops : goal.returns-in_err-add_line-clause-stops
 returns-in_err-add_line-clause-stops g c =
     let next = batch_goes_on _ _ _ c.in-Some.ensures.line (sym c.is_end.ensures ∙ c.if-is_end.false) in
-    passed_on c.from_residual.result c.in_err-add_line.field-0.0 (LinesStop c.args.ids.now (progress c.args.register.now c.args.batch.now) (batch_of (lines c.args.from.rest.now)))
+    passed_on c.from_residual.result c.in_err-add_line.field-0.0
+    (LinesStop c.args.ids.now (progress c.args.register.now c.args.batch.now) (batch_of (lines c.args.from.rest.now)))
     c.from_residual.ensures.1
-    (adding_stops c.args.ids.now (progress c.args.register.now c.args.batch.now) (batch_of (lines c.args.from.rest.now)) (progress c.lines.register c.lines.batch)
-    (batch_of (lines c.lines.place.rest.now)) c.in-Some.line.text.now (batch_of (lines c.in-Some.behind.rest.now)) c.in_err-add_line.field-0.0 c.lines.invariant.goes_on next c.in_err-add_line.ensures.stops)
+    (adding_stops c.args.ids.now (progress c.args.register.now c.args.batch.now) (batch_of (lines c.args.from.rest.now))
+    (progress c.lines.register c.lines.batch)
+    (batch_of (lines c.lines.place.rest.now)) c.in-Some.line.text.now
+    (batch_of (lines c.in-Some.behind.rest.now)) c.in_err-add_line.field-0.0 c.lines.invariant.goes_on next c.in_err-add_line.ensures.stops)
 
 pub lines-preserved : goal.lines-preserved
 lines-preserved g c =
@@ -27,15 +31,18 @@ lines-preserved g c =
       few = c.in_ok-add_line.ensures.few;
       behind = sym (behind_goes_on _ _ _ c.in-Some.ensures.line (sym c.is_end.ensures ∙ c.if-is_end.false)) ∙ c.lines.invariant.behind;
       number = omega (arith, c.in-Some.ensures.before, ap length next, c.lines.invariant.number);
-      goes_on = adding_goes_on c.args.ids.now (progress c.args.register.now c.args.batch.now) (batch_of (lines c.args.from.rest.now)) (progress c.lines.register c.lines.batch)
-          (progress c.add_line.new.register c.add_line.new.batch) (batch_of (lines c.lines.place.rest.now)) c.in-Some.line.text.now (batch_of (lines c.in-Some.behind.rest.now)) c.lines.invariant.goes_on
+      goes_on = adding_goes_on c.args.ids.now (progress c.args.register.now c.args.batch.now) (batch_of (lines c.args.from.rest.now))
+          (progress c.lines.register c.lines.batch)
+          (progress c.add_line.new.register c.add_line.new.batch) (batch_of (lines c.lines.place.rest.now)) c.in-Some.line.text.now
+          (batch_of (lines c.in-Some.behind.rest.now)) c.lines.invariant.goes_on
           next c.in_ok-add_line.ensures.adds;
     }
 
 pub returns-clause-adds : goal.returns-clause-adds
 returns-clause-adds g c =
     let none : c.lines.place.rest.now ≡ [] = search rules in
-    adding_ends c.args.ids.now (progress c.args.register.now c.args.batch.now) (batch_of (lines c.args.from.rest.now)) (progress c.lines.register c.lines.batch) (batch_of (lines c.lines.place.rest.now))
+    adding_ends c.args.ids.now (progress c.args.register.now c.args.batch.now) (batch_of (lines c.args.from.rest.now)) (progress c.lines.register c.lines.batch)
+    (batch_of (lines c.lines.place.rest.now))
     c.lines.invariant.goes_on (ap batch_of (ap lines none ∙ lines_nil))
 
 pub returns-clause-behind : goal.returns-clause-behind

@@ -14,7 +14,8 @@ use Rattle.hlr_program.proofs.serve.run.Goals as goal
 
 pub batches-init : goal.batches-init
 batches-init g c =
-    script_begins c.args.register.now c.args.script.now c.new-place.result.rest.now (g.W.Write.contents c.args.out.now) c.new-letters.result c.new-place.result.before c.new-letters.ensures
+    script_begins c.args.register.now c.args.script.now c.new-place.result.rest.now
+    (g.W.Write.contents c.args.out.now) c.new-letters.result c.new-place.result.before c.new-letters.ensures
     c.new-place.ensures.whole c.new-place.ensures.first c.requires
 
 pub handle_batch-requires : goal.handle_batch-requires
@@ -24,18 +25,23 @@ pub returns-in_err-place-clause-stops : goal.returns-in_err-place-clause-stops
 returns-in_err-place-clause-stops g c =
     let some : 0 < length c.batches.place.rest.now = search rules in
     let ids : c.ids.result.now ≡ c.batches.letters = cc in
-    passed_on c.from_residual.result c.in_err-place.field-0.0 (λ fault. Stopped c.args.script.now c.args.register.now fault (g.W.Write.contents c.args.out.now) (g.W.Write.contents c.batches.out))
+    passed_on c.from_residual.result c.in_err-place.field-0.0 (λ fault. Stopped c.args.script.now c.args.register.now fault (g.W.Write.contents c.args.out.now)
+    (g.W.Write.contents c.batches.out))
     c.from_residual.ensures.1
-    (batch_stopped c.args.register.now c.args.script.now (g.W.Write.contents c.args.out.now) (g.W.Write.contents c.batches.out) c.batches.letters c.batches.register c.batches.place.rest.now
+    (batch_stopped c.args.register.now c.args.script.now (g.W.Write.contents c.args.out.now)
+    (g.W.Write.contents c.batches.out) c.batches.letters c.batches.register c.batches.place.rest.now
     c.batches.place.before c.in_err-place.field-0.0 some c.batches.invariant
-    (subst (λ (i : List (List ℕ)). BatchStops i c.batches.place.before (state_known c.batches.register) (batch_of (lines c.batches.place.rest.now)) c.in_err-place.field-0.0) ids c.in_err-place.ensures.stops))
+    (subst (λ (i : List (List ℕ)). BatchStops i c.batches.place.before (state_known c.batches.register)
+    (batch_of (lines c.batches.place.rest.now)) c.in_err-place.field-0.0) ids c.in_err-place.ensures.stops))
 
 pub returns-in_err-text-clause-stops : goal.returns-in_err-text-clause-stops
 returns-in_err-text-clause-stops g c =
     let some : 0 < length c.batches.place.rest.now = search rules in
-    passed_on c.from_residual-in_err-text.result Memory (λ fault. Stopped c.args.script.now c.args.register.now fault (g.W.Write.contents c.args.out.now) (g.W.Write.contents c.batches.out))
+    passed_on c.from_residual-in_err-text.result Memory (λ fault. Stopped c.args.script.now c.args.register.now fault (g.W.Write.contents c.args.out.now)
+    (g.W.Write.contents c.batches.out))
     c.from_residual-in_err-text.ensures.1
-    (batch_unwritten c.args.register.now c.args.script.now (g.W.Write.contents c.args.out.now) (g.W.Write.contents c.batches.out) c.batches.letters c.batches.register c.batches.place.rest.now
+    (batch_unwritten c.args.register.now c.args.script.now (g.W.Write.contents c.args.out.now)
+    (g.W.Write.contents c.batches.out) c.batches.letters c.batches.register c.batches.place.rest.now
     c.batches.place.before Memory some c.batches.invariant refl)
 
 pub returns-in_err-print-clause-stops : goal.returns-in_err-print-clause-stops
@@ -46,12 +52,15 @@ returns-in_err-print-clause-stops g c =
     c.in_ok-text.ensures.noted ∙ ap (λ (frames : List Out). noted_in c.batches.letters (map raw_out frames)) c.deref.ensures.value in
     let written : c.deref-in-batches.result.now ≡ sent_lines (map raw_out c.handle_batch.new.sent.items) =
     c.deref-in-batches.ensures.value ∙ c.in_ok-text.ensures.lines ∙ ap (λ (frames : List Out). sent_lines (map raw_out frames)) c.deref.ensures.value in
-    passed_on c.from_residual-in_err-print.result c.in_err-print.field-0.0 (λ fault. Stopped c.args.script.now c.args.register.now fault (g.W.Write.contents c.args.out.now) (g.W.Write.contents c.print.new.out))
+    passed_on c.from_residual-in_err-print.result c.in_err-print.field-0.0
+    (λ fault. Stopped c.args.script.now c.args.register.now fault (g.W.Write.contents c.args.out.now) (g.W.Write.contents c.print.new.out))
     c.from_residual-in_err-print.ensures.1
-    (batch_broken c.args.register.now c.args.script.now (g.W.Write.contents c.args.out.now) (g.W.Write.contents c.batches.out) (g.W.Write.contents c.print.new.out) c.batches.letters
+    (batch_broken c.args.register.now c.args.script.now (g.W.Write.contents c.args.out.now) (g.W.Write.contents c.batches.out)
+    (g.W.Write.contents c.print.new.out) c.batches.letters
     c.lines_of.new.letters c.batches.register c.handle_batch.new.register c.batches.place.rest.now c.in_ok-place.place.rest.now c.batches.place.before c.in_ok-place.place.before
     (map raw_out c.handle_batch.new.sent.items) c.deref-in-batches.result.now c.in_err-print.field-0.0 some c.batches.invariant
-    (subst (λ (i : List (List ℕ)). Handles i c.batches.register (batch_of (lines c.batches.place.rest.now)) (map raw_out c.handle_batch.new.sent.items) c.handle_batch.new.register) ids c.in_ok-place.ensures.handles)
+    (subst (λ (i : List (List ℕ)). Handles i c.batches.register (batch_of (lines c.batches.place.rest.now))
+    (map raw_out c.handle_batch.new.sent.items) c.handle_batch.new.register) ids c.in_ok-place.ensures.handles)
     c.in_ok-place.ensures.behind c.in_ok-place.ensures.number noted written c.in_err-print.ensures.failed c.in_err-print.ensures.front)
 
 pub batches-preserved : goal.batches-preserved
@@ -62,14 +71,17 @@ batches-preserved g c =
     c.in_ok-text.ensures.noted ∙ ap (λ (frames : List Out). noted_in c.batches.letters (map raw_out frames)) c.deref.ensures.value in
     let written : c.deref-in-batches.result.now ≡ sent_lines (map raw_out c.handle_batch.new.sent.items) =
     c.deref-in-batches.ensures.value ∙ c.in_ok-text.ensures.lines ∙ ap (λ (frames : List Out). sent_lines (map raw_out frames)) c.deref.ensures.value in
-    batch_printed c.args.register.now (lines c.args.script.now) (g.W.Write.contents c.args.out.now) (g.W.Write.contents c.batches.out) (g.W.Write.contents c.print.new.out) c.batches.letters
+    batch_printed c.args.register.now (lines c.args.script.now) (g.W.Write.contents c.args.out.now) (g.W.Write.contents c.batches.out)
+    (g.W.Write.contents c.print.new.out) c.batches.letters
     c.lines_of.new.letters c.batches.register c.handle_batch.new.register c.batches.place.rest.now c.in_ok-place.place.rest.now c.batches.place.before c.in_ok-place.place.before
     (map raw_out c.handle_batch.new.sent.items) c.deref-in-batches.result.now some c.batches.invariant
-    (subst (λ (i : List (List ℕ)). Handles i c.batches.register (batch_of (lines c.batches.place.rest.now)) (map raw_out c.handle_batch.new.sent.items) c.handle_batch.new.register) ids c.in_ok-place.ensures.handles)
+    (subst (λ (i : List (List ℕ)). Handles i c.batches.register (batch_of (lines c.batches.place.rest.now))
+    (map raw_out c.handle_batch.new.sent.items) c.handle_batch.new.register) ids c.in_ok-place.ensures.handles)
     c.in_ok-place.ensures.behind c.in_ok-place.ensures.number noted written c.in_ok-print.ensures.printed
 
 pub returns-clause-ran : goal.returns-clause-ran
 returns-clause-ran g c =
     let none : length c.batches.place.rest.now ≡ 0 = search rules in
-    script_ends c.args.register.now c.args.script.now (g.W.Write.contents c.args.out.now) (g.W.Write.contents c.batches.out) c.batches.letters c.batches.register c.batches.place.rest.now
+    script_ends c.args.register.now c.args.script.now (g.W.Write.contents c.args.out.now)
+    (g.W.Write.contents c.batches.out) c.batches.letters c.batches.register c.batches.place.rest.now
     c.batches.place.before c.batches.invariant (nothing_left c.batches.place.rest.now none)

@@ -34,7 +34,8 @@ returns-clause-ran g c =
     subst (λ (ls : List Log). Closes c.args.options.now.list c.args.options.now.save ls c.in_ok-text.text.items) c.deref.ensures.value c.in_ok-text.ensures in
     then_on c.print.result c.print.ensures.printed
     (listing_printed c.args.options.now c.args.loaded c.in_ok-register.register c.in_ok-register.ensures.is_of c.in_ok-register.ensures.opens c.requires.sound c.args.script.now (g.W.Write.contents c.args.out.now)
-    (g.W.Write.contents c.run.new.out) (g.W.Write.contents c.print.new.out) ran.0 c.run.new.register c.in_ok-shards.shards.items c.in_ok-text.text.items c.deref-2.result.now ran.1 ran.2
+    (g.W.Write.contents c.run.new.out)
+    (g.W.Write.contents c.print.new.out) ran.0 c.run.new.register c.in_ok-shards.shards.items c.in_ok-text.text.items c.deref-2.result.now ran.1 ran.2
     c.in_ok-shards.ensures.hands_over closes c.deref-2.ensures.value)
 
 pub returns-clause-stops : goal.returns-clause-stops
@@ -44,5 +45,6 @@ returns-clause-stops g c =
     subst (λ (ls : List Log). Closes c.args.options.now.list c.args.options.now.save ls c.in_ok-text.text.items) c.deref.ensures.value c.in_ok-text.ensures in
     else_on _ _ c.print.result c.print.ensures.failed
     (λ fault output. listing_broken c.args.options.now c.args.loaded c.in_ok-register.register c.in_ok-register.ensures.is_of c.in_ok-register.ensures.opens c.requires.sound c.args.script.now fault (g.W.Write.contents c.args.out.now)
-    (g.W.Write.contents c.run.new.out) (g.W.Write.contents c.print.new.out) ran.0 c.run.new.register c.in_ok-shards.shards.items c.in_ok-text.text.items c.deref-2.result.now ran.1 ran.2
+    (g.W.Write.contents c.run.new.out)
+    (g.W.Write.contents c.print.new.out) ran.0 c.run.new.register c.in_ok-shards.shards.items c.in_ok-text.text.items c.deref-2.result.now ran.1 ran.2
     c.in_ok-shards.ensures.hands_over closes c.deref-2.ensures.value output c.print.ensures.front)

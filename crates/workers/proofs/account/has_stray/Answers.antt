@@ -12,7 +12,8 @@ returns-then-has_stray_in c =
 
 pub loop-number-preserved : goal.loop-number-preserved
 loop-number-preserved c = λ k position low.
-    below_more (λ n. IsStray (journal_list c.args.shards.now) c.args.receipts.now n position → ⊥) c.loop-number.number (λ n under. c.loop-number.invariant n position under)
+    below_more (λ n. IsStray (journal_list c.args.shards.now) c.args.receipts.now n position → ⊥) c.loop-number.number
+    (λ n under. c.loop-number.invariant n position under)
     (named c.args.shards.now c.args.receipts.now c.loop-number.number c.index-shards-number.result c.loop-number-test.true c.index-shards-number.is
     (rw (← count_of _ c.index-shards-number.result c.entries.ensures.entries) c.if-has_stray_in.ensures) position)
     k low

@@ -20,4 +20,5 @@ returns-else-is_accounted-clause-least c = λ ns h.
       | in_default-via-in-Some+else-n-number w ↦ (let e : w.in-Some.n ≡ m = cc in omega arith)
       | in_default-via-in_default w ↦ absurd (w.in_default.not-Some m is)
     ] in
-    falls (journal_list c.args.shards.now) c.args.jobs.now c.args.receipts.now c.args.least c.args.number (λ a. true≢false (sym (c.if-is_accounted.ensures.1 a))) below ns h
+    falls (journal_list c.args.shards.now) c.args.jobs.now c.args.receipts.now c.args.least c.args.number
+    (λ a. true≢false (sym (c.if-is_accounted.ensures.1 a))) below ns h

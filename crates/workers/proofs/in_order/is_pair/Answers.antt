@@ -9,7 +9,8 @@ use Rattle.workers.proofs.in_order.is_pair.Goals as goal
 pub returns-then-same_event : goal.returns-then-same_event
 returns-then-same_event c = λ same.
     let number : c.args.receipt.now.job ≡ c.args.job.now.number = search rules in
-    let stands : entry_at (journal_list c.args.shards.now) (placed c.in-Ok.place).shard (placed c.in-Ok.place).position ≡ Some (raw_entry c.in-Some.entry.now) = search rules in
+    let stands : entry_at (journal_list c.args.shards.now) (placed c.in-Ok.place).shard (placed c.in-Ok.place).position
+    ≡ Some (raw_entry c.in-Some.entry.now) = search rules in
     record {
       number = number;
       place = placed c.in-Ok.place;

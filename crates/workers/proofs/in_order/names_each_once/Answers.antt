@@ -7,7 +7,8 @@ use Rattle.workers.proofs.in_order.names_each_once.Goals as goal
 
 pub loop-number-preserved : goal.loop-number-preserved
 loop-number-preserved c = λ k position e low.
-    below_more (λ n. entry_at (journal_list c.args.shards.now) n position ≡ Some e → count_by (names_place n position) c.args.receipts.now ≡ 1) c.loop-number.number
+    below_more (λ n. entry_at (journal_list c.args.shards.now) n position ≡ Some e
+    → count_by (names_place n position) c.args.receipts.now ≡ 1) c.loop-number.number
     (λ n under. c.loop-number.invariant n position e under)
     (once_in c.args.shards.now c.args.receipts.now c.loop-number.number c.index-shards-number.result c.loop-number-test.true c.index-shards-number.is
     (rw (← count_of _ c.index-shards-number.result c.entries.ensures.entries) (c.if-not-names_once.ensures refl)) position e)

@@ -12,7 +12,8 @@ loop-shard-preserved c =
     let pushed : c.push.new.self.items ≡ c.loop-shard.cut.items ++ c.cut_off.new.shard ∷ [] = search rules in
     record {
       count = search rules;
-      cut = cut_more c.loop-shard.cut.items c.push.new.self.items (into_iter_items c.next.new.self) (into_iter_items c.loop-shard.shard-iterator) c.args.shards.items c.in-Some.shard
+      cut = cut_more c.loop-shard.cut.items c.push.new.self.items (into_iter_items c.next.new.self)
+          (into_iter_items c.loop-shard.shard-iterator) c.args.shards.items c.in-Some.shard
           c.cut_off.new.shard at.cut left cut pushed;
       keeps = keeps_more c.loop-shard.cut.items c.push.new.self.items c.cut_off.new.shard at.keeps c.cut_off.ensures.keeps pushed;
     }

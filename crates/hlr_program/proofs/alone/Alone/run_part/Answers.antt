@@ -5,22 +5,27 @@ use Rattle.hlr_program.proofs.alone.Alone.run_part.Goals as goal
 
 pub stopped-requires : goal.stopped-requires
 stopped-requires c =
-    part_not_full _ c.make_room.new.self c.self.inside.node _ c.in_ok-make_room.ensures.makes c.self.view_is _ (length-map c.args.part.now raw_event) _ _ _ c.in_ok-make_room.ensures.room
+    part_not_full _ c.make_room.new.self c.self.inside.node _ c.in_ok-make_room.ensures.makes c.self.view_is _
+    (length-map c.args.part.now raw_event) _ _ _ c.in_ok-make_room.ensures.room
     c.in-Err.ensures.stops
 
 pub returns-in-Ok-clause-runs : goal.returns-in-Ok-clause-runs
 returns-in-Ok-clause-runs c =
-    part_runs _ c.make_room.new.self c.self.inside.node _ c.in_ok-make_room.ensures.makes c.self.view_is _ (length-map c.args.part.now raw_event) _ _ c.in-Ok.ensures.handled
+    part_runs _ c.make_room.new.self c.self.inside.node _ c.in_ok-make_room.ensures.makes c.self.view_is _
+    (length-map c.args.part.now raw_event) _ _ c.in-Ok.ensures.handled
 
 pub returns-in-Ok-clause-run : goal.returns-in-Ok-clause-run
 returns-in-Ok-clause-run c =
-    part_run _ c.make_room.new.self c.self.inside.node _ c.in_ok-make_room.ensures.makes c.self.view_is _ (length-map c.args.part.now raw_event) c.in-Ok.done.items c.run.new.self c.in-Ok.ensures.run
+    part_run _ c.make_room.new.self c.self.inside.node _ c.in_ok-make_room.ensures.makes c.self.view_is _
+    (length-map c.args.part.now raw_event) c.in-Ok.done.items c.run.new.self c.in-Ok.ensures.run
 
 pub returns-in-Ok-clause-continues : goal.returns-in-Ok-clause-continues
 returns-in-Ok-clause-continues c =
-    part_goes_on _ c.make_room.new.self c.self.inside.node _ c.in_ok-make_room.ensures.makes c.self.view_is _ (length-map c.args.part.now raw_event) _ _ c.in_ok-make_room.ensures.keeps
+    part_goes_on _ c.make_room.new.self c.self.inside.node _ c.in_ok-make_room.ensures.makes c.self.view_is _
+    (length-map c.args.part.now raw_event) _ _ c.in_ok-make_room.ensures.keeps
     c.in-Ok.ensures.handled
 
 pub returns-clause-stops : goal.returns-clause-stops
 returns-clause-stops c =
-    part_stopped _ c.make_room.new.self c.self.inside.node _ c.in_ok-make_room.ensures.makes c.self.view_is _ (length-map c.args.part.now raw_event) _ _ _ _ c.stopped.ensures c.in-Err.ensures.stops
+    part_stopped _ c.make_room.new.self c.self.inside.node _ c.in_ok-make_room.ensures.makes c.self.view_is _
+    (length-map c.args.part.now raw_event) _ _ _ _ c.stopped.ensures c.in-Err.ensures.stops

@@ -10,7 +10,10 @@ use Rattle.hlr_program.proofs.alone.Alone.send_part.Goals as goal
 
 pub returns-clause-sends : goal.returns-clause-sends
 returns-clause-sends c =
-    part_sends c.args.self.now c.run_part.new.self (map raw_event c.args.part.items) c.in_ok-done.done.items (map raw_out c.args.sent.now.items) (map raw_out c.push_outs.new.sent.items)
-    (subst (λ (events : List code.RawEvent). IsRun (whole c.args.self.now.shards) (map raw_event events) (map sent_of c.in_ok-done.done.items) (whole c.run_part.new.self.shards)) c.deref.ensures.value c.in_ok-done.ensures.run)
-    (subst (λ (events : List code.RawEvent). Continues c.args.self.now (map raw_event events) (map sent_of c.in_ok-done.done.items) c.run_part.new.self) c.deref.ensures.value c.in_ok-done.ensures.continues)
+    part_sends c.args.self.now c.run_part.new.self (map raw_event c.args.part.items) c.in_ok-done.done.items (map raw_out c.args.sent.now.items)
+    (map raw_out c.push_outs.new.sent.items)
+    (subst (λ (events : List code.RawEvent). IsRun (whole c.args.self.now.shards) (map raw_event events) (map sent_of c.in_ok-done.done.items)
+    (whole c.run_part.new.self.shards)) c.deref.ensures.value c.in_ok-done.ensures.run)
+    (subst (λ (events : List code.RawEvent). Continues c.args.self.now (map raw_event events)
+    (map sent_of c.in_ok-done.done.items) c.run_part.new.self) c.deref.ensures.value c.in_ok-done.ensures.continues)
     c.in_ok-push_outs.ensures

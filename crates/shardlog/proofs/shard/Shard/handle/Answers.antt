@@ -1,12 +1,11 @@
-use Rattle.std.proofs.Common.{◌≡◌, List, [], ◌∷◌, ◌++◌, rules, sym, ap, ◌∙◌, subst}
+use Rattle.std.proofs.Common.{◌≡◌, List, [], ◌∷◌, ◌++◌, rules, sym, ap, subst}
 use Rattle.machine.specs.Step.{HasNoRoom}
-use Rattle.frames.specs.Octets.{RawEntry}
 use Rattle.shard_state.specs.Answers.{entry_of}
 use Rattle.shard_state.specs.Shards.{ShardState, state_of}
 use Rattle.hlrcore.specs.Events.{event_of, raw_of}
 use Rattle.shardlog.specs.declared.entry.Entry.{Entry}
 use Rattle.shardlog.specs.Entries.{raw_entries}
-use Rattle.shardlog.specs.Log.{IsLog, LogKeeps, log}
+use Rattle.shardlog.specs.Log.{LogKeeps, log}
 use Rattle.shardlog.proofs.LogLemmas.{entries_after, entry_is, handled_log, handles, keeps_seen, log_keeps}
 use Rattle.shardlog.proofs.shard.Shard.handle.Goals as goal
 
@@ -18,12 +17,14 @@ returns-in_err-raw-clause-keeps c = keeps_seen _ _ c.self.view_is c.self.invaria
 
 pub returns-in_err-reserve-clause-keeps : goal.returns-in_err-reserve-clause-keeps
 returns-in_err-reserve-clause-keeps c =
-    subst (λ (es : List Entry). LogKeeps (log c.self.inside.base (raw_entries es) c.self.inside.state)) (sym c.in_err-reserve.ensures.items) (log_keeps _ c.self.invariant)
+    subst (λ (es : List Entry). LogKeeps (log c.self.inside.base (raw_entries es) c.self.inside.state)) (sym c.in_err-reserve.ensures.items)
+    (log_keeps _ c.self.invariant)
 
 pub returns-in_err-answer-clause-keeps : goal.returns-in_err-answer-clause-keeps
 returns-in_err-answer-clause-keeps c =
     subst (λ (s : ShardState). LogKeeps (log c.self.inside.base (raw_entries c.reserve.new.self.items) s)) (sym c.in_err-answer.ensures.err)
-    (subst (λ (es : List Entry). LogKeeps (log c.self.inside.base (raw_entries es) c.self.inside.state)) (sym c.in_ok-reserve.ensures.items) (log_keeps _ c.self.invariant))
+    (subst (λ (es : List Entry). LogKeeps (log c.self.inside.base (raw_entries es) c.self.inside.state)) (sym c.in_ok-reserve.ensures.items)
+    (log_keeps _ c.self.invariant))
 
 put : (c : goal.After-push_reserved)
     → raw_entries c.push_reserved.new.self.items ≡ raw_entries c.self.inside.entries.items ++ entry_of (raw_of c.args.event.now) c.in_ok-answer.answer ∷ []
@@ -35,12 +36,14 @@ put c =
 
 pub invariant_of-self-2 : goal.invariant_of-self-2
 invariant_of-self-2 c =
-    handled_log c.self.inside.base c.self.inside.state c.step.new.self c.self.inside.entries.items c.push_reserved.new.self.items (raw_of c.args.event.now) c.in_ok-answer.answer
+    handled_log c.self.inside.base c.self.inside.state c.step.new.self c.self.inside.entries.items c.push_reserved.new.self.items
+    (raw_of c.args.event.now) c.in_ok-answer.answer
     c.self.invariant (put c) c.in_ok-answer.ensures.routed c.in_ok-answer.ensures.stepped c.in_ok-answer.ensures.same_shard (search rules)
 
 pub returns-clause-handles : goal.returns-clause-handles
 returns-clause-handles c =
-    handles c.args.self.now c.self.inside.base c.self.inside.state c.step.new.self c.self.inside.entries.items c.push_reserved.new.self.items (raw_of c.args.event.now)
+    handles c.args.self.now c.self.inside.base c.self.inside.state c.step.new.self c.self.inside.entries.items c.push_reserved.new.self.items
+    (raw_of c.args.event.now)
     c.in_ok-answer.answer _ c.self.view_is (put c) c.in_ok-answer.ensures.stepped c.into_both-outs.ensures.sent (search rules)
 
 pub returns-clause-keeps : goal.returns-clause-keeps

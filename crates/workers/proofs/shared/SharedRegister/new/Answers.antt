@@ -11,6 +11,9 @@ returns c =
     let no_jobs : c.new-2.result.items ≡ [] = search rules in
     let no_receipts : c.new-3.result.items ≡ [] = search rules in
     record {
-      begins = subst (λ (p : List Job × List Receipt). StandsBehind (opening (records_of c.args.loaded.records) (directory_of c.args.loaded.directory) c.args.loaded.hlr) [] [] (shared_state c.in_ok-office.office p.0 p.1))
-          (λ i. ((sym no_jobs) i, (sym no_receipts) i)) (stands_at_first c.args.loaded c.in_ok-office.office c.in_ok-office.ensures.begins c.in_ok-office.ensures.one_register);
+      begins = subst (λ (p : List Job × List Receipt). StandsBehind
+          (opening (records_of c.args.loaded.records) (directory_of c.args.loaded.directory) c.args.loaded.hlr) [] []
+          (shared_state c.in_ok-office.office p.0 p.1))
+          (λ i. ((sym no_jobs) i, (sym no_receipts) i))
+          (stands_at_first c.args.loaded c.in_ok-office.office c.in_ok-office.ensures.begins c.in_ok-office.ensures.one_register);
     }

@@ -13,8 +13,10 @@ returns g c =
     let room : GoesOn c.args.self.now [] [] c.make_room.new.self = c.in_ok-make_room.ensures in
     let pairs : jobs_of_receipts receipts ≡ numbers_of_jobs jobs = search rules in
     let sent : map raw_out c.copy_sent.new.sent.items ≡ map raw_out c.args.sent.now.items ++ flat_map (λ outs. outs) (sent_for receipts) = search rules in
-    let kept : c.keep.new.self ≡ shared_state c.number.new.self.bases (c.number.new.self.jobs ++ jobs) (c.number.new.self.receipts ++ receipts) = c.in_ok-keep.ensures in
+    let kept : c.keep.new.self ≡ shared_state c.number.new.self.bases (c.number.new.self.jobs ++ jobs)
+    (c.number.new.self.receipts ++ receipts) = c.in_ok-keep.ensures in
     record {
-      handles = part_handled c.args.self.now c.make_room.new.self c.number.new.self c.keep.new.self jobs receipts (map raw_event c.args.part.items) (map raw_out c.args.sent.now.items)
+      handles = part_handled c.args.self.now c.make_room.new.self c.number.new.self c.keep.new.self jobs receipts (map raw_event c.args.part.items)
+          (map raw_out c.args.sent.now.items)
           (map raw_out c.copy_sent.new.sent.items) room same c.in_ok-jobs.ensures.events pairs sent kept;
     }
