@@ -3,7 +3,7 @@
 use anyhow::{Result, bail};
 use bumpalo::Bump;
 use hlr_types::{Digits, Peer};
-use msgarena::{Message, Round, Verdict};
+use msgarena::{ReadMessage, Round, Verdict};
 use std::alloc::Global;
 
 /// Reads the octets in each round, all in one arena; counts the components.
@@ -25,10 +25,10 @@ pub fn run(alloc: Global, octets: &[u8], rounds: u64) -> Result<u64> {
 fn count(verdict: &Verdict) -> u64 {
     match verdict {
         Verdict::Read(
-            Message::Begin { components, .. }
-            | Message::Continue { components, .. }
-            | Message::End { components, .. },
+            ReadMessage::Begin { components, .. }
+            | ReadMessage::Continue { components, .. }
+            | ReadMessage::End { components, .. },
         ) => components.len() as u64,
-        Verdict::Read(Message::Abort { .. }) | Verdict::Discard | Verdict::Refuse(..) => 0,
+        Verdict::Read(ReadMessage::Abort { .. }) | Verdict::Discard | Verdict::Refuse(..) => 0,
     }
 }

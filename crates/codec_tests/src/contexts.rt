@@ -6,7 +6,7 @@ use berwrite::{Memory, write_tree};
 use hlr_types::RemoteId;
 use mapctx::Context;
 use mapdlg::{Accepted, Why, accept, first_answer, refuse};
-use msgarena::{ContextName, Message, Verdict};
+use msgarena::{ContextName, ReadMessage, Verdict};
 use q773_msg::write_message;
 use std::alloc::{AllocError, Global};
 use std::test::Fail;
@@ -62,7 +62,7 @@ fn contexts(rt: HostRuntime) -> Result<(), Fail> {
     check(&rt, BEGINS, |alloc, text| {
         let begin = taken(alloc, &octets(alloc, text)?)?;
         match begin.verdict() {
-            Verdict::Read(Message::Begin { .. }) => Ok(told(alloc, &accept(&begin))?),
+            Verdict::Read(ReadMessage::Begin { .. }) => Ok(told(alloc, &accept(&begin))?),
             _ => Err("no Begin")?,
         }
     })

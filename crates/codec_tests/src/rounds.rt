@@ -4,7 +4,7 @@
 use crate::tables::{check, fields, octets};
 use crate::told::{peer, taken, verdict_on};
 use bumpalo::Bump;
-use msgarena::{Indication, Message, Round, RoundFault, Verdict};
+use msgarena::{Indication, ReadMessage, Round, RoundFault, Verdict};
 use std::alloc::{AllocError, Global};
 use std::mem;
 use std::process::Abort;
@@ -147,7 +147,7 @@ fn taken_or_again(alloc: Global) -> Result<Indication, Fail> {
 /// How many components a Begin has.
 fn count(verdict: &Verdict) -> Option<usize> {
     match verdict {
-        Verdict::Read(Message::Begin { components, .. }) => Some(components.len()),
+        Verdict::Read(ReadMessage::Begin { components, .. }) => Some(components.len()),
         _ => None,
     }
 }

@@ -4,7 +4,7 @@ use crate::tables::octets;
 use bumpalo::Bump;
 use hlr_types::{Digits, Lmsi, Peer};
 use mapargs_loc::{PurgeArg, UpdateArg};
-use msgarena::{Argument, Indication, Message, Parameter, Response, Round, Verdict};
+use msgarena::{Argument, Indication, Parameter, ReadMessage, Response, Round, Verdict};
 use q773_comp::{Code, Component, Side};
 use q773_dlg::Diagnostic;
 use std::alloc::{AllocError, Global};
@@ -142,9 +142,9 @@ fn response(alloc: Global, response: &Option<Response>) -> Result<String, AllocE
     format!(in alloc; "{name}/{}/{diagnostic}", response.result)
 }
 
-fn message(alloc: Global, message: &Message) -> Result<String, AllocError> {
+fn message(alloc: Global, message: &ReadMessage) -> Result<String, AllocError> {
     match message {
-        Message::Begin {
+        ReadMessage::Begin {
             origin,
             context,
             components: heard,
@@ -156,7 +156,7 @@ fn message(alloc: Global, message: &Message) -> Result<String, AllocError> {
             let origin = spelled(alloc, origin.as_slice())?;
             format!(in alloc; "begin {origin} {name}{}", components(alloc, heard)?)
         }
-        Message::Continue {
+        ReadMessage::Continue {
             origin,
             destination,
             response: of,
@@ -167,7 +167,7 @@ fn message(alloc: Global, message: &Message) -> Result<String, AllocError> {
             let (of, heard) = (response(alloc, of)?, components(alloc, heard)?);
             format!(in alloc; "continue {origin} {destination} {of}{heard}")
         }
-        Message::End {
+        ReadMessage::End {
             destination,
             response: of,
             components: heard,
@@ -176,7 +176,7 @@ fn message(alloc: Global, message: &Message) -> Result<String, AllocError> {
             let (of, heard) = (response(alloc, of)?, components(alloc, heard)?);
             format!(in alloc; "end {destination} {of}{heard}")
         }
-        Message::Abort { destination } => {
+        ReadMessage::Abort { destination } => {
             format!(in alloc; "aborted {}", spelled(alloc, destination.as_slice())?)
         }
     }

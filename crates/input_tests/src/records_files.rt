@@ -1,10 +1,9 @@
 //! Records files: what is read from them, their faults, and what is written.
 
 use hex::decode;
-use hlr_types::{Digits, Imsi, IsdnAddress, Lmsi, Register, Tid};
+use hlr_types::{Digits, Imsi, IsdnAddress, Lmsi, Register};
 use records::{
-    Loaded, Record, Records, RecordsFault, Roam, Version, read_codes, read_records, save, shard_of,
-    write_line,
+    Loaded, Record, Records, RecordsFault, Roam, Version, read_records, save, shard_of, write_line,
 };
 use std::alloc::{AllocError, Global};
 use std::process::Abort;

@@ -5,7 +5,7 @@ use crate::samples::{ROUTE, UNKNOWN, UPDATE};
 use bumpalo::Bump;
 use hlr_types::Imsi;
 use location::{After, DialogueChange};
-use msgarena::{Message, Round, Verdict};
+use msgarena::{ReadMessage, Round, Verdict};
 use records::read_codes;
 use shard_state::{Plan, ShardParts};
 use std::alloc::Global;
@@ -102,7 +102,7 @@ fn begun(alloc: Global, shard: &ShardParts, octets: &[u8]) -> Option<Plan> {
     let Verdict::Read(message) = indication.verdict() else {
         return None;
     };
-    let Message::Begin {
+    let ReadMessage::Begin {
         origin,
         components,
         ..
@@ -138,7 +138,7 @@ fn is_left(after: &After, left: &Left) -> bool {
 }
 
 fn opens(plan: &Plan) -> bool {
-    matches!(plan.outcome.stays, DialogueChange::Gone { opens: Some(_) })
+    matches!(plan.outcome.dialogue, DialogueChange::Opens(_))
 }
 
 /// Whether a plan is as the row has it. A dialogue that opens has the first id.

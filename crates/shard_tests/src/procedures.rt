@@ -8,7 +8,7 @@ use dialogues::{Dialogue, Kind};
 use hlr_types::Imsi;
 use location::{After, DialogueChange, Outcome, begins, expires, withdraws};
 use mapargs_loc::CancellationType;
-use msgarena::{Indication, Message, Round, Verdict};
+use msgarena::{Indication, ReadMessage, Round, Verdict};
 use outgoing::{Addressed, octets_of};
 use records::{Records, read_records};
 use std::alloc::Global;
@@ -33,7 +33,7 @@ pub(crate) fn begun(alloc: Global, indication: &Indication, records: &Records) -
     let Verdict::Read(message) = indication.verdict() else {
         return None;
     };
-    let Message::Begin {
+    let ReadMessage::Begin {
         origin,
         components,
         ..
@@ -60,10 +60,8 @@ pub(crate) fn says(alloc: Global, sent: &Option<Addressed>, octets: &[u8]) -> Op
 
 /// How many operations a dialogue that opens invokes; 0 if none opens.
 fn invoked(outcome: &Outcome) -> u8 {
-    match &outcome.stays {
-        DialogueChange::Gone {
-            opens: Some(opening),
-        } => opening.invoked,
+    match &outcome.dialogue {
+        DialogueChange::Opens(opening) => opening.invoked,
         _ => 0,
     }
 }

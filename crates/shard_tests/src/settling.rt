@@ -56,11 +56,11 @@ fn end(alloc: Global) -> Option<Addressed> {
 
 /// The outcome that leaves the record unchanged and sends an End twice.
 fn only(alloc: Global, stays: DialogueChange) -> Option<Outcome>
-    ensures { IfSome result (λ outcome. (outcome.after ≡ After.Same) × (outcome.stays ≡ stays)) }
+    ensures { IfSome result (λ outcome. (outcome.after ≡ After.Same) × (outcome.dialogue ≡ stays)) }
 {
     Some(Outcome {
         after: After::Same,
-        stays,
+        dialogue: stays,
         message: Some(end(alloc)?),
         cancel: Some(end(alloc)?),
     })
@@ -73,9 +73,7 @@ fn opens(alloc: Global, shard: &mut ShardParts) -> Option<StepAnswer> {
         dialogue: cancel()?,
         invoked: 1,
     };
-    let stays = DialogueChange::Gone {
-        opens: Some(opening),
-    };
+    let stays = DialogueChange::Opens(opening);
     let plan = Plan {
         imsi: Some(imsi()?),
         subject: Some(imsi()?),
@@ -102,7 +100,7 @@ fn closes(alloc: Global, shard: &mut ShardParts, id: Tid) -> Option<StepAnswer> 
         named: Named::Open(id),
         new,
         codes: Vec::new(alloc),
-        outcome: only(alloc, DialogueChange::Gone { opens: None })?,
+        outcome: only(alloc, DialogueChange::Closes)?,
     };
     shard.settle(plan, &[]).ok()
 }
@@ -122,7 +120,7 @@ fn withdraws(alloc: Global, shard: &mut ShardParts) -> Option<StepAnswer> {
         codes: Vec::new(alloc),
         outcome: Outcome {
             after: After::Withdrawn,
-            stays: DialogueChange::Gone { opens: None },
+            dialogue: DialogueChange::Closes,
             message: None,
             cancel: None,
         },

@@ -1,7 +1,5 @@
 //! Inputs of the tests: events, and a register that workers share.
 
-ghost use Rattle.std.specs.Prelude.{◌≤◌};
-
 use crate::samples::RECORDS;
 use hlr_types::{Digits, Peer};
 use hlrcore::{RawEvent, ShardNumber};
