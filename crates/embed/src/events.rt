@@ -9,11 +9,9 @@ ghost use Rattle.embed.specs.Events.{IsClock, IsCodesChange, IsExpiry, IsFrame, 
 
 use hlr_types::{Digits, Imsi, Peer};
 use hlrcore::{Change, RawEvent, ShardNumber};
+use machine::numbers::MAX_CLOCK;
 use records::Codes;
 use std::alloc::{AllocError, Global};
-
-/// The greatest clock value (profile).
-const MAX_TICKS: u64 = 1 << 62;
 
 /// A frame, with the text of the 1 to 16 digits of its source address. `None` if the text is none.
 pub fn frame_event(
@@ -40,7 +38,7 @@ pub fn clock_event(shard: u8, now: u64) -> Option<RawEvent>
     ensures only { (raw : frames.RawEvent) → IsClock shard now raw
         → option_map raw_event result ≡ Some raw }
 {
-    if now > MAX_TICKS {
+    if now > MAX_CLOCK {
         return None;
     }
     let shard = ShardNumber::new(shard)?;
