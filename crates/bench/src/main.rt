@@ -54,7 +54,7 @@ fn run(alloc: Global, layer: Layer, rounds: u64) -> Result<u64> {
         Layer::JudgeRoute => judging::run(alloc, &request::FIRST_ROUTE, rounds),
         Layer::JudgeUpdate => judging::run(alloc, &request::FIRST_UPDATE, rounds),
         Layer::Step => stepping::run(alloc, &request::FIRST_ROUTE, rounds),
-        Layer::Write => writing::run(alloc, &answer::first_answer(alloc)?, rounds),
+        Layer::Write => writing::run(alloc, rounds),
         Layer::Ids => tables::take_ids(alloc, rounds),
         Layer::Deadlines => tables::move_deadlines(alloc, rounds),
     }

@@ -1,9 +1,6 @@
--- The tree of each kind of owned tree, and its octets.
-use Rattle.std.proofs.Common.{◌≡◌, ℕ, ◌+◌, ◌-◌, ◌^◌, ◌<◌, ◌≤◌, List, [], ◌∷◌, ◌++◌, length, take, drop, refl, sym, ◌∙◌, ap, arith, length-append, append_assoc, append-nil, Option, Some, None, IfSome, IfNone, Result, Ok, Err}
-use Rattle.std.specs.Global.{Vec}
-use Rattle.smallvec.specs.SmallVec.{SmallVec}
-use Rattle.std.specs.Option.{SomeIff}
-use Rattle.std.specs.Result.{OkIff, result_ok}
+-- The tree of each kind of tree that is sent, and its octets.
+use Rattle.std.proofs.Common.{◌≡◌, ℕ, ◌+◌, ◌-◌, ◌≤◌, List, [], ◌∷◌, ◌++◌, length, take, drop, refl, sym, ◌∙◌, ap, arith, length-append, append_assoc, append-nil}
+use Rattle.std.specs.Borrow.{Bor}
 use Rattle.std.proofs.lemmas.List.{drop_all, take_at, drop_at}
 use Rattle.x690.specs.Identifier.{identifier}
 use Rattle.x690.specs.Length.{length_octets}
@@ -18,15 +15,15 @@ use Rattle.berwrite.specs.declared.own_tree.OwnTree.TheOpen as layer
 use Rattle.berwrite.specs.declared.own_tree.OwnTree.TheVariants.{Primitive, Constructed, rolls-Primitive, rolls-Constructed}
 use Rattle.berwrite.specs.declared.own_tree.OwnTree.TheFolds.{fold-roll-OwnTree}
 
-pub own-Primitive : (tag : Tag) (octets : SmallVec ℕ) → own (Primitive tag octets) ≡ x690.Primitive tag octets.items
+pub own-Primitive : (tag : Tag) (octets : Bor (List ℕ)) → own (Primitive tag octets) ≡ x690.Primitive tag octets.now
 unfolding own
 own-Primitive tag octets = ap own (sym (rolls-Primitive tag octets)) ∙ fold-roll-OwnTree Tree own_step (layer.Primitive tag octets)
 
-pub own-Constructed : (tag : Tag) (children : Vec OwnTree) → own (Constructed tag children) ≡ element tag (owns children.items)
+pub own-Constructed : (tag : Tag) (children : Bor (List OwnTree)) → own (Constructed tag children) ≡ element tag (owns children.now)
 unfolding own
 own-Constructed tag children = ap own (sym (rolls-Constructed tag children)) ∙ fold-roll-OwnTree Tree own_step (layer.Constructed tag children)
 
--- What a caller's proofs use: a function that takes an owned tree apart names it in
+-- What a caller's proofs use: a function that takes such a tree apart names it in
 -- #[tactic(auto, using(berwrite::proofs::Own::own_views))]. The builders' callers need nothing.
 pub ruleset own_views = (own-Primitive, own-Constructed)
 
@@ -43,40 +40,16 @@ pub enc-definite : (t : Tree) → enc t ≡ definite (tag_of t) (contents_of t)
 enc-definite (x690.Primitive tag octets) = refl
 enc-definite (x690.Constructed tag children) = refl
 
-pub contents-primitive : (t : OwnTree) (tag : Tag) (octets : SmallVec ℕ) → t ≡ Primitive tag octets → contents_of (own t) ≡ octets.items
+pub contents-primitive : (t : OwnTree) (tag : Tag) (octets : Bor (List ℕ)) → t ≡ Primitive tag octets → contents_of (own t) ≡ octets.now
 contents-primitive t tag octets is = ap contents_of (ap own is ∙ own-Primitive tag octets)
 
-pub contents-constructed : (t : OwnTree) (tag : Tag) (children : Vec OwnTree) → t ≡ Constructed tag children → contents_of (own t) ≡ enc_each children.items
+pub contents-constructed : (t : OwnTree) (tag : Tag) (children : Bor (List OwnTree)) → t ≡ Constructed tag children → contents_of (own t) ≡ enc_each children.now
 contents-constructed t tag children is = ap contents_of (ap own is ∙ own-Constructed tag children)
 
 -- nothing is left after the last child
 pub all-written : (xs : List OwnTree) (i : ℕ) (out start : List ℕ) → length xs ≤ i → out ++ enc_each (drop i xs) ≡ start ++ enc_each xs
     → out ≡ start ++ enc_each xs
 all-written xs i out start h e = sym (append-nil out) ∙ ap (λ ys. out ++ enc_each ys) (sym (drop_all i xs h)) ∙ e
-
--- ---- the number of octets
-
-pub length-enc : (t : Tree) → length (enc t) ≡ length (identifier (tag_of t)) + length (length_octets (length (contents_of t))) + length (contents_of t)
-length-enc t =
-    let a = ap length (enc-definite t) in
-    let b = length-append (identifier (tag_of t)) (length_octets (length (contents_of t)) ++ contents_of t) in
-    let c = length-append (length_octets (length (contents_of t))) (contents_of t) in
-    omega arith
-
--- a sum that was checked
-pub checked : (r : Option ℕ) (m s : ℕ) → SomeIff r (m < 2 ^ 32) m → m ≡ s → IfSome r (λ n. n ≡ s) × IfNone r (2 ^ 32 ≤ s)
-checked None m s h e = (tt, omega (arith, h))
-checked (Some x) m s h e = (omega (arith, h.1), tt)
-
--- a number that was tried
-pub tried : {E : Type 0} (P : Type 0) (r : Result ℕ E) (n m : ℕ) → Some n ≡ result_ok r → OkIff r P m → n ≡ m
-tried P (Ok x) n m e h = let f = h.1 in cc
-tried P (Err d) n m e h = cc
-
--- a number that could not be tried
-pub untried : {E : Type 0} (r : Result ℕ E) (m : ℕ) → None ≡ result_ok r → OkIff r (m < 2 ^ 32) m → 2 ^ 32 ≤ m
-untried (Ok x) m e h = cc
-untried (Err d) m e h = omega (arith, h)
 
 -- ---- one element
 

@@ -1,5 +1,5 @@
 //! Identifier octets (X.690, 8.1.2).
-ghost use Rattle.std.specs.Prelude.{◌≡◌, ◌*◌, ◌<◌, ◌≤◌, ◌++◌, length, OnOk};
+ghost use Rattle.std.specs.Prelude.{◌≡◌, ◌*◌, ◌<◌, ◌++◌, OnOk};
 ghost use Rattle.x690.specs.Identifier.{class_bits, leading, number_octets, identifier};
 
 use std::alloc::AllocError;
@@ -57,20 +57,4 @@ pub(crate) fn put_identifier(out: &mut Vec<u8>, tag: Tag) -> Result<(), AllocErr
     }
     out.push(leading_octet(tag, 31))?;
     put_number(out, tag.number)
-}
-
-/// The number of identifier octets of a tag.
-#[tactic(auto, using(std::proofs::lemmas::Bool::Decides::nat_tests), unfolding(x690::specs::Identifier::identifier, x690::specs::Identifier::number_octets))]
-pub(crate) fn identifier_len(tag: Tag) -> u32
-    ensures value { result ≡ length (identifier tag) }
-    ensures bound { result ≤ 6 }
-{
-    match tag.number {
-        0..31 => 1,
-        31..0x80 => 2,
-        0x80..0x4000 => 3,
-        0x4000..0x20_0000 => 4,
-        0x20_0000..0x1000_0000 => 5,
-        0x1000_0000.. => 6,
-    }
 }

@@ -1,5 +1,5 @@
 //! Length octets of the definite form, in the fewest octets (X.690, 8.1.3.4 and 8.1.3.5).
-ghost use Rattle.std.specs.Prelude.{◌≡◌, ◌+◌, ◌-◌, ◌/◌, ◌%◌, ◌<◌, ◌≤◌, ◌++◌, length as list_length, take, drop, OnOk};
+ghost use Rattle.std.specs.Prelude.{◌≡◌, ◌+◌, ◌-◌, ◌/◌, ◌%◌, ◌<◌, ◌++◌, length as list_length, take, drop, OnOk};
 ghost use Rattle.x690.specs.Length.{length_octets};
 
 use std::alloc::AllocError;
@@ -65,20 +65,5 @@ pub(crate) fn set_length(out: &mut Vec<u8>, place: usize) -> Result<(), AllocErr
         0x100..0x1_0000 => widen(out, place, &[0x82, c, d]),
         0x1_0000..0x100_0000 => widen(out, place, &[0x83, b, c, d]),
         0x100_0000.. => widen(out, place, &[0x84, a, b, c, d]),
-    }
-}
-
-/// The number of length octets of a length.
-#[tactic(auto, using(std::proofs::lemmas::Bool::Decides::nat_tests), unfolding(x690::specs::Length::length_octets))]
-pub(crate) fn length_len(length: u32) -> u32
-    ensures value { result ≡ list_length (length_octets length) }
-    ensures bound { result ≤ 5 }
-{
-    match length {
-        0..0x80 => 1,
-        0x80..0x100 => 2,
-        0x100..0x1_0000 => 3,
-        0x1_0000..0x100_0000 => 4,
-        0x100_0000.. => 5,
     }
 }

@@ -1,69 +1,62 @@
-//! A tree that owns its octets.
-ghost use Rattle.std.specs.Prelude.{◌≡◌, ◌^◌, ◌≤◌, [], ◌∷◌, length, IfOk, IfSome, IfNone};
+//! A tree that is sent, in an arena.
+ghost use Rattle.std.specs.Prelude.{◌≡◌, [], ◌∷◌, IfOk};
 ghost use Rattle.x690.specs.Reading.{tag_of};
-ghost use Rattle.x690.specs.Spelling.{enc};
 ghost use Rattle.x690.specs.Tree.{Primitive, element};
 ghost use Rattle.berwrite.specs.OwnTrees.{own, owns};
 
-use crate::identifier::identifier_len;
-use crate::length::length_len;
 use crate::memory::Memory;
-use smallvec::SmallVec;
-use std::alloc::Global;
+use bumpalo::Bump;
 use x690::Tag;
 
-/// How many octets of contents stand in the tree itself: those of an IMSI, an address, an object identifier or a number do, and so
-/// need no allocation.
-const ROOM: usize = 16;
-
-/// An element that is to be sent: its tag with its contents, or with its children.
+/// An element that is to be sent: its tag with its contents, or with its children. Both are in the arena of the message, or
+/// are constants. Nothing in it needs to be dropped, and a copy of it is the same element.
 ///
-/// Limitation: writing, copying and dropping recurse over the levels, whose number is not limited.
-#[derive(Drop)]
-pub enum OwnTree {
-    Primitive(Tag, SmallVec<u8, ROOM>),
-    Constructed(Tag, Vec<OwnTree>),
+/// Limitation: writing recurses over the levels, whose number is not limited.
+#[derive(Clone, Copy)]
+pub enum OwnTree<'a> {
+    Primitive(Tag, &'a [u8]),
+    Constructed(Tag, &'a [OwnTree<'a>]),
 }
 
 #[tactic(auto, using(crate::proofs::Own::own_views))]
-impl OwnTree {
-    /// A primitive element with these contents.
-    pub fn primitive(alloc: Global, tag: Tag, octets: &[u8]) -> Result<OwnTree, Memory>
-        ensures { IfOk result (λ tree. own tree ≡ Primitive tag octets.now) }
+impl<'a> OwnTree<'a> {
+    /// A primitive element with these contents, which are not copied.
+    pub fn of_octets(tag: Tag, octets: &'a [u8]) -> OwnTree<'a>
+        ensures { own result ≡ Primitive tag octets.now }
     {
-        Ok(OwnTree::Primitive(tag, SmallVec::from_slice(alloc, octets)?))
+        OwnTree::Primitive(tag, octets)
     }
 
-    /// A constructed element with these children.
-    pub fn constructed(tag: Tag, children: Vec<OwnTree>) -> OwnTree
-        ensures { own result ≡ element tag (owns children.items) }
+    /// A constructed element with these children, which are not copied.
+    pub fn of_children(tag: Tag, children: &'a [OwnTree<'a>]) -> OwnTree<'a>
+        ensures { own result ≡ element tag (owns children.now) }
     {
-        Self::Constructed(tag, children)
+        OwnTree::Constructed(tag, children)
+    }
+
+    /// A primitive element with a copy of these contents.
+    pub fn primitive(bump: &'a Bump, tag: Tag, octets: &[u8]) -> Result<OwnTree<'a>, Memory>
+        ensures { IfOk result (λ tree. own tree ≡ Primitive tag octets.now) }
+    {
+        Ok(OwnTree::of_octets(tag, bump.try_alloc_slice_copy(octets)?))
+    }
+
+    /// A constructed element with a copy of these children.
+    pub fn constructed(
+        bump: &'a Bump,
+        tag: Tag,
+        children: &[OwnTree<'a>],
+    ) -> Result<OwnTree<'a>, Memory>
+        ensures { IfOk result (λ tree. own tree ≡ element tag (owns children.now)) }
+    {
+        Ok(OwnTree::of_children(tag, bump.try_alloc_slice_copy(children)?))
     }
 
     /// A constructed element with this one child.
-    pub fn around(alloc: Global, tag: Tag, child: OwnTree) -> Result<OwnTree, Memory>
-        ensures { IfOk result (λ tree. own tree ≡ element tag (own child ∷ [])) }
+    pub fn around(bump: &'a Bump, tag: Tag, child: OwnTree<'a>) -> Result<OwnTree<'a>, Memory>
+        ensures { IfOk result (λ tree. own tree ≡ element tag (own child.entry ∷ [])) }
     {
-        let mut children = Vec::with_capacity(alloc, 1)?;
-        children.push(child)?;
-        Ok(OwnTree::constructed(tag, children))
-    }
-
-    /// An equal tree.
-    pub fn try_copy(&self, alloc: Global) -> Result<OwnTree, Memory>
-        ensures { IfOk result (λ copy. own copy ≡ own self.now) }
-    {
-        match self {
-            OwnTree::Primitive(tag, octets) => OwnTree::primitive(alloc, *tag, octets),
-            OwnTree::Constructed(tag, children) => {
-                let mut copies = Vec::with_capacity(alloc, children.len())?;
-                for child in children {
-                    copies.push(child.try_copy(alloc)?)?;
-                }
-                Ok(OwnTree::constructed(*tag, copies))
-            }
-        }
+        OwnTree::constructed(bump, tag, &[child])
     }
 
     /// The tag.
@@ -73,23 +66,5 @@ impl OwnTree {
         match self {
             OwnTree::Primitive(tag, _) | OwnTree::Constructed(tag, _) => *tag,
         }
-    }
-
-    /// The number of octets of its encoding, if below 2^32.
-    pub fn octets_len(&self) -> Option<u32>
-        ensures found { IfSome result (λ n. n ≡ length (enc (own self.now))) }
-        ensures none { IfNone result (2 ^ 32 ≤ length (enc (own self.now))) }
-    {
-        let contents = match self {
-            OwnTree::Primitive(_, octets) => u32::try_from(octets.len()).ok()?,
-            OwnTree::Constructed(_, children) => {
-                let mut sum = 0u32;
-                for child in children {
-                    sum = sum.checked_add(child.octets_len()?)?;
-                }
-                sum
-            }
-        };
-        contents.checked_add(identifier_len(self.tag()) + length_len(contents))
     }
 }

@@ -24,7 +24,7 @@ fn put(tree: &OwnTree, out: &mut Vec<u8>) -> Result<(), AllocError>
         OwnTree::Constructed(_, children) => {
             let place = out.len();
             out.push(0)?;
-            for child in children {
+            for child in *children {
                 put(child, out)?;
             }
             set_length(out, place)
@@ -32,26 +32,20 @@ fn put(tree: &OwnTree, out: &mut Vec<u8>) -> Result<(), AllocError>
     }
 }
 
-/// A list with room for the octets of a tree, if these are fewer than 2^32.
-fn room_for(alloc: Global, tree: &OwnTree) -> Result<Vec<u8>, AllocError>
-    ensures { IfOk result (λ octets. octets.items ≡ []) }
-{
-    match tree.octets_len() {
-        Some(length) => Vec::with_capacity(alloc, length as usize),
-        None => Ok(Vec::new(alloc)),
-    }
-}
+/// Room for the octets of most messages. They are written there and copied to a list of their size: to measure a tree first takes
+/// longer.
+const ROOM: usize = 256;
 
-/// The octets that are sent for a tree, in one allocation of their size.
+/// The octets that are sent for a tree, in a list of their size.
 ///
 /// There is no precondition. With 2^32 octets or more a length may not fit in four octets; then they are no spelling that is
-/// read. Such octets are not made in one allocation.
+/// read.
 pub fn write_tree(alloc: Global, tree: &OwnTree) -> Result<Vec<u8>, Memory>
     ensures octets { IfOk result (λ octets. octets.items ≡ enc (own tree.now)) }
     ensures spelling { IfOk result (λ octets. length octets.items < 2 ^ 32 → HasTags (own tree.now)
         → Spells octets.items (own tree.now)) }
 {
-    let mut octets = room_for(alloc, tree)?;
+    let mut octets = Vec::with_capacity(alloc, ROOM)?;
     put(tree, &mut octets)?;
-    Ok(octets)
+    Ok(Vec::from_slice(alloc, &octets)?)
 }

@@ -110,34 +110,36 @@ fn is_sent(
     component: &OutComponent,
     text: &str,
 ) -> Result<(), Fail> {
-    let octets = write_tree(rt.alloc(), &component_tree(rt.alloc(), component)?)?;
+    let bump = Bump::new(rt.alloc());
+    let octets = write_tree(rt.alloc(), &component_tree(&bump, component)?)?;
     is_written(rt, &octets, text)
 }
 
 #[test]
 fn parameters_are_sent(rt: HostRuntime) -> Result<(), Fail> {
+    let (alloc, bump) = (rt.alloc(), Bump::new(rt.alloc()));
     let insert = OutComponent::Invoke {
         id: 2,
         operation: 7,
-        parameter: tree(rt.alloc(), "U16[ C6[ U4=92 ] ]")?,
+        parameter: tree(alloc, &bump, "U16[ C6[ U4=92 ] ]")?,
     };
     is_sent(&rt, &insert, "A1 0D 02 01 02 02 01 07 30 05 A6 03 04 01 92")?;
     let update = OutComponent::ResultLast {
         id: 1,
         operation: 2,
-        parameter: tree(rt.alloc(), "U16[ U4=91447700091000 ]")?,
+        parameter: tree(alloc, &bump, "U16[ U4=91447700091000 ]")?,
     };
     let octets = "A2 13 02 01 01 30 0E 02 01 02 30 09 04 07 91 44 77 00 09 10 00";
     is_sent(&rt, &update, octets)?;
     let barred = OutComponent::ReturnError {
         id: 1,
         error: 8,
-        parameter: Some(tree(rt.alloc(), "U16[ U10=00 ]")?),
+        parameter: Some(tree(alloc, &bump, "U16[ U10=00 ]")?),
     };
     is_sent(&rt, &barred, "A3 0B 02 01 01 02 01 08 30 03 0A 01 00")
 }
 
-fn reject(id: Option<i8>, side: Side, problem: u8) -> OutComponent {
+fn reject(id: Option<i8>, side: Side, problem: u8) -> OutComponent<'static> {
     OutComponent::Reject(Rejection { id, side, problem })
 }
 

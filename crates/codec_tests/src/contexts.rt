@@ -3,10 +3,11 @@
 use crate::tables::{check, is_written, octets};
 use crate::told::{spelled, taken};
 use berwrite::{Memory, write_tree};
+use bumpalo::Bump;
 use hlr_types::RemoteId;
-use mapctx::Context;
+use mapctx::{Context, ContextName};
 use mapdlg::{Accepted, Why, accept, first_answer, refuse};
-use msgarena::{ContextName, ReadMessage, Verdict};
+use msgarena::{ReadMessage, Verdict};
 use q773_msg::write_message;
 use std::alloc::{AllocError, Global};
 use std::test::Fail;
@@ -88,7 +89,8 @@ fn refusals(rt: HostRuntime) -> Result<(), Fail> {
         (Why::Cause(4), "67 09 49 04 00 00 00 0B 4A 01 04"),
     ];
     for (why, text) in rows {
-        let message = refuse(rt.alloc(), &origin()?, &why)?;
+        let bump = Bump::new(rt.alloc());
+        let message = refuse(&bump, &origin()?, &why)?;
         is_written(&rt, &write_message(rt.alloc(), &message)?, text)?;
     }
     Ok(())
@@ -96,8 +98,17 @@ fn refusals(rt: HostRuntime) -> Result<(), Fail> {
 
 #[test]
 fn accepting(rt: HostRuntime) -> Result<(), Fail> {
-    let tree = first_answer(rt.alloc(), Context::ShortMsgGateway)?;
+    let bump = Bump::new(rt.alloc());
+    let tree = first_answer(&bump, Context::ShortMsgGateway)?;
     is_written(&rt, &write_tree(rt.alloc(), &tree)?, "DA")
+}
+
+/// The octets of the Abort to this id that refuses a context.
+fn refused(alloc: Global, to: &RemoteId) -> Result<Vec<u8>, Memory> {
+    let why = Why::Refusing(ContextName::from_slice(&NAME));
+    let bump = Bump::new(alloc);
+    let message = refuse(&bump, to, &why)?;
+    write_message(alloc, &message)
 }
 
 /// With enough memory the Abort is made. If an allocation fails, the answer is `Memory`, and the next one
@@ -105,15 +116,10 @@ fn accepting(rt: HostRuntime) -> Result<(), Fail> {
 /// only, since the others need enough memory.
 #[test]
 fn refused_growth_is_memory(rt: HostRuntime) -> Result<(), Fail> {
-    let alloc = rt.alloc();
-    let why = Why::Refusing(ContextName::from_slice(&NAME));
-    let message = match refuse(alloc, &origin()?, &why) {
-        Ok(message) => message,
-        Err(Memory) => refuse(alloc, &origin()?, &why)?,
-    };
-    let octets = match write_message(alloc, &message) {
+    let to = origin()?;
+    let octets = match refused(rt.alloc(), &to) {
         Ok(octets) => octets,
-        Err(Memory) => write_message(alloc, &message)?,
+        Err(Memory) => refused(rt.alloc(), &to)?,
     };
     assert_eq!(rt; octets.len(), 52);
     Ok(())

@@ -115,8 +115,9 @@ const APDUS: &str = "
 #[test]
 fn apdus_are_read(rt: HostRuntime) -> Result<(), Fail> {
     check(&rt, APDUS, |alloc, outline| {
-        let apdu = tree(alloc, outline)?;
-        told(alloc, &write_tree(alloc, &portion(alloc, apdu)?)?)
+        let bump = Bump::new(alloc);
+        let apdu = tree(alloc, &bump, outline)?;
+        told(alloc, &write_tree(alloc, &portion(&bump, apdu)?)?)
     })
 }
 
@@ -133,18 +134,13 @@ const REFUSING_BY_THE_PROVIDER: &str =
 const ABORTING: &str = "6B 12 28 10 06 07 00 11 86 05 01 01 01 A0 05 64 03 80 01 00";
 
 /// The tree of an APDU.
-fn apdu_tree(alloc: Global, apdu: Apdu) -> Result<OwnTree, Memory> {
+fn apdu_tree<'a>(bump: &'a Bump, apdu: Apdu<'a>) -> Result<OwnTree<'a>, Memory> {
     match apdu {
-        Apdu::Aarq(name) => aarq(alloc, name),
+        Apdu::Aarq(name) => aarq(bump, name),
         Apdu::Aare(response) => {
-            aare(
-                alloc,
-                response.context,
-                response.result,
-                response.diagnostic,
-            )
+            aare(bump, response.context, response.result, response.diagnostic)
         }
-        Apdu::Abrt(source) => abrt(alloc, source),
+        Apdu::Abrt(source) => abrt(bump, source),
     }
 }
 
@@ -162,7 +158,8 @@ fn portions_are_sent(rt: HostRuntime) -> Result<(), Fail> {
         (Apdu::Abrt(0), ABORTING),
     ];
     for (apdu, text) in rows {
-        let octets = write_tree(alloc, &portion(alloc, apdu_tree(alloc, apdu)?)?)?;
+        let bump = Bump::new(alloc);
+        let octets = write_tree(alloc, &portion(&bump, apdu_tree(&bump, apdu)?)?)?;
         is_written(&rt, &octets, text)?;
     }
     Ok(())

@@ -139,7 +139,8 @@ fn inserts_are_written(rt: HostRuntime) -> Result<(), Fail> {
     for (subscriber, msisdn, codes, text) in INSERTS {
         let subscriber = subscriber.and_then(imsi);
         let msisdn = msisdn.and_then(number);
-        let insert = insert_arg(rt.alloc(), subscriber.as_ref(), msisdn.as_ref(), codes)?;
+        let bump = Bump::new(rt.alloc());
+        let insert = insert_arg(&bump, subscriber.as_ref(), msisdn.as_ref(), codes)?;
         is_sent(&rt, &insert, text)?;
     }
     Ok(())
@@ -161,20 +162,21 @@ const CANCELS: [(CancellationType, &str); 2] = [
 fn cancels_are_written(rt: HostRuntime) -> Result<(), Fail> {
     let subscriber = imsi("234150000000001").ok_or("an imsi")?;
     for (why, text) in CANCELS {
-        is_sent(&rt, &cancel_arg(rt.alloc(), &subscriber, why)?, text)?;
+        let bump = Bump::new(rt.alloc());
+        is_sent(&rt, &cancel_arg(&bump, &subscriber, why)?, text)?;
     }
     Ok(())
 }
 
 #[test]
 fn answers_are_written(rt: HostRuntime) -> Result<(), Fail> {
-    let alloc = rt.alloc();
+    let bump = Bump::new(rt.alloc());
     let hlr = number("447700900100").ok_or("a number")?;
     is_sent(
         &rt,
-        &update_result(alloc, &hlr)?,
+        &update_result(&bump, &hlr)?,
         "30 09 04 07 91 44 77 00 09 10 00",
     )?;
-    is_sent(&rt, &purge_result(alloc)?, "30 02 80 00")?;
-    is_sent(&rt, &roaming_not_allowed(alloc)?, "30 03 0A 01 00")
+    is_sent(&rt, &purge_result(&bump)?, "30 02 80 00")?;
+    is_sent(&rt, &roaming_not_allowed(&bump)?, "30 03 0A 01 00")
 }

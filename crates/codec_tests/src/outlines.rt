@@ -5,6 +5,8 @@
 use crate::tables::octets;
 use bertree::Node;
 use berwrite::{Class, OwnTree, Tag};
+use bumpalo::Bump;
+use bumpalo::collections::into_bump_slice;
 use std::alloc::{AllocError, Global};
 use std::mem;
 use std::test::Fail;
@@ -69,53 +71,56 @@ fn tag(name: &str, constructed: bool) -> Option<Tag> {
     })
 }
 
+/// Elements in the arena.
+type Elements<'a> = Vec<OwnTree<'a>, &'a Bump>;
+
 /// A tree under construction: the open elements, each with the children before it, and the children of the
 /// innermost.
 #[derive(Drop)]
-struct Made {
-    open: Vec<(Tag, Vec<OwnTree>)>,
-    children: Vec<OwnTree>,
+struct Made<'a> {
+    open: Vec<(Tag, Elements<'a>)>,
+    children: Elements<'a>,
 }
 
-impl Made {
+impl<'a> Made<'a> {
     /// Takes one word of an outline.
-    fn take(&mut self, alloc: Global, word: &str) -> Result<(), Fail> {
+    fn take(&mut self, alloc: Global, bump: &'a Bump, word: &str) -> Result<(), Fail> {
         if word == "]" {
             self.close()
         } else if let Some(name) = word.strip_suffix('[') {
-            self.open(alloc, tag(name, true).ok_or("a tag")?)
+            self.open(bump, tag(name, true).ok_or("a tag")?)
         } else {
             let (name, contents) = word.split_once('=').ok_or("contents")?;
             let tag = tag(name, false).ok_or("a tag")?;
             let contents = octets(alloc, contents)?;
-            self.add(OwnTree::primitive(alloc, tag, &contents)?)
+            self.add(OwnTree::primitive(bump, tag, &contents)?)
         }
     }
 
-    fn add(&mut self, element: OwnTree) -> Result<(), Fail> {
+    fn add(&mut self, element: OwnTree<'a>) -> Result<(), Fail> {
         Ok(self.children.push(element)?)
     }
 
-    fn open(&mut self, alloc: Global, tag: Tag) -> Result<(), Fail> {
-        let before = mem::replace(&mut self.children, Vec::new(alloc));
+    fn open(&mut self, bump: &'a Bump, tag: Tag) -> Result<(), Fail> {
+        let before = mem::replace(&mut self.children, Vec::new(bump));
         Ok(self.open.push((tag, before))?)
     }
 
     fn close(&mut self) -> Result<(), Fail> {
         let (tag, before) = self.open.pop().ok_or("an element that is open")?;
         let children = mem::replace(&mut self.children, before);
-        self.add(OwnTree::constructed(tag, children))
+        self.add(OwnTree::of_children(tag, into_bump_slice(children)))
     }
 }
 
-/// The tree of an outline.
-pub(crate) fn tree(alloc: Global, outline: &str) -> Result<OwnTree, Fail> {
+/// The tree of an outline, in the arena.
+pub(crate) fn tree<'a>(alloc: Global, bump: &'a Bump, outline: &str) -> Result<OwnTree<'a>, Fail> {
     let mut made = Made {
         open: Vec::new(alloc),
-        children: Vec::new(alloc),
+        children: Vec::new(bump),
     };
     for word in outline.split_whitespace() {
-        made.take(alloc, word)?;
+        made.take(alloc, bump, word)?;
     }
     Ok(made.children.pop().ok_or("a tree")?)
 }

@@ -68,7 +68,8 @@ fn results_are_written(rt: HostRuntime) -> Result<(), Fail> {
     let subscriber = imsi("234150000000001").ok_or("an imsi")?;
     let msc = number("447700900001").ok_or("a number")?;
     for (lmsi, text) in RESULTS {
-        let tree = route_result(rt.alloc(), &subscriber, &msc, lmsi.as_ref())?;
+        let bump = Bump::new(rt.alloc());
+        let tree = route_result(&bump, &subscriber, &msc, lmsi.as_ref())?;
         is_written(&rt, &write_tree(rt.alloc(), &tree)?, text)?;
     }
     Ok(())

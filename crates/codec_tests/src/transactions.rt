@@ -6,6 +6,7 @@ use crate::told::spelled;
 use bertree::read_tree;
 use berwrite::OwnTree;
 use bumpalo::Bump;
+use bumpalo::collections::into_bump_slice;
 use hlr_types::{RemoteId, Tid};
 use q773_msg::{Message, OutMessage, Portions, Unread, abort_cause, read_message, write_message};
 use std::alloc::{AllocError, Global};
@@ -169,11 +170,12 @@ const SENT_ABORTS: [(&[u8], Option<u8>, &str); 3] = [
 
 /// The octets of an Abort.
 fn abort(alloc: Global, to: RemoteId, cause: Option<u8>) -> Result<Vec<u8>, Fail> {
+    let bump = Bump::new(alloc);
     let cause = match cause {
-        Some(cause) => Some(abort_cause(alloc, cause)?),
+        Some(cause) => Some(abort_cause(&bump, cause)?),
         None => None,
     };
-    Ok(write_message(alloc, &OutMessage::abort(alloc, to, cause)?)?)
+    Ok(write_message(alloc, &OutMessage::abort(&bump, to, cause)?)?)
 }
 
 #[test]
@@ -185,20 +187,21 @@ fn aborts_are_written(rt: HostRuntime) -> Result<(), Fail> {
 }
 
 /// `count` results of Invoke 1 without a parameter.
-fn finished(alloc: Global, count: usize) -> Result<Vec<OwnTree>, Fail> {
-    let mut components = Vec::new(alloc);
+fn finished<'a>(alloc: Global, bump: &'a Bump, count: usize) -> Result<&'a [OwnTree<'a>], Fail> {
+    let mut components = Vec::new(bump);
     for _ in 0..count {
-        components.push(tree(alloc, "C2[ U2=01 ]")?)?;
+        components.push(tree(alloc, bump, "C2[ U2=01 ]")?)?;
     }
-    Ok(components)
+    Ok(into_bump_slice(components))
 }
 
 #[test]
 fn openings_are_written(rt: HostRuntime) -> Result<(), Fail> {
     let alloc = rt.alloc();
+    let bump = Bump::new(alloc);
     let local = Tid([1, 0, 0, 1]);
-    let portion = Some(tree(alloc, "A11[ ]")?);
-    let begin = OutMessage::begin(alloc, local, portion, finished(alloc, 1)?)?;
+    let portion = Some(tree(alloc, &bump, "A11[ ]")?);
+    let begin = OutMessage::begin(&bump, local, portion, finished(alloc, &bump, 1)?)?;
     let octets = write_message(alloc, &begin)?;
     is_written(
         &rt,
@@ -206,7 +209,7 @@ fn openings_are_written(rt: HostRuntime) -> Result<(), Fail> {
         "62 0F 48 04 01 00 00 01 6B 00 6C 05 A2 03 02 01 01",
     )?;
     let remote = id(&[0, 0, 0, 7])?;
-    let next = OutMessage::continue_(alloc, local, remote, None, finished(alloc, 1)?)?;
+    let next = OutMessage::continue_(&bump, local, remote, None, finished(alloc, &bump, 1)?)?;
     let octets = write_message(alloc, &next)?;
     is_written(
         &rt,
@@ -229,7 +232,8 @@ fn ends_are_written(rt: HostRuntime) -> Result<(), Fail> {
     let alloc = rt.alloc();
     for (count, text) in SENT_ENDS {
         let remote = id(&[0, 0, 0, 7])?;
-        let end = OutMessage::end(alloc, remote, None, finished(alloc, count)?)?;
+        let bump = Bump::new(alloc);
+        let end = OutMessage::end(&bump, remote, None, finished(alloc, &bump, count)?)?;
         is_written(&rt, &write_message(alloc, &end)?, text)?;
     }
     Ok(())

@@ -6,10 +6,10 @@ ghost use Rattle.frames.specs.SentTrees.{cancel_tree, cancellation_octet};
 ghost use Rattle.mapargs_loc.specs.Seen.{cancellation};
 
 use berwrite::{Memory, OwnTree};
+use bumpalo::Bump;
 use frames::numbers::{SUBSCRIPTION_WITHDRAW, UPDATE_PROCEDURE};
 use frames::tags::{CANCEL_ARGUMENT, ENUMERATED, OCTET_STRING};
 use hlr_types::Imsi;
-use std::alloc::Global;
 
 /// Why a location is cancelled (TS 29.002, CancellationType).
 #[derive(Clone, Copy, PartialEq, Eq)]
@@ -28,11 +28,16 @@ fn octet_of(why: CancellationType) -> u8
 }
 
 /// The CancelLocationArg: `A3`, and in it the imsi `04` and the cancellationType `0A`, which is always sent.
-pub fn cancel_arg(alloc: Global, imsi: &Imsi, why: CancellationType) -> Result<OwnTree, Memory>
+pub fn cancel_arg<'a>(
+    bump: &'a Bump,
+    imsi: &Imsi,
+    why: CancellationType,
+) -> Result<OwnTree<'a>, Memory>
     ensures { IfOk result (λ tree. own tree ≡ cancel_tree imsi.now (cancellation why)) }
 {
-    let mut elements = Vec::with_capacity(alloc, 2)?;
-    elements.push(OwnTree::primitive(alloc, OCTET_STRING, imsi.octets().as_slice())?)?;
-    elements.push(OwnTree::primitive(alloc, ENUMERATED, &[octet_of(why)])?)?;
-    Ok(OwnTree::constructed(CANCEL_ARGUMENT, elements))
+    let elements = [
+        OwnTree::primitive(bump, OCTET_STRING, imsi.octets().as_slice())?,
+        OwnTree::primitive(bump, ENUMERATED, &[octet_of(why)])?,
+    ];
+    OwnTree::constructed(bump, CANCEL_ARGUMENT, &elements)
 }

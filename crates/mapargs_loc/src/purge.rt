@@ -16,9 +16,9 @@ use crate::fault::ArgFault;
 use bertree::Node;
 use bertree::elements::{octets, optional_octets};
 use berwrite::{Memory, OwnTree};
+use bumpalo::Bump;
 use frames::tags::{FREEZE_TMSI, OCTET_STRING, PURGE_ARGUMENT, PURGE_VLR_NUMBER, SEQUENCE};
 use hlr_types::{Imsi, IsdnAddress};
-use std::alloc::Global;
 
 /// The PurgeMS-Arg: this VLR, if its number is there, has purged the subscriber.
 #[derive(Clone, Copy, Debug, PartialEq, Eq)]
@@ -99,9 +99,9 @@ pub fn read_purge(parameter: &Node) -> Result<PurgeArg, ArgFault>
 }
 
 /// The PurgeMS-Res with freezeTMSI: `30 02 80 00`.
-pub fn purge_result(alloc: Global) -> Result<OwnTree, Memory>
+pub fn purge_result<'a>(bump: &'a Bump) -> Result<OwnTree<'a>, Memory>
     ensures { IfOk result (λ tree. own tree ≡ purge_result_tree) }
 {
-    let freeze = OwnTree::primitive(alloc, FREEZE_TMSI, &[])?;
-    OwnTree::around(alloc, SEQUENCE, freeze)
+    let freeze = OwnTree::of_octets(FREEZE_TMSI, &[]);
+    OwnTree::around(bump, SEQUENCE, freeze)
 }

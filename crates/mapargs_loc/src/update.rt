@@ -17,9 +17,9 @@ use crate::fault::ArgFault;
 use bertree::Node;
 use bertree::elements::{octets, optional_octets};
 use berwrite::{Memory, OwnTree};
+use bumpalo::Bump;
 use frames::tags::{OCTET_STRING, SEQUENCE, UPDATE_LMSI, UPDATE_MSC_NUMBER};
 use hlr_types::{Imsi, IsdnAddress, Lmsi, Register};
-use std::alloc::Global;
 
 /// The UpdateLocationArg: the subscriber is at this register.
 #[derive(Clone, Copy, Debug, PartialEq, Eq)]
@@ -114,9 +114,9 @@ pub fn read_update(parameter: &Node) -> Result<UpdateArg, ArgFault>
 }
 
 /// The UpdateLocationRes: `30`, and in it the number of the HLR, `04`.
-pub fn update_result(alloc: Global, hlr: &IsdnAddress) -> Result<OwnTree, Memory>
+pub fn update_result<'a>(bump: &'a Bump, hlr: &IsdnAddress) -> Result<OwnTree<'a>, Memory>
     ensures { IfOk result (λ tree. own tree ≡ update_result_tree hlr.now) }
 {
-    let number = OwnTree::primitive(alloc, OCTET_STRING, hlr.octets().as_slice())?;
-    OwnTree::around(alloc, SEQUENCE, number)
+    let number = OwnTree::primitive(bump, OCTET_STRING, hlr.octets().as_slice())?;
+    OwnTree::around(bump, SEQUENCE, number)
 }

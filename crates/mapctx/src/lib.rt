@@ -6,10 +6,14 @@ ghost use Rattle.std.specs.Prelude.{◌≡◌, option_map};
 ghost use Rattle.machine.specs.Contexts.{context_of, name_of, octet_of, operation_of};
 ghost use Rattle.mapctx.specs.Seen.{by_octets, context, named, with_octet};
 
+use hlr_types::ShortList;
 use machine::numbers::{
     LOCATION_CANCELLATION, MAP_AC, MS_PURGING, NETWORK_LOC_UP, PURGE_MS, SEND_ROUTING_INFO_FOR_SM,
     SHORT_MSG_GATEWAY, SUBSCRIBER_DATA_MNGT, UPDATE_LOCATION, VERSION_3,
 };
+
+/// An application context's name: 1 to 32 octets, as they were received (Q.773, application-context-name).
+pub type ContextName = ShortList<32>;
 
 /// An application context of version 3.
 #[derive(Clone, Copy, Debug, PartialEq, Eq)]

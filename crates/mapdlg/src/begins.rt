@@ -12,8 +12,8 @@ ghost use Rattle.mapdlg.specs.Accepting.{IsBegin, decision, decision_in, decisio
 ghost use Rattle.mapdlg.specs.Seen.{decided};
 
 use crate::why::Why;
-use mapctx::{Context, Named, context_of, name_of, operation_of};
-use msgarena::{ContextName, Indication, Parameter, ReadMessage, Verdict};
+use mapctx::{Context, ContextName, Named, context_of, name_of, operation_of};
+use msgarena::{Indication, Parameter, ReadMessage, Verdict};
 use q773_comp::Component;
 
 /// What is decided on a Begin before its components are handled.

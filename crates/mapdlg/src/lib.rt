@@ -4,8 +4,10 @@
 
 mod answers;
 mod begins;
+mod portions;
 mod why;
 
-pub use answers::{first_answer, refuse};
+pub use answers::refuse;
 pub use begins::{Accepted, accept};
+pub use portions::{first_answer, first_request};
 pub use why::Why;

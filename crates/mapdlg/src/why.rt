@@ -1,6 +1,6 @@
 //! Why a dialogue is aborted.
 
-use msgarena::ContextName;
+use mapctx::ContextName;
 
 /// What an Abort carries.
 #[derive(Clone, Copy, PartialEq, Eq)]

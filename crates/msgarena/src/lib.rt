@@ -15,6 +15,6 @@ mod verdict;
 
 pub use fault::RoundFault;
 pub use indication::Indication;
-pub use message::{ContextName, ReadMessage, Response, Verdict};
+pub use message::{ReadMessage, Response, Verdict};
 pub use parameter::{Argument, Parameter};
 pub use round::Round;

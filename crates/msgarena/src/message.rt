@@ -4,13 +4,11 @@ ghost use Rattle.std.specs.Prelude.{◌≡◌, IfOk};
 ghost use Rattle.msgarena.specs.Seen.{message, seen};
 
 use crate::parameter::Parameter;
-use hlr_types::{RemoteId, ShortList};
+use hlr_types::RemoteId;
+use mapctx::ContextName;
 use q773_comp::Component;
 use q773_dlg::Diagnostic;
 use std::alloc::{AllocError, Global};
-
-/// An application context's name: 1 to 32 octets, as they were received.
-pub type ContextName = ShortList<32>;
 
 /// An AARE: the application context's name, the result, and why.
 #[derive(Clone, Copy, Debug, PartialEq, Eq)]

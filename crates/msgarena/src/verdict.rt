@@ -8,11 +8,12 @@ ghost use Rattle.q773_msg.specs.Seen.{portions, unread as unread_of};
 ghost use Rattle.msgarena.specs.Seen.{response, seen};
 
 use crate::components::all_heard;
-use crate::message::{ContextName, ReadMessage, Response, Verdict};
+use crate::message::{ReadMessage, Response, Verdict};
 use bertree::Node;
 use frames::numbers::INCORRECT_TRANSACTION_PORTION;
 use hlr_types::{RemoteId, ShortList};
 use machine::numbers::RESOURCE_LIMITATION;
+use mapctx::ContextName;
 use q773_comp::CompFault;
 use q773_dlg::{Apdu, read_dialogue};
 use q773_msg::{Portions, Unread, read_message};

@@ -1,6 +1,7 @@
 //! The octets of what is sent.
 
 ghost use Rattle.std.specs.Prelude.{◌≡◌, IfOk, option_map, map};
+ghost use Rattle.x690.specs.Spelling.{enc};
 ghost use Rattle.frames.specs.SentTrees.{octets_of_sent, tree_of, accepting, component_trees};
 ghost use Rattle.mapctx.specs.Seen.{context};
 ghost use Rattle.q773_comp.specs.Seen.{rejection};
@@ -10,40 +11,48 @@ ghost use Rattle.outgoing.specs.Seen.{components, message};
 
 use crate::component::Components;
 use crate::message::SentMessage;
-use crate::trees::{asking, push_components, reject_trees};
+use crate::trees::{push_components, reject_trees};
 use berwrite::{Memory, OwnTree};
+use bumpalo::Bump;
+use bumpalo::collections::into_bump_slice;
 use mapctx::Context;
-use mapdlg::{first_answer, refuse};
+use mapdlg::{first_answer, first_request, refuse};
 use q773_comp::Rejection;
 use q773_msg::{OutMessage, write_message};
 use std::alloc::Global;
 
+/// The octets of an arena's first chunk, which are enough for the tree of most messages.
+const ARENA: usize = 960;
+
 /// The Rejects, then the procedure's own components.
-fn component_trees(
-    alloc: Global,
+fn component_trees<'a>(
+    bump: &'a Bump,
     rejects: &[Rejection],
     sent: &Components,
-) -> Result<Vec<OwnTree>, Memory>
-    ensures { IfOk result (λ trees. owns trees.items
+) -> Result<&'a [OwnTree<'a>], Memory>
+    ensures { IfOk result (λ trees. owns trees.now
         ≡ component_trees (map rejection rejects.now) (components sent.now)) }
 {
-    let mut trees = reject_trees(alloc, rejects)?;
-    push_components(alloc, &mut trees, sent)?;
-    Ok(trees)
+    let mut trees = reject_trees(bump, rejects)?;
+    push_components(bump, &mut trees, sent)?;
+    Ok(into_bump_slice(trees))
 }
 
-fn accepting_if(alloc: Global, of: Option<Context>) -> Result<Option<OwnTree>, Memory>
-    ensures { IfOk result (λ portion. option_map own portion
-        ≡ option_map accepting (option_map context of)) }
+/// The dialogue portion that accepts a context, if one is accepted.
+fn answer_if<'a>(bump: &'a Bump, of: Option<Context>) -> Result<Option<OwnTree<'a>>, Memory>
+    ensures { IfOk result (λ portion. option_map (λ p. enc (own p)) portion
+        ≡ option_map (λ c. enc (accepting c)) (option_map context of)) }
 {
     match of {
         None => Ok(None),
-        Some(of) => Ok(Some(first_answer(alloc, of)?)),
+        Some(of) => Ok(Some(first_answer(bump, of)?)),
     }
 }
 
-fn out_message(alloc: Global, sent: &SentMessage) -> Result<OutMessage, Memory>
-    ensures { IfOk result (λ out. message_tree out ≡ tree_of (message sent.now)) }
+/// A message with the octets of what is sent.
+#[tactic(auto, using(crate::proofs::Alike::begin_alike, crate::proofs::Alike::continue_alike, crate::proofs::Alike::end_alike))]
+fn out_message<'a>(bump: &'a Bump, sent: &'a SentMessage) -> Result<OutMessage<'a>, Memory>
+    ensures { IfOk result (λ out. enc (message_tree out) ≡ enc (tree_of (message sent.now))) }
 {
     match sent {
         SentMessage::Begin {
@@ -51,9 +60,9 @@ fn out_message(alloc: Global, sent: &SentMessage) -> Result<OutMessage, Memory>
             context,
             components,
         } => {
-            let portion = asking(alloc, *context)?;
-            let trees = component_trees(alloc, &[], components)?;
-            OutMessage::begin(alloc, *origin, Some(portion), trees)
+            let portion = first_request(bump, *context)?;
+            let trees = component_trees(bump, &[], components)?;
+            OutMessage::begin(bump, *origin, Some(portion), trees)
         }
         SentMessage::Continue {
             origin,
@@ -62,9 +71,9 @@ fn out_message(alloc: Global, sent: &SentMessage) -> Result<OutMessage, Memory>
             rejects,
             components,
         } => {
-            let portion = accepting_if(alloc, *context)?;
-            let trees = component_trees(alloc, rejects, components)?;
-            OutMessage::continue_(alloc, *origin, *destination, portion, trees)
+            let portion = answer_if(bump, *context)?;
+            let trees = component_trees(bump, rejects, components)?;
+            OutMessage::continue_(bump, *origin, *destination, portion, trees)
         }
         SentMessage::End {
             destination,
@@ -72,11 +81,11 @@ fn out_message(alloc: Global, sent: &SentMessage) -> Result<OutMessage, Memory>
             rejects,
             components,
         } => {
-            let portion = accepting_if(alloc, *context)?;
-            let trees = component_trees(alloc, rejects, components)?;
-            OutMessage::end(alloc, *destination, portion, trees)
+            let portion = answer_if(bump, *context)?;
+            let trees = component_trees(bump, rejects, components)?;
+            OutMessage::end(bump, *destination, portion, trees)
         }
-        SentMessage::Abort { destination, why } => refuse(alloc, destination, why),
+        SentMessage::Abort { destination, why } => refuse(bump, destination, why),
     }
 }
 
@@ -85,5 +94,7 @@ fn out_message(alloc: Global, sent: &SentMessage) -> Result<OutMessage, Memory>
 pub fn octets_of(alloc: Global, sent: &SentMessage) -> Result<Vec<u8>, Memory>
     ensures { IfOk result (λ octets. octets.items ≡ octets_of_sent (message sent.now)) }
 {
-    write_message(alloc, &out_message(alloc, sent)?)
+    let bump = Bump::try_with_capacity(alloc, ARENA)?;
+    let out = out_message(&bump, sent)?;
+    write_message(alloc, &out)
 }

@@ -9,11 +9,11 @@ ghost use Rattle.q773_comp.specs.Sent.{out_tree};
 use crate::component::Side;
 use bertree::Tag;
 use berwrite::{Memory, OwnTree};
+use bumpalo::Bump;
 use frames::tags::{
     ERROR_PROBLEM, GENERAL_PROBLEM, INTEGER, INVOKE, INVOKE_PROBLEM, NULL, REJECT, RESULT_LAST,
     RESULT_PROBLEM, RETURN_ERROR, SEQUENCE,
 };
-use std::alloc::Global;
 
 /// A Reject that is sent. Without an id it rejects a component that had none.
 #[derive(Clone, Copy, PartialEq, Eq)]
@@ -24,17 +24,17 @@ pub struct Rejection {
 }
 
 /// A component that is sent, with the tree of its parameter.
-#[derive(Drop)]
-pub enum OutComponent {
+#[derive(Clone, Copy)]
+pub enum OutComponent<'a> {
     Invoke {
         id: i8,
         operation: u8,
-        parameter: OwnTree,
+        parameter: OwnTree<'a>,
     },
     ResultLast {
         id: i8,
         operation: u8,
-        parameter: OwnTree,
+        parameter: OwnTree<'a>,
     },
     /// A ReturnResultLast with nothing but its id.
     EmptyResult {
@@ -43,30 +43,30 @@ pub enum OutComponent {
     ReturnError {
         id: i8,
         error: u8,
-        parameter: Option<OwnTree>,
+        parameter: Option<OwnTree<'a>>,
     },
     Reject(Rejection),
 }
 
-fn id_tree(alloc: Global, id: i8) -> Result<OwnTree, Memory>
+fn id_tree<'a>(bump: &'a Bump, id: i8) -> Result<OwnTree<'a>, Memory>
     ensures { IfOk result (λ made. own made ≡ id_tree id) }
 {
-    OwnTree::primitive(alloc, INTEGER, &[id.cast_unsigned()])
+    OwnTree::primitive(bump, INTEGER, &[id.cast_unsigned()])
 }
 
-fn code_tree(alloc: Global, code: u8) -> Result<OwnTree, Memory>
+fn code_tree<'a>(bump: &'a Bump, code: u8) -> Result<OwnTree<'a>, Memory>
     ensures { IfOk result (λ made. own made ≡ code_tree code) }
 {
-    OwnTree::primitive(alloc, INTEGER, &[code])
+    OwnTree::primitive(bump, INTEGER, &[code])
 }
 
 /// What is rejected: an id, or a NULL.
-fn rejected_tree(alloc: Global, id: Option<i8>) -> Result<OwnTree, Memory>
+fn rejected_tree<'a>(bump: &'a Bump, id: Option<i8>) -> Result<OwnTree<'a>, Memory>
     ensures { IfOk result (λ made. own made ≡ rejected_tree id) }
 {
     match id {
-        Some(id) => id_tree(alloc, id),
-        None => OwnTree::primitive(alloc, NULL, &[]),
+        Some(id) => id_tree(bump, id),
+        None => Ok(OwnTree::of_octets(NULL, &[])),
     }
 }
 
@@ -81,134 +81,84 @@ fn problem_tag(of: Side) -> Tag
     }
 }
 
-fn invoke_tree(alloc: Global, id: i8, operation: u8, parameter: OwnTree) -> Result<OwnTree, Memory>
-    ensures { IfOk result (λ made. own made ≡ invoke_tree id operation (own parameter)) }
+fn invoke_tree<'a>(
+    bump: &'a Bump,
+    id: i8,
+    operation: u8,
+    parameter: OwnTree<'a>,
+) -> Result<OwnTree<'a>, Memory>
+    ensures { IfOk result (λ made. own made ≡ invoke_tree id operation (own parameter.entry)) }
 {
-    let parts = vec![in alloc;
-        id_tree(alloc, id)?,
-        code_tree(alloc, operation)?,
-        parameter,
-    ]?;
-    Ok(OwnTree::constructed(INVOKE, parts))
+    let parts = [id_tree(bump, id)?, code_tree(bump, operation)?, parameter];
+    OwnTree::constructed(bump, INVOKE, &parts)
 }
 
-fn result_tree(alloc: Global, id: i8, operation: u8, parameter: OwnTree) -> Result<OwnTree, Memory>
-    ensures { IfOk result (λ made. own made ≡ result_tree id operation (own parameter)) }
+fn result_tree<'a>(
+    bump: &'a Bump,
+    id: i8,
+    operation: u8,
+    parameter: OwnTree<'a>,
+) -> Result<OwnTree<'a>, Memory>
+    ensures { IfOk result (λ made. own made ≡ result_tree id operation (own parameter.entry)) }
 {
-    let outcome = vec![in alloc; code_tree(alloc, operation)?, parameter]?;
-    let parts = vec![in alloc;
-        id_tree(alloc, id)?,
-        OwnTree::constructed(SEQUENCE, outcome),
-    ]?;
-    Ok(OwnTree::constructed(RESULT_LAST, parts))
+    let outcome = [code_tree(bump, operation)?, parameter];
+    let outcome = OwnTree::constructed(bump, SEQUENCE, &outcome)?;
+    OwnTree::constructed(bump, RESULT_LAST, &[id_tree(bump, id)?, outcome])
 }
 
-fn error_tree(
-    alloc: Global,
+fn error_tree<'a>(
+    bump: &'a Bump,
     id: i8,
     error: u8,
-    parameter: Option<OwnTree>,
-) -> Result<OwnTree, Memory>
-    ensures { IfOk result (λ made. own made ≡ error_tree id error (option_map own parameter)) }
+    parameter: Option<OwnTree<'a>>,
+) -> Result<OwnTree<'a>, Memory>
+    ensures { IfOk result (λ made. own made
+        ≡ error_tree id error (option_map own parameter.entry)) }
 {
-    let mut parts = vec![in alloc; id_tree(alloc, id)?, code_tree(alloc, error)?]?;
-    if let Some(parameter) = parameter {
-        parts.push(parameter)?;
+    let (id, code) = (id_tree(bump, id)?, code_tree(bump, error)?);
+    match parameter {
+        Some(parameter) => OwnTree::constructed(bump, RETURN_ERROR, &[id, code, parameter]),
+        None => OwnTree::constructed(bump, RETURN_ERROR, &[id, code]),
     }
-    Ok(OwnTree::constructed(RETURN_ERROR, parts))
 }
 
 /// A Reject: what is rejected, and the problem.
-fn reject_tree(alloc: Global, reject: Rejection) -> Result<OwnTree, Memory>
+fn reject_tree<'a>(bump: &'a Bump, reject: Rejection) -> Result<OwnTree<'a>, Memory>
     ensures { IfOk result (λ made. own made ≡ reject_tree (rejection reject)) }
 {
-    let parts = vec![in alloc;
-        rejected_tree(alloc, reject.id)?,
-        OwnTree::primitive(alloc, problem_tag(reject.side), &[reject.problem])?,
-    ]?;
-    Ok(OwnTree::constructed(REJECT, parts))
+    let parts = [
+        rejected_tree(bump, reject.id)?,
+        OwnTree::primitive(bump, problem_tag(reject.side), &[reject.problem])?,
+    ];
+    OwnTree::constructed(bump, REJECT, &parts)
 }
 
-/// A parameter with the same tree, if there is one.
-fn copied(alloc: Global, parameter: Option<&OwnTree>) -> Result<Option<OwnTree>, Memory>
-    ensures { IfOk result (λ copy. option_map own copy
-        ≡ option_map (λ p. own p.now) parameter.entry) }
-{
-    match parameter {
-        Some(parameter) => Ok(Some(parameter.try_copy(alloc)?)),
-        None => Ok(None),
-    }
-}
-
-impl OutComponent {
-    /// A component with the same tree.
-    fn try_copy(&self, alloc: Global) -> Result<OutComponent, Memory>
-        ensures { IfOk result (λ copy. out_tree copy ≡ out_tree self.now) }
-    {
-        Ok(match self {
-            OutComponent::Invoke {
-                id,
-                operation,
-                parameter,
-            } => OutComponent::Invoke {
-                id: *id,
-                operation: *operation,
-                parameter: parameter.try_copy(alloc)?,
-            },
-            OutComponent::ResultLast {
-                id,
-                operation,
-                parameter,
-            } => OutComponent::ResultLast {
-                id: *id,
-                operation: *operation,
-                parameter: parameter.try_copy(alloc)?,
-            },
-            OutComponent::EmptyResult { id } => OutComponent::EmptyResult { id: *id },
-            OutComponent::ReturnError {
-                id,
-                error,
-                parameter,
-            } => OutComponent::ReturnError {
-                id: *id,
-                error: *error,
-                parameter: copied(alloc, parameter.as_ref())?,
-            },
-            OutComponent::Reject(reject) => OutComponent::Reject(*reject),
-        })
-    }
-
-    /// The tree of a component that is sent; the component is used up.
-    pub fn into_tree(self, alloc: Global) -> Result<OwnTree, Memory>
-        ensures { IfOk result (λ made. own made ≡ out_tree self) }
-    {
-        match self {
-            OutComponent::Invoke {
-                id,
-                operation,
-                parameter,
-            } => invoke_tree(alloc, id, operation, parameter),
-            OutComponent::ResultLast {
-                id,
-                operation,
-                parameter,
-            } => result_tree(alloc, id, operation, parameter),
-            OutComponent::EmptyResult { id } => {
-                OwnTree::around(alloc, RESULT_LAST, id_tree(alloc, id)?)
-            }
-            OutComponent::ReturnError {
-                id,
-                error,
-                parameter,
-            } => error_tree(alloc, id, error, parameter),
-            OutComponent::Reject(reject) => reject_tree(alloc, reject),
-        }
-    }
-}
-
-/// The tree of a component that is sent. The component stays as it is: its parameter is copied.
-pub fn component_tree(alloc: Global, component: &OutComponent) -> Result<OwnTree, Memory>
+/// The tree of a component that is sent.
+pub fn component_tree<'a>(
+    bump: &'a Bump,
+    component: &OutComponent<'a>,
+) -> Result<OwnTree<'a>, Memory>
     ensures { IfOk result (λ made. own made ≡ out_tree component.now) }
 {
-    component.try_copy(alloc)?.into_tree(alloc)
+    match *component {
+        OutComponent::Invoke {
+            id,
+            operation,
+            parameter,
+        } => invoke_tree(bump, id, operation, parameter),
+        OutComponent::ResultLast {
+            id,
+            operation,
+            parameter,
+        } => result_tree(bump, id, operation, parameter),
+        OutComponent::EmptyResult { id } => {
+            OwnTree::around(bump, RESULT_LAST, id_tree(bump, id)?)
+        }
+        OutComponent::ReturnError {
+            id,
+            error,
+            parameter,
+        } => error_tree(bump, id, error, parameter),
+        OutComponent::Reject(reject) => reject_tree(bump, reject),
+    }
 }

@@ -10,85 +10,87 @@ ghost use Rattle.q773_dlg.specs.Seen.{diagnostic};
 use crate::apdu::Diagnostic;
 use bertree::Tag;
 use berwrite::{Memory, OwnTree};
+use bumpalo::Bump;
 use frames::numbers::{DIALOGUE_AS_ID, VERSION_1};
 use frames::tags::{
     AARE, AARQ, ABORT_SOURCE, ABRT, CONTEXT_NAME, DIAGNOSTIC_OF_PROVIDER, DIAGNOSTIC_OF_USER,
     DIALOGUE_PORTION, EXTERNAL, INTEGER, OBJECT_IDENTIFIER, RESULT, RESULT_SOURCE,
     SINGLE_ASN1_TYPE, VERSION,
 };
-use std::alloc::Global;
 
-fn version_tree(alloc: Global) -> Result<OwnTree, Memory>
-    ensures { IfOk result (λ made. own made ≡ version_tree) }
+fn version_tree<'a>() -> OwnTree<'a>
+    ensures { own result ≡ version_tree }
 {
-    OwnTree::primitive(alloc, VERSION, &VERSION_1)
+    OwnTree::of_octets(VERSION, &VERSION_1)
 }
 
-fn context_tree(alloc: Global, name: &[u8]) -> Result<OwnTree, Memory>
+fn context_tree<'a>(bump: &'a Bump, name: &'a [u8]) -> Result<OwnTree<'a>, Memory>
     ensures { IfOk result (λ made. own made ≡ context_tree name.now) }
 {
-    let name = OwnTree::primitive(alloc, OBJECT_IDENTIFIER, name)?;
-    OwnTree::around(alloc, CONTEXT_NAME, name)
+    let name = OwnTree::of_octets(OBJECT_IDENTIFIER, name);
+    OwnTree::around(bump, CONTEXT_NAME, name)
 }
 
 /// An INTEGER of one octet, in an element of its own.
-fn octet_in(alloc: Global, tag: Tag, octet: u8) -> Result<OwnTree, Memory>
+fn octet_in<'a>(bump: &'a Bump, tag: Tag, octet: u8) -> Result<OwnTree<'a>, Memory>
     ensures { IfOk result (λ made. own made ≡ octet_in tag octet) }
 {
-    let integer = OwnTree::primitive(alloc, INTEGER, &[octet])?;
-    OwnTree::around(alloc, tag, integer)
+    let integer = OwnTree::primitive(bump, INTEGER, &[octet])?;
+    OwnTree::around(bump, tag, integer)
 }
 
-fn diagnostic_tree(alloc: Global, why: Diagnostic) -> Result<OwnTree, Memory>
+fn diagnostic_tree<'a>(bump: &'a Bump, why: Diagnostic) -> Result<OwnTree<'a>, Memory>
     ensures { IfOk result (λ made. own made ≡ diagnostic_tree (diagnostic why)) }
 {
     let source = match why {
-        Diagnostic::OfUser(octet) => octet_in(alloc, DIAGNOSTIC_OF_USER, octet)?,
-        Diagnostic::OfProvider(octet) => octet_in(alloc, DIAGNOSTIC_OF_PROVIDER, octet)?,
+        Diagnostic::OfUser(octet) => octet_in(bump, DIAGNOSTIC_OF_USER, octet)?,
+        Diagnostic::OfProvider(octet) => octet_in(bump, DIAGNOSTIC_OF_PROVIDER, octet)?,
     };
-    OwnTree::around(alloc, RESULT_SOURCE, source)
+    OwnTree::around(bump, RESULT_SOURCE, source)
 }
 
 /// An AARQ, which requests the application context of this name.
-pub fn aarq(alloc: Global, name: &[u8]) -> Result<OwnTree, Memory>
+pub fn aarq<'a>(bump: &'a Bump, name: &'a [u8]) -> Result<OwnTree<'a>, Memory>
     ensures { IfOk result (λ made. own made ≡ aarq_tree name.now) }
 {
-    let parts = vec![in alloc; version_tree(alloc)?, context_tree(alloc, name)?]?;
-    Ok(OwnTree::constructed(AARQ, parts))
+    let parts = [version_tree(), context_tree(bump, name)?];
+    OwnTree::constructed(bump, AARQ, &parts)
 }
 
 /// An AARE, with the application context's name, the result and the diagnostic.
-pub fn aare(alloc: Global, name: &[u8], outcome: u8, why: Diagnostic) -> Result<OwnTree, Memory>
+pub fn aare<'a>(
+    bump: &'a Bump,
+    name: &'a [u8],
+    outcome: u8,
+    why: Diagnostic,
+) -> Result<OwnTree<'a>, Memory>
     ensures { IfOk result (λ made. own made ≡ aare_tree name.now outcome (diagnostic why)) }
 {
-    let parts = vec![in alloc;
-        version_tree(alloc)?,
-        context_tree(alloc, name)?,
-        octet_in(alloc, RESULT, outcome)?,
-        diagnostic_tree(alloc, why)?,
-    ]?;
-    Ok(OwnTree::constructed(AARE, parts))
+    let parts = [
+        version_tree(),
+        context_tree(bump, name)?,
+        octet_in(bump, RESULT, outcome)?,
+        diagnostic_tree(bump, why)?,
+    ];
+    OwnTree::constructed(bump, AARE, &parts)
 }
 
 /// An ABRT with this source: the user, 0, or the provider, 1.
-pub fn abrt(alloc: Global, source: u8) -> Result<OwnTree, Memory>
+pub fn abrt<'a>(bump: &'a Bump, source: u8) -> Result<OwnTree<'a>, Memory>
     ensures { IfOk result (λ made. own made ≡ abrt_tree source) }
 {
-    let source = OwnTree::primitive(alloc, ABORT_SOURCE, &[source])?;
-    OwnTree::around(alloc, ABRT, source)
+    let source = OwnTree::primitive(bump, ABORT_SOURCE, &[source])?;
+    OwnTree::around(bump, ABRT, source)
 }
 
 /// The dialogue portion around an APDU.
-pub fn portion(alloc: Global, apdu: OwnTree) -> Result<OwnTree, Memory>
-    ensures { IfOk result (λ made. own made ≡ portion_tree (own apdu)) }
+pub fn portion<'a>(bump: &'a Bump, apdu: OwnTree<'a>) -> Result<OwnTree<'a>, Memory>
+    ensures { IfOk result (λ made. own made ≡ portion_tree (own apdu.entry)) }
 {
-    let parts = vec![in alloc;
-        OwnTree::primitive(alloc, OBJECT_IDENTIFIER, &DIALOGUE_AS_ID)?,
-        OwnTree::around(alloc, SINGLE_ASN1_TYPE, apdu)?,
-    ]?;
-    OwnTree::around(
-        alloc,
-        DIALOGUE_PORTION,
-        OwnTree::constructed(EXTERNAL, parts),
-    )
+    let parts = [
+        OwnTree::of_octets(OBJECT_IDENTIFIER, &DIALOGUE_AS_ID),
+        OwnTree::around(bump, SINGLE_ASN1_TYPE, apdu)?,
+    ];
+    let external = OwnTree::constructed(bump, EXTERNAL, &parts)?;
+    OwnTree::around(bump, DIALOGUE_PORTION, external)
 }

@@ -8,95 +8,97 @@ ghost use Rattle.q773_msg.specs.Sent.{message_tree};
 
 use crate::portions::{push_portions, push_some};
 use berwrite::{Memory, OwnTree, write_tree};
+use bumpalo::Bump;
+use bumpalo::collections::into_bump_slice;
 use frames::tags::{ABORT, ABORT_CAUSE, BEGIN, CONTINUE, DESTINATION, END, ORIGIN};
 use hlr_types::{RemoteId, Tid};
 use std::alloc::Global;
 
 /// A message that is sent. Contracts see it as its tree, `message_tree`.
 ///
-/// Its dialogue portion is given whole, `6B` and what it holds, and its components one by one, in order. Both are moved
-/// into it; if an allocation fails they are dropped.
-#[derive(Drop)]
-pub struct OutMessage {
-    tree: OwnTree,
+/// Its dialogue portion is given whole, `6B` and what it holds, and its components one by one, in order. All are in the
+/// arena of the message.
+#[derive(Clone, Copy)]
+pub struct OutMessage<'a> {
+    tree: OwnTree<'a>,
 }
 
-impl OutMessage {
+impl<'a> OutMessage<'a> {
     /// A Begin: `62`, and in it the originating id `48` and the portions.
     pub fn begin(
-        alloc: Global,
+        bump: &'a Bump,
         origin: Tid,
-        dialogue: Option<OwnTree>,
-        components: Vec<OwnTree>,
-    ) -> Result<OutMessage, Memory>
+        dialogue: Option<OwnTree<'a>>,
+        components: &'a [OwnTree<'a>],
+    ) -> Result<OutMessage<'a>, Memory>
         ensures { IfOk result (λ message. message_tree message
-            ≡ begin_tree origin (option_map own dialogue) (owns components.items)) }
+            ≡ begin_tree origin (option_map own dialogue.entry) (owns components.now)) }
     {
-        let mut elements = Vec::with_capacity(alloc, 3)?;
-        elements.push(OwnTree::primitive(alloc, ORIGIN, origin.as_slice())?)?;
+        let mut elements = Vec::with_capacity(bump, 3)?;
+        elements.push(OwnTree::primitive(bump, ORIGIN, origin.as_slice())?)?;
         push_portions(&mut elements, dialogue, components)?;
-        let tree = OwnTree::constructed(BEGIN, elements);
+        let tree = OwnTree::of_children(BEGIN, into_bump_slice(elements));
         Ok(OutMessage { tree })
     }
 
     /// A Continue: `65`, and in it the originating id `48`, the destination id `49` and the portions.
     pub fn continue_(
-        alloc: Global,
+        bump: &'a Bump,
         origin: Tid,
         destination: RemoteId,
-        dialogue: Option<OwnTree>,
-        components: Vec<OwnTree>,
-    ) -> Result<OutMessage, Memory>
+        dialogue: Option<OwnTree<'a>>,
+        components: &'a [OwnTree<'a>],
+    ) -> Result<OutMessage<'a>, Memory>
         ensures { IfOk result (λ message. message_tree message
-            ≡ continue_tree origin destination (option_map own dialogue) (owns components.items)) }
+            ≡ continue_tree origin destination (option_map own dialogue.entry) (owns components.now)) }
     {
-        let mut elements = Vec::with_capacity(alloc, 4)?;
-        elements.push(OwnTree::primitive(alloc, ORIGIN, origin.as_slice())?)?;
-        elements.push(OwnTree::primitive(alloc, DESTINATION, destination.as_slice())?)?;
+        let mut elements = Vec::with_capacity(bump, 4)?;
+        elements.push(OwnTree::primitive(bump, ORIGIN, origin.as_slice())?)?;
+        elements.push(OwnTree::primitive(bump, DESTINATION, destination.as_slice())?)?;
         push_portions(&mut elements, dialogue, components)?;
-        let tree = OwnTree::constructed(CONTINUE, elements);
+        let tree = OwnTree::of_children(CONTINUE, into_bump_slice(elements));
         Ok(OutMessage { tree })
     }
 
     /// An End: `64`, and in it the destination id `49` and the portions.
     pub fn end(
-        alloc: Global,
+        bump: &'a Bump,
         destination: RemoteId,
-        dialogue: Option<OwnTree>,
-        components: Vec<OwnTree>,
-    ) -> Result<OutMessage, Memory>
+        dialogue: Option<OwnTree<'a>>,
+        components: &'a [OwnTree<'a>],
+    ) -> Result<OutMessage<'a>, Memory>
         ensures { IfOk result (λ message. message_tree message
-            ≡ end_tree destination (option_map own dialogue) (owns components.items)) }
+            ≡ end_tree destination (option_map own dialogue.entry) (owns components.now)) }
     {
-        let mut elements = Vec::with_capacity(alloc, 3)?;
-        elements.push(OwnTree::primitive(alloc, DESTINATION, destination.as_slice())?)?;
+        let mut elements = Vec::with_capacity(bump, 3)?;
+        elements.push(OwnTree::primitive(bump, DESTINATION, destination.as_slice())?)?;
         push_portions(&mut elements, dialogue, components)?;
-        let tree = OwnTree::constructed(END, elements);
+        let tree = OwnTree::of_children(END, into_bump_slice(elements));
         Ok(OutMessage { tree })
     }
 
     /// An Abort: `67`, and in it the destination id `49` and the reason, if any: a P-Abort cause or a dialogue portion.
     pub fn abort(
-        alloc: Global,
+        bump: &'a Bump,
         destination: RemoteId,
-        reason: Option<OwnTree>,
-    ) -> Result<OutMessage, Memory>
+        reason: Option<OwnTree<'a>>,
+    ) -> Result<OutMessage<'a>, Memory>
         ensures { IfOk result (λ message. message_tree message
-            ≡ abort_tree destination (option_map own reason)) }
+            ≡ abort_tree destination (option_map own reason.entry)) }
     {
-        let mut elements = Vec::with_capacity(alloc, 2)?;
-        elements.push(OwnTree::primitive(alloc, DESTINATION, destination.as_slice())?)?;
+        let mut elements = Vec::with_capacity(bump, 2)?;
+        elements.push(OwnTree::primitive(bump, DESTINATION, destination.as_slice())?)?;
         push_some(&mut elements, reason)?;
-        let tree = OwnTree::constructed(ABORT, elements);
+        let tree = OwnTree::of_children(ABORT, into_bump_slice(elements));
         Ok(OutMessage { tree })
     }
 }
 
 /// A P-Abort cause: `4A 01` and the cause.
-pub fn abort_cause(alloc: Global, cause: u8) -> Result<OwnTree, Memory>
+pub fn abort_cause<'a>(bump: &'a Bump, cause: u8) -> Result<OwnTree<'a>, Memory>
     ensures { IfOk result (λ tree. own tree ≡ cause_tree cause) }
 {
-    OwnTree::primitive(alloc, ABORT_CAUSE, &[cause])
+    OwnTree::primitive(bump, ABORT_CAUSE, &[cause])
 }
 
 /// The octets that are sent for a message: definite lengths, in the fewest octets. There is no precondition.

@@ -2,7 +2,7 @@ use Rattle.std.proofs.Common.{[], ◌∷◌, ◌∙◌, ◌++◌, ap, sym, arith
 use Rattle.std.proofs.lemmas.Result.{on_ok_weaker}
 use Rattle.x690.specs.Identifier.{identifier}
 use Rattle.berwrite.specs.OwnTrees.{own}
-use Rattle.berwrite.proofs.Own.{enc_each, contents-primitive, contents-constructed, all-written, written, placed}
+use Rattle.berwrite.proofs.Own.{contents-primitive, contents-constructed, all-written, written, placed}
 use Rattle.berwrite.proofs.write.+put.Goals as goal
 
 pub returns-in_ok-extend_from_slice-in-Primitive : goal.returns-in_ok-extend_from_slice-in-Primitive
@@ -10,8 +10,8 @@ returns-in_ok-extend_from_slice-in-Primitive t c =
     let same = contents-primitive c.args.tree.now _ _ c.in-Primitive.is in
     let tag = ap (λ x. c.args.out.now.items ++ identifier x) c.tag.ensures in
     written (own c.args.tree.now) _ _ _ _ _ (c.in_ok-put_identifier.ensures ∙ tag) c.in_ok-put_length-in-Primitive.ensures
-    (omega (arith, c.len.ensures, ap length same))
-    (c.in_ok-extend_from_slice-in-Primitive.ensures.items ∙ ap (λ xs. c.put_length.new.out.items ++ xs) (c.deref.ensures ∙ sym same))
+    (ap length (sym same))
+    (c.in_ok-extend_from_slice-in-Primitive.ensures.items ∙ ap (λ xs. c.put_length.new.out.items ++ xs) (sym same))
 
 pub returns-after-loop-child : goal.returns-after-loop-child
 returns-after-loop-child t c =
@@ -22,5 +22,5 @@ returns-after-loop-child t c =
     (placed (own c.args.tree.now) _ _ _ _ _ (c.in_ok-put_identifier.ensures ∙ tag)
     (omega (arith, c.len-place.ensures, c.put_identifier.new.out.ok.0))
     (children ∙ rw c.in_ok-push-in-Constructed.ensures.items (ap (λ xs. (c.put_identifier.new.out.items ++ 0 ∷ []) ++ xs)
-    (ap enc_each c.deref-child-items.ensures.value ∙ sym same))))
+    (sym same))))
     c.set_length.ensures
