@@ -3,7 +3,7 @@
 use records::Codes;
 
 /// An operator's change of a subscriber.
-#[derive(Debug, Drop)]
+#[derive(Clone, Copy, Debug)]
 pub enum Change {
     /// New teleservice codes.
     Codes(Codes),

@@ -3,7 +3,7 @@
 ghost use Rattle.std.specs.Prelude.{◌≡◌, IfOk};
 ghost use Rattle.frames.specs.Octets as frames;
 ghost use Rattle.frames.specs.Octets.{IsEvent};
-ghost use Rattle.hlrcore.specs.Events.{raw_event, raw_of, event_of, change};
+ghost use Rattle.hlrcore.specs.Events.{raw_event, raw_of, event_of};
 ghost use Rattle.hlrcore.specs.Taken.{IfRead};
 
 use crate::change::Change;
@@ -55,18 +55,6 @@ impl From<AllocError> for EventFault {
     }
 }
 
-impl Change {
-    /// An equal copy.
-    pub fn try_copy(&self, alloc: Global) -> Result<Change, AllocError>
-        ensures { IfOk result (λ copy. change copy ≡ change self.now) }
-    {
-        match self {
-            Change::Codes(codes) => Ok(Change::Codes(codes.try_copy(alloc)?)),
-            Change::Withdraw => Ok(Change::Withdraw),
-        }
-    }
-}
-
 impl RawEvent {
     /// An equal copy.
     pub fn try_copy(&self, alloc: Global) -> Result<RawEvent, AllocError>
@@ -84,7 +72,7 @@ impl RawEvent {
             RawEvent::Expire { shard } => Ok(RawEvent::Expire { shard: *shard }),
             RawEvent::Change { imsi, change } => Ok(RawEvent::Change {
                 imsi: *imsi,
-                change: change.try_copy(alloc)?,
+                change: *change,
             }),
         }
     }
@@ -106,7 +94,7 @@ impl Event {
             RawEvent::Expire { shard } => Ok(Event::Expire { shard: *shard }),
             RawEvent::Change { imsi, change } => Ok(Event::Change {
                 imsi: *imsi,
-                change: change.try_copy(alloc)?,
+                change: *change,
             }),
         }
     }
@@ -127,7 +115,7 @@ impl Event {
             Event::Expire { shard } => Ok(RawEvent::Expire { shard: *shard }),
             Event::Change { imsi, change } => Ok(RawEvent::Change {
                 imsi: *imsi,
-                change: change.try_copy(alloc)?,
+                change: *change,
             }),
         }
     }
@@ -146,7 +134,7 @@ impl Event {
             Event::Expire { shard } => Ok(Event::Expire { shard: *shard }),
             Event::Change { imsi, change } => Ok(Event::Change {
                 imsi: *imsi,
-                change: change.try_copy(alloc)?,
+                change: *change,
             }),
         }
     }

@@ -138,7 +138,7 @@ impl Stepper {
         ensures err { OnErr result (self.new ≡ self.old) }
         ensures same_shard { IsSameShard self.old self.new }
     {
-        match plan_close(self.alloc, &self.shard, destination) {
+        match plan_close(&self.shard, destination) {
             Some(plan) => self.shard.settle(plan, &[]),
             None => Ok(silent(self.alloc)),
         }

@@ -74,7 +74,7 @@ impl Stepper {
         ensures err { OnErr result (self.new ≡ self.old) }
         ensures same_shard { IsSameShard self.old self.new }
     {
-        let plan = self.plan_change(imsi, change)?;
+        let plan = self.plan_change(imsi, change);
         if !self.shard.has_room(&plan) {
             return Err(StepFault::NoRoom);
         }
@@ -82,12 +82,12 @@ impl Stepper {
     }
 
     /// The plan of an operator's change.
-    fn plan_change(&self, imsi: Imsi, change: &Change) -> Result<Plan, AllocError>
-        ensures { IfOk result (λ plan. IsPlan self.now (Changes imsi (said change.now)) [] plan) }
+    fn plan_change(&self, imsi: Imsi, change: &Change) -> Plan
+        ensures { IsPlan self.now (Changes imsi (said change.now)) [] result }
     {
         match change {
-            Change::Codes(codes) => plan_codes(self.alloc, &self.shard, imsi, codes.as_slice()),
-            Change::Withdraw => Ok(plan_withdrawal(self.alloc, &self.shard, imsi)),
+            Change::Codes(codes) => plan_codes(&self.shard, imsi, codes.list()),
+            Change::Withdraw => plan_withdrawal(&self.shard, imsi),
         }
     }
 }

@@ -105,7 +105,7 @@ const CODES: [(&str, Option<&str>); 6] = [
 
 /// Whether the field has these codes, or none.
 fn has_codes(alloc: Global, field: &str, wanted: Option<&str>) -> Result<bool, Fail> {
-    let codes = read_codes(alloc, field.as_bytes())?;
+    let codes = read_codes(field.as_bytes());
     match (codes, wanted) {
         (Some(codes), Some(wanted)) => Ok(codes.as_slice() == decode(alloc, wanted)?.as_slice()),
         (None, None) => Ok(true),

@@ -1,6 +1,6 @@
 //! An operator's change of one subscriber (profile; TS 29.002, 8.8.1 MAP-INSERT-SUBSCRIBER-DATA, 8.1.3 MAP_CANCEL_LOCATION).
 
-ghost use Rattle.std.specs.Prelude.{◌≡◌, ◌≤◌, ◌∷◌, [], IfSome, Some, None, option_map, length, List, ℕ, Option, option_copied};
+ghost use Rattle.std.specs.Prelude.{◌≡◌, ◌∷◌, [], IfSome, Some, None, option_map, List, ℕ, Option, option_copied};
 ghost use Rattle.machine.specs.State.{Local};
 ghost use Rattle.machine.specs.Events as events;
 ghost use Rattle.machine.specs.Sent.{SentBegin, SubscriberDataMngt};
@@ -18,7 +18,7 @@ use crate::cancels::{Cancelling, then_cancel};
 use crate::inserts::{inserting, subscriber_data};
 use crate::outcome::{After, DialogueChange, Opening, Outcome};
 use dialogues::{Dialogue, Kind};
-use hlr_types::{Imsi, Register, Tid};
+use hlr_types::{Imsi, Register, ShortList, Tid};
 use mapargs_loc::CancellationType;
 use mapctx::Context;
 use outgoing::{Addressed, SentMessage};
@@ -40,10 +40,9 @@ fn nothing() -> Outcome
 }
 
 /// The dialogue that carries new codes to a register.
-fn data_to(imsi: Imsi, register: &Register, codes: &[u8]) -> Opening
-    requires { length codes.now ≤ 32 }
+fn data_to(imsi: Imsi, register: &Register, codes: ShortList<32>) -> Opening
     ensures { (here : Local) → imsi ≡ here.imsi
-        → opening_of here.clock result ≡ data_to here (machine_register register.now) codes.now }
+        → opening_of here.clock result ≡ data_to here (machine_register register.now) codes }
 {
     let dialogue = Dialogue {
         subscriber: imsi,
@@ -57,11 +56,10 @@ fn data_to(imsi: Imsi, register: &Register, codes: &[u8]) -> Opening
 }
 
 /// Its Begin.
-fn data_begin(subscriber: &Record, register: &Register, codes: &[u8], new: Tid) -> Addressed
-    requires { length codes.now ≤ 32 }
+fn data_begin(subscriber: &Record, register: &Register, codes: ShortList<32>, new: Tid) -> Addressed
     ensures { (here : Local) → subscriber.now.imsi ≡ here.imsi → out result ∷ []
         ≡ send register.now.vlr (SentBegin new SubscriberDataMngt
-        (inserts (Some here.imsi) subscriber.now.msisdn codes.now)) }
+        (inserts (Some here.imsi) subscriber.now.msisdn codes)) }
 {
     Addressed {
         to: peer_of(&register.vlr),
@@ -74,12 +72,11 @@ fn data_begin(subscriber: &Record, register: &Register, codes: &[u8], new: Tid) 
 }
 
 /// New codes: an update in progress is no longer current, and a register that is not purged gets the data.
-fn codes_to(subscriber: &Record, codes: &[u8], new: Tid) -> Outcome
-    requires { length codes.now ≤ 32 }
+fn codes_to(subscriber: &Record, codes: ShortList<32>, new: Tid) -> Outcome
     ensures leaves { (here : Local) → subscriber.now.imsi ≡ here.imsi
         → here.record_of ≡ Some (machine_subscriber subscriber.now)
-        → outcome_of here None codes.now result
-        ≡ codes_to here (machine_subscriber subscriber.now) codes.now new
+        → outcome_of here None codes result
+        ≡ codes_to here (machine_subscriber subscriber.now) codes new
         (option_map machine_register subscriber.now.register) }
     ensures writable { CanBeWritten result.after (Some subscriber.now) }
 {
@@ -101,12 +98,11 @@ fn codes_to(subscriber: &Record, codes: &[u8], new: Tid) -> Outcome
 
 /// An operator sets a subscriber's codes. If the subscriber is unknown or withdrawn nothing changes. A dialogue that opens has
 /// the id `new`.
-pub fn new_codes(subscriber: Option<&Record>, codes: &[u8], new: Tid) -> Outcome
-    requires { length codes.now ≤ 32 }
+pub fn new_codes(subscriber: Option<&Record>, codes: ShortList<32>, new: Tid) -> Outcome
     ensures leaves { (here : Local) → IfSome subscriber.entry (λ s. s.now.imsi ≡ here.imsi)
         → here.record_of ≡ known subscriber.entry
-        → outcome_of here None codes.now result
-        ≡ changes here (events.Codes codes.now) (known subscriber.entry) new }
+        → outcome_of here None codes result
+        ≡ changes here (events.Codes codes) (known subscriber.entry) new }
     ensures writable { CanBeWritten result.after (option_copied subscriber.entry) }
 {
     match subscriber {

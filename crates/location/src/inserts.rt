@@ -23,25 +23,27 @@ fn insert_count(codes: &[u8]) -> u8
 }
 
 /// A dialogue that opens with inserts of these codes.
-pub(crate) fn inserting(dialogue: Dialogue, codes: &[u8]) -> Opening
-    requires { length codes.now ≤ 32 }
+pub(crate) fn inserting(dialogue: Dialogue, codes: ShortList<32>) -> Opening
     ensures { (clock : ℕ) → opening_of clock result
-        ≡ dialogue_with (inserts_invoked clock codes.now) dialogue }
+        ≡ dialogue_with (inserts_invoked clock codes) dialogue }
 {
     Opening {
         dialogue,
-        invoked: insert_count(codes),
+        invoked: insert_count(codes.as_slice()),
     }
 }
 
 /// The inserts. They carry the IMSI if no update names the subscriber.
-pub(crate) fn subscriber_data(imsi: Option<Imsi>, msisdn: IsdnAddress, codes: &[u8]) -> Components
-    requires { length codes.now ≤ 32 }
-    ensures { components result ≡ inserts imsi msisdn codes.now }
+pub(crate) fn subscriber_data(
+    imsi: Option<Imsi>,
+    msisdn: IsdnAddress,
+    codes: ShortList<32>,
+) -> Components
+    ensures { components result ≡ inserts imsi msisdn codes }
 {
     Components::Data(SubscriberData {
         imsi,
         msisdn,
-        codes: ShortList::from_slice(codes),
+        codes,
     })
 }

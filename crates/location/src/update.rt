@@ -76,7 +76,7 @@ fn data_sent(source: Source, rejects: Vec<Rejection>, subscriber: &Record, new: 
             destination: origin,
             context: Some(context),
             rejects,
-            components: subscriber_data(None, subscriber.msisdn, &subscriber.codes),
+            components: subscriber_data(None, subscriber.msisdn, subscriber.codes),
         },
     }
 }
@@ -111,7 +111,7 @@ fn update_opens(who: Initiator, register: Register, subscriber: &Record, new: Ti
             purged: subscriber.purged,
             current: Some(new),
         },
-        dialogue: DialogueChange::Opens(inserting(dialogue, &subscriber.codes)),
+        dialogue: DialogueChange::Opens(inserting(dialogue, subscriber.codes)),
         message: Some(data_sent(source, rejects, subscriber, new)),
         cancel: None,
     }

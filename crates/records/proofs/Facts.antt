@@ -1,6 +1,6 @@
 -- What is read has the facts of every record.
 use Rattle.std.proofs.Common.{◌≡◌, ℕ, ◌∷◌, Bool, false, List, [], refl, sym, subst, ◌∙◌, arith, inl, inr}
-use Rattle.std.specs.Prelude.{◌&&◌, is_some, Option, Some, None, IfSome, option_map}
+use Rattle.std.specs.Prelude.{◌&&◌, is_some, Option, Some, None, IfSome}
 use Rattle.std.specs.List.{AllByRecursion}
 use Rattle.hlr_types.specs.declared.register.Register.{Register}
 use Rattle.hlr_types.specs.Digits.{AreSomeDigits}
@@ -54,15 +54,13 @@ keeps imsi msisdn codes roam register w s e octets serves =
 
 -- ---- a field of codes
 
-pub codes_read : {A : Type 0} (field : List ℕ) (items : A → List ℕ) (read : Option A) → option_map items read ≡ codes_in field
-    → IfSome read (λ codes. IsCodes field (items codes))
-codes_read field items None e = tt
-codes_read field items (Some codes) e = codes_found field (items codes) (sym e)
+pub codes_read : (field : List ℕ) (read : Option (List ℕ)) → read ≡ codes_in field → IfSome read (λ codes. IsCodes field codes)
+codes_read field None e = tt
+codes_read field (Some codes) e = codes_found field codes (sym e)
 
-pub codes_read_allowed : {A : Type 0} (field : List ℕ) (items : A → List ℕ) (read : Option A) → option_map items read ≡ codes_in field
-    → IfSome read (λ codes. AreAllowed (items codes))
-codes_read_allowed field items None e = tt
-codes_read_allowed field items (Some codes) e = codes_allowed field (items codes) (codes_found field (items codes) (sym e))
+pub codes_read_allowed : (field : List ℕ) (read : Option (List ℕ)) → read ≡ codes_in field → IfSome read (λ codes. AreAllowed codes)
+codes_read_allowed field None e = tt
+codes_read_allowed field (Some codes) e = codes_allowed field codes (codes_found field codes (sym e))
 
 -- ---- a record of its fields
 

@@ -1,6 +1,7 @@
 -- What is loaded is fresh, record by record.
 use Rattle.std.proofs.Common.{◌≡◌, ℕ, Bool, true, false, cond, List, Option, Some, None, sym, subst, ◌∙◌}
-use Rattle.std.specs.Prelude.{Result, Ok, Err, OnOk, OnErr}
+use Rattle.std.specs.Prelude.{Result, Ok, Err, IfOk, OnErr}
+use Rattle.std.specs.Bool.{OnTrue, OnFalse}
 use Rattle.std.specs.FinMap as map
 use Rattle.std.specs.Ordering.{eq_by_cmp}
 use Rattle.records.specs.declared.version.Version.{Version}
@@ -34,7 +35,8 @@ pub fresh_empty : AreFresh map.empty
 fresh_empty = λ q s e. absurd (cc (sym (map.get-empty digits_cmp q) ∙ e))
 
 -- one more fresh record, unless memory runs out
-pub fresh_added : {A E : Type 0} (r : Result A E) (m n : RecordMap) (v : Subscriber) → OnOk r (n ≡ map.insert m v.imsi v) → OnErr r (n ≡ m) → AreFresh m
-    → IsFresh v → AreFresh n
-fresh_added (Ok a) m n v ok err are fresh = subst AreFresh (sym ok) (fresh_insert m v.imsi v are fresh)
-fresh_added (Err e) m n v ok err are fresh = subst AreFresh (sym err) are
+pub fresh_added : {E : Type 0} (r : Result Bool E) (m n : RecordMap) (v : Subscriber) → IfOk r (λ is_new. OnTrue is_new (n ≡ map.insert m v.imsi v))
+    → IfOk r (λ is_new. OnFalse is_new (n ≡ m)) → OnErr r (n ≡ m) → AreFresh m → IsFresh v → AreFresh n
+fresh_added (Ok true) m n v added stays err are fresh = subst AreFresh (sym added) (fresh_insert m v.imsi v are fresh)
+fresh_added (Ok false) m n v added stays err are fresh = subst AreFresh (sym stays) are
+fresh_added (Err e) m n v added stays err are fresh = subst AreFresh (sym err) are

@@ -20,6 +20,5 @@ pub mod Readings
 pub mod WrittenLemmas
 pub mod SavedLaws
 pub mod SameLemmas
-pub mod CodesLemmas
 pub mod Computed
 pub mod FilesRead

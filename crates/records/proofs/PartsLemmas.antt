@@ -1,6 +1,6 @@
 -- Where a text is cut.
-use Rattle.std.proofs.Common.{◌≡◌, ℕ, zero, suc, ◌+◌, ◌<◌, true, List, [], ◌∷◌, length, get_or, take, drop, refl, sym, ap, ◌∙◌, arith, add-one}
-use Rattle.std.specs.Prelude.{◌==◌}
+use Rattle.std.proofs.Common.{◌≡◌, ℕ, zero, suc, ◌+◌, ◌<◌, true, false, List, [], ◌∷◌, ◌++◌, length, get_or, take, drop, refl, sym, ap, ◌∙◌, arith, add-one}
+use Rattle.std.specs.Prelude.{◌==◌, nat_lt}
 use Rattle.std.specs.List.{onto_first, count_by, list_any}
 use Rattle.std.proofs.lemmas.Bool.{eq-eqb, eqb-true, ne_eqb}
 use Rattle.memchr.specs.Find.{IsFirstByte, is_byte}
@@ -66,4 +66,13 @@ pub codes_after-repeated : (found : List ℕ) (part : List ℕ) (more : List (Li
 unfolding codes_after
 codes_after-repeated found part more code total is has so_far =
     let one : codes_after found (part ∷ more) ≡ None = rw (is, has) refl in
+    sym one ∙ so_far
+
+-- a code that is new
+pub codes_after-next : (found : List ℕ) (part : List ℕ) (more : List (List ℕ)) (code : ℕ) (total : Option (List ℕ)) → octet_in part ≡ Some code
+    → list_any (λ c. c == code) found ≡ false → nat_lt (length found) 32 ≡ true
+    → codes_after found (part ∷ more) ≡ total → codes_after (found ++ code ∷ []) more ≡ total
+unfolding codes_after
+codes_after-next found part more code total is fresh room so_far =
+    let one : codes_after found (part ∷ more) ≡ codes_after (found ++ code ∷ []) more = rw (is, fresh, room) refl in
     sym one ∙ so_far

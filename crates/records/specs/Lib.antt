@@ -6,6 +6,7 @@ pub mod Fresh
 pub mod Spelling
 pub mod File
 pub mod Loaded
+pub mod Loading
 pub mod Ordered
 pub mod Reading
 pub mod Written

@@ -7,7 +7,7 @@ abbrev pub seen : Inside → Subscriber
 seen r = record {
   imsi = r.imsi;
   msisdn = r.msisdn;
-  codes = r.codes.items;
+  codes = r.codes;
   roam = prefixes_of r.roam;
   register = r.register;
   purged = r.purged;

@@ -1,16 +1,16 @@
 //! A subscriber's teleservice codes.
 
-ghost use Rattle.std.specs.Prelude.{◌≡◌, List, ℕ, IfOk, IfSome, Some};
+ghost use Rattle.std.specs.Prelude.{◌≡◌, List, ℕ, IfSome, Some};
 ghost use Rattle.records.specs.Subscriber.{AreAllowed};
 
 use crate::codes::read_codes;
-use std::alloc::{AllocError, Global};
+use hlr_types::ShortList;
 use std::marker::Model;
 
 /// Teleservice codes that a subscriber may have (TS 29.002, TeleserviceCode): at most 32, all different (profile).
-#[derive(Debug, Drop)]
+#[derive(Clone, Copy, Debug)]
 pub struct Codes {
-    codes: Vec<u8>,
+    codes: ShortList<32>,
 }
 
 impl Model for Codes {
@@ -19,9 +19,11 @@ impl Model for Codes {
 
     ghost Value = { List ℕ };
 
-    ghost view = { λ c. c.codes.items };
+    ghost view = { λ c. c.codes };
 
-    ghost invariant = { λ c. AreAllowed c.codes.items };
+    ghost invariant = { λ c. AreAllowed c.codes };
+
+    ghost inverse = { λ v. record { codes = v } };
 }
 
 impl Codes {
@@ -29,15 +31,22 @@ impl Codes {
 
     /// The codes in a field of a records file: `-`, or 1 to 32 different octets of two hexadecimal digits, with commas. `None` if
     /// it is neither.
-    pub fn read(alloc: Global, field: &[u8]) -> Result<Option<Codes>, AllocError>
-        ensures found { IfOk result (λ read. IfSome read (λ codes. IsCodes field.now codes)) }
-        ensures only { (codes : List ℕ) → IsCodes field.now codes
-            → IfOk result (λ read. read ≡ Some codes) }
+    pub fn read(field: &[u8]) -> Option<Codes>
+        ensures found { IfSome result (λ codes. IsCodes field.now codes) }
+        ensures only { (codes : List ℕ) → IsCodes field.now codes → result ≡ Some codes }
     {
-        let Some(codes) = read_codes(alloc, field)? else {
-            return Ok(None);
+        let Some(codes) = read_codes(field) else {
+            return None;
         };
-        Ok(Some(Codes { codes }))
+        Some(Codes { codes })
+    }
+
+    /// The codes, in their order.
+    pub fn list(&self) -> ShortList<32>
+        ensures value { result ≡ self.now }
+        ensures allowed { AreAllowed result }
+    {
+        self.codes
     }
 
     /// The codes, in their order.
@@ -46,14 +55,5 @@ impl Codes {
         ensures allowed { AreAllowed result.now }
     {
         self.codes.as_slice()
-    }
-
-    /// An equal copy.
-    pub fn try_copy(&self, alloc: Global) -> Result<Codes, AllocError>
-        ensures { IfOk result (λ copy. copy ≡ self.now) }
-    {
-        Ok(Codes {
-            codes: self.codes.to_vec(alloc)?,
-        })
     }
 }

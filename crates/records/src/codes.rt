@@ -1,6 +1,6 @@
 //! The field of teleservice codes.
 
-ghost use Rattle.std.specs.Prelude.{◌≡◌, ◌==◌, ℕ, List, [], IfOk, IfSome, Some, option_map};
+ghost use Rattle.std.specs.Prelude.{◌≡◌, ◌==◌, ℕ, List, [], IfSome, Some};
 ghost use Rattle.std.specs.List.{list_any};
 ghost use Rattle.records.specs.File.{parts};
 ghost use Rattle.records.specs.Spelling.{IsCodes};
@@ -9,55 +9,53 @@ ghost use Rattle.records.specs.Reading.{octet_in, codes_in, codes_after};
 
 use crate::pieces::cut;
 use hex::FromHex;
-use std::alloc::{AllocError, Global};
+use hlr_types::ShortList;
 
 /// How many codes a subscriber may have (profile).
 const MAX_CODES: usize = 32;
 
 /// The teleservice codes in a field of a records file: `-`, or 1 to 32 different octets of two hexadecimal digits, with
 /// commas. `None` if it is neither.
-pub fn read_codes(alloc: Global, field: &[u8]) -> Result<Option<Vec<u8>>, AllocError>
+pub fn read_codes(field: &[u8]) -> Option<ShortList<32>>
     // The result is exactly what the field stands for.
-    ensures found { IfOk result (λ read. IfSome read (λ codes. IsCodes field.now codes.items)) }
-    ensures only { (codes : List ℕ) → IsCodes field.now codes
-        → IfOk result (λ read. option_map (λ c. c.items) read ≡ Some codes) }
-    ensures allowed { IfOk result (λ read. IfSome read (λ codes. AreAllowed codes.items)) }
+    ensures found { IfSome result (λ codes. IsCodes field.now codes) }
+    ensures only { (codes : List ℕ) → IsCodes field.now codes → result ≡ Some codes }
+    ensures allowed { IfSome result (λ codes. AreAllowed codes) }
 {
-    codes_field(alloc, field)
+    codes_field(field)
 }
 
 #[tactic(auto, unfolding(crate::specs::Reading::codes_in))]
-pub(crate) fn codes_field(alloc: Global, field: &[u8]) -> Result<Option<Vec<u8>>, AllocError>
-    ensures { IfOk result (λ read. option_map (λ codes. codes.items) read ≡ codes_in field.now) }
+pub(crate) fn codes_field(field: &[u8]) -> Option<ShortList<32>>
+    ensures { result ≡ codes_in field.now }
 {
     if field == b"-".as_slice() {
-        return Ok(Some(Vec::new(alloc)));
+        return Some(ShortList::new());
     }
-    listed_codes(alloc, field)
+    listed_codes(field)
 }
 
 #[tactic(auto, unfolding(crate::specs::Reading::codes_after))]
-fn listed_codes(alloc: Global, field: &[u8]) -> Result<Option<Vec<u8>>, AllocError>
-    ensures { IfOk result (λ read. option_map (λ codes. codes.items) read
-        ≡ codes_after [] (parts 44 field.now)) }
+fn listed_codes(field: &[u8]) -> Option<ShortList<32>>
+    ensures { result ≡ codes_after [] (parts 44 field.now) }
 {
-    let mut codes = Vec::new(alloc);
+    let mut codes = ShortList::new();
     let mut rest = Some(field);
     while let Some(text) = rest {
         let (part, after) = cut(text, b',');
         let Some(code) = octet(part) else {
-            return Ok(None);
+            return None;
         };
-        if is_among(code, &codes) {
-            return Ok(None);
+        if is_among(code, codes.as_slice()) {
+            return None;
         }
         if codes.len() >= MAX_CODES {
-            return Ok(None);
+            return None;
         }
-        codes.push(code)?;
+        codes.push(code);
         rest = after;
     }
-    Ok(Some(codes))
+    Some(codes)
 }
 
 /// The octet that two hexadecimal digits stand for.

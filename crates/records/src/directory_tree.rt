@@ -1,6 +1,6 @@
 //! The directory while a records file is read.
 
-ghost use Rattle.std.specs.Prelude.{◌≡◌, OnOk, OnErr, IfOk, is_some};
+ghost use Rattle.std.specs.Prelude.{◌≡◌, OnOk, OnErr, IfOk, is_some, not};
 ghost use Rattle.std.specs.FinMap as map;
 
 use crate::directory::Directory;
@@ -38,20 +38,14 @@ impl DirectoryTree {
         }
     }
 
-    /// Puts an IMSI at its MSISDN.
-    pub(crate) fn add(&mut self, msisdn: IsdnAddress, imsi: Imsi) -> Result<(), AllocError>
+    /// Puts an IMSI at its MSISDN, and tells whether the MSISDN is new.
+    pub(crate) fn add(&mut self, msisdn: IsdnAddress, imsi: Imsi) -> Result<bool, AllocError>
+        ensures is_new { IfOk result (λ is_new. is_new ≡ not (is_some (map.get self.old msisdn))) }
         ensures ok { OnOk result (self.new ≡ map.insert self.old msisdn imsi) }
         ensures err { OnErr result (self.new ≡ self.old) }
     {
-        self.imsis.insert(msisdn, imsi)?;
-        Ok(())
-    }
-
-    /// Whether there is a subscriber with this MSISDN.
-    pub(crate) fn has(&self, msisdn: &IsdnAddress) -> bool
-        ensures { result ≡ is_some (map.get self.now msisdn.now) }
-    {
-        self.imsis.contains_key(msisdn)
+        let before = self.imsis.insert(msisdn, imsi)?;
+        Ok(before.is_none())
     }
 
     /// The directory of a register.

@@ -107,7 +107,7 @@ fn record_from(alloc: Global, fields: Fields, withdrawn: bool) -> Result<Option<
     let Some(msisdn) = Digits::from_text(fields.msisdn) else {
         return Ok(None);
     };
-    let Some(codes) = codes_field(alloc, fields.codes)? else {
+    let Some(codes) = codes_field(fields.codes) else {
         return Ok(None);
     };
     let Some(roam) = roam_field(alloc, fields.roam)? else {
@@ -119,7 +119,7 @@ fn record_from(alloc: Global, fields: Fields, withdrawn: bool) -> Result<Option<
     if has_stayed(withdrawn, &register) {
         return Ok(None);
     }
-    are_octets(&codes);
+    are_octets(codes.as_slice());
     register_numbers(&register);
     Ok(Some(Record {
         imsi,

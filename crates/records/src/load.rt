@@ -84,13 +84,10 @@ fn load_lines(
         let Some(subscriber) = read_record(alloc, version, line)? else {
             return Err(RecordsFault::BadLine(number));
         };
-        if loading.has_imsi_of(&subscriber) {
+        let is_new = loading.add(subscriber)?;
+        if !is_new {
             return Err(RecordsFault::Twice(number));
         }
-        if loading.has_msisdn_of(&subscriber) {
-            return Err(RecordsFault::Twice(number));
-        }
-        loading.add(subscriber)?;
         before = number;
         rest = after;
     }

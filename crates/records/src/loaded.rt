@@ -1,7 +1,7 @@
 //! The contents of a records file.
 
-ghost use Rattle.std.specs.Prelude.{◌≡◌, ◌<◌, None, IfOk, OnOk, is_some};
-ghost use Rattle.std.specs.FinMap as map;
+ghost use Rattle.std.specs.Prelude.{◌≡◌, ◌<◌, None, IfOk};
+ghost use Rattle.std.specs.Bool.{OnTrue};
 ghost use Rattle.std.specs.Arc.{arc_value};
 
 use crate::directory::Directory;
@@ -109,6 +109,7 @@ impl Model for Loading {
 
 impl Loading {
     ghost use Rattle.records.specs.Loaded.{with_record, nobody};
+    ghost use Rattle.records.specs.Loading.{is_new};
 
     /// The HLR number, no record, and room for so many.
     pub(crate) fn with_room(
@@ -125,26 +126,20 @@ impl Loading {
         })
     }
 
-    pub(crate) fn has_imsi_of(&self, subscriber: &Record) -> bool
-        ensures { result ≡ is_some (map.get self.now.records subscriber.now.imsi) }
-    {
-        self.records.has(&subscriber.imsi)
-    }
-
-    pub(crate) fn has_msisdn_of(&self, subscriber: &Record) -> bool
-        ensures { result ≡ is_some (map.get self.now.directory subscriber.now.msisdn) }
-    {
-        self.directory.has(&subscriber.msisdn)
-    }
-
-    /// Adds a record whose IMSI is new. After an error the value must not be used.
-    pub(crate) fn add(&mut self, subscriber: Record) -> Result<(), AllocError>
+    /// Adds a record if its IMSI and its MSISDN are new, and tells whether they are. After an error, or where one is not
+    /// new, the value must not be used.
+    pub(crate) fn add(&mut self, subscriber: Record) -> Result<bool, AllocError>
         requires unmarked { subscriber.current ≡ None }
-        requires new { map.get self.old.records subscriber.imsi ≡ None }
-        ensures { OnOk result (self.new ≡ with_record self.old subscriber) }
+        ensures is_new { IfOk result (λ added. added ≡ is_new self.old subscriber) }
+        ensures added { IfOk result
+            (λ added. OnTrue added (self.new ≡ with_record self.old subscriber)) }
     {
-        self.directory.add(subscriber.msisdn, subscriber.imsi)?;
-        self.records.add(subscriber)
+        let msisdn = subscriber.msisdn;
+        let imsi = subscriber.imsi;
+        if !self.records.add(subscriber)? {
+            return Ok(false);
+        }
+        self.directory.add(msisdn, imsi)
     }
 
     /// The whole contents, with the directory in its shared form.

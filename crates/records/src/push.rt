@@ -187,7 +187,7 @@ fn push_fields(out: &mut String, subscriber: &Record) -> Result<(), AllocError>
 {
     push_identity(out, &subscriber.imsi, &subscriber.msisdn)?;
     out.push_str(" ")?;
-    push_data(out, &subscriber.codes, &subscriber.roam)?;
+    push_data(out, subscriber.codes.as_slice(), &subscriber.roam)?;
     out.push_str(" ")?;
     push_register(out, &subscriber.register, subscriber.purged)?;
     Ok(())

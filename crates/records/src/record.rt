@@ -1,8 +1,8 @@
 //! A subscriber's record.
 
-use crate::numbers::register_numbers;
+use crate::numbers::{are_octets, register_numbers};
 use crate::roam::Roam;
-use hlr_types::{Imsi, IsdnAddress, Register, Tid};
+use hlr_types::{Imsi, IsdnAddress, Register, ShortList, Tid};
 use std::alloc::AllocError;
 use std::marker::Model;
 
@@ -15,7 +15,7 @@ pub struct Record {
     pub imsi: Imsi,
     pub msisdn: IsdnAddress,
     /// The teleservice codes (TS 29.002, TeleserviceCode), in the order of the file.
-    pub codes: Vec<u8>,
+    pub codes: ShortList<32>,
     pub roam: Roam,
     /// The serving register.
     pub register: Option<Register>,
@@ -51,7 +51,7 @@ impl Clone for Record {
         Ok(Record {
             imsi: self.imsi,
             msisdn: self.msisdn,
-            codes: self.codes.clone()?,
+            codes: self.codes,
             roam: self.roam.clone()?,
             register: self.register,
             purged: self.purged,
@@ -77,11 +77,12 @@ impl Record {
     }
 
     /// Sets the codes, and whether the subscriber is withdrawn.
-    pub(crate) fn allow(&mut self, codes: Vec<u8>, withdrawn: bool)
-        requires codes { AreAllowed codes.items }
+    pub(crate) fn allow(&mut self, codes: ShortList<32>, withdrawn: bool)
+        requires codes { AreAllowed codes }
         requires place { IsPlace withdrawn self.old.register self.old.purged self.old.current }
-        ensures { self.new ≡ allowed self.old codes.items withdrawn }
+        ensures { self.new ≡ allowed self.old codes withdrawn }
     {
+        are_octets(codes.as_slice());
         self.codes = codes;
         self.withdrawn = withdrawn;
     }

@@ -10,7 +10,7 @@ ghost use Rattle.records.specs.Parts.{AreParts, with_one};
 use crate::record::Record;
 use crate::same::are_same;
 use crate::shard::shard_of;
-use hlr_types::{Imsi, Register, Tid};
+use hlr_types::{Imsi, Register, ShortList, Tid};
 use std::alloc::{AllocError, Global};
 use std::marker::Model;
 
@@ -104,13 +104,13 @@ impl Records {
     }
 
     /// Sets the codes of a record, and whether it is withdrawn. Does not allocate.
-    pub fn put(&mut self, imsi: &Imsi, codes: Vec<u8>, withdrawn: bool)
+    pub fn put(&mut self, imsi: &Imsi, codes: ShortList<32>, withdrawn: bool)
         requires known { IsSome (map.get self.old imsi.now) }
-        requires codes { AreAllowed codes.items }
+        requires codes { AreAllowed codes }
         requires place { (s : Subscriber) → map.get self.old imsi.now ≡ Some s
             → IsPlace withdrawn s.register s.purged s.current }
         ensures { (s : Subscriber) → map.get self.old imsi.now ≡ Some s
-            → self.new ≡ map.insert self.old imsi.now (allowed s codes.items withdrawn) }
+            → self.new ≡ map.insert self.old imsi.now (allowed s codes withdrawn) }
     {
         let Some(at) = place_of(&self.in_order, imsi) else {
             return;
@@ -200,13 +200,24 @@ fn count_of(records: &[Record], shard: u8) -> usize
         .count()
 }
 
+/// How many records each shard has.
+fn counts_of(records: &[Record]) -> [usize; 16] {
+    let mut counts = [0usize; 16];
+    for record in records {
+        let shard = usize::from(shard_of(&record.imsi));
+        counts[shard] = counts[shard].saturating_add(1);
+    }
+    counts
+}
+
 /// An empty map for each shard, with room for those of these records that are its own.
 fn no_records(alloc: Global, records: &[Record]) -> Result<Vec<Records>, AllocError>
     ensures { IfOk result (λ parts. parts.items ≡ replicate 16 map.empty) }
 {
+    let counts = counts_of(records);
     let mut parts = Vec::with_capacity(alloc, 16)?;
     for shard in 0..16u8 {
-        parts.push(Records::with_room(alloc, count_of(records, shard))?)?;
+        parts.push(Records::with_room(alloc, counts[usize::from(shard)])?)?;
     }
     Ok(parts)
 }

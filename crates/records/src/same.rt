@@ -32,7 +32,7 @@ impl Record {
     {
         self.imsi == other.imsi
             && self.msisdn == other.msisdn
-            && self.codes.as_slice() == other.codes.as_slice()
+            && self.codes == other.codes
             && same_roam(&self.roam, &other.roam)
             && self.register == other.register
             && self.purged == other.purged

@@ -1,6 +1,7 @@
 //! The records while a records file is read.
 
-ghost use Rattle.std.specs.Prelude.{◌≡◌, None, IfOk, OnOk, OnErr, is_some};
+ghost use Rattle.std.specs.Prelude.{◌≡◌, IfOk, OnErr, is_some, not};
+ghost use Rattle.std.specs.Bool.{OnTrue, OnFalse};
 ghost use Rattle.std.specs.FinMap as map;
 
 use crate::record::Record;
@@ -45,23 +46,21 @@ impl Unordered {
         })
     }
 
-    /// Whether there is a record with this IMSI.
-    pub(crate) fn has(&self, imsi: &Imsi) -> bool
-        ensures { result ≡ is_some (map.get self.now imsi.now) }
-    {
-        self.imsis.contains(imsi)
-    }
-
-    /// Adds a record whose IMSI is new.
-    pub(crate) fn add(&mut self, subscriber: Record) -> Result<(), AllocError>
-        requires { map.get self.old subscriber.imsi ≡ None }
-        ensures ok { OnOk result (self.new ≡ map.insert self.old subscriber.imsi subscriber) }
+    /// Adds a record if its IMSI is new, and tells whether it is.
+    pub(crate) fn add(&mut self, subscriber: Record) -> Result<bool, AllocError>
+        ensures is_new { IfOk result
+            (λ is_new. is_new ≡ not (is_some (map.get self.old subscriber.imsi))) }
+        ensures added { IfOk result (λ is_new.
+            OnTrue is_new (self.new ≡ map.insert self.old subscriber.imsi subscriber)) }
+        ensures stays { IfOk result (λ is_new. OnFalse is_new (self.new ≡ self.old)) }
         ensures err { OnErr result (self.new ≡ self.old) }
     {
         self.records.reserve(1)?;
-        self.imsis.insert(subscriber.imsi)?;
-        self.records.push_reserved(subscriber);
-        Ok(())
+        let is_new = self.imsis.insert(subscriber.imsi)?;
+        if is_new {
+            self.records.push_reserved(subscriber);
+        }
+        Ok(is_new)
     }
 
     /// The records in the order of their IMSIs.

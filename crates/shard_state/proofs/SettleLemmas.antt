@@ -92,11 +92,11 @@ module _ (s : ShardState) (cs : List (Component Parameter)) (named : Named) (new
       }
 
 pub settles : (s : ShardState) (cs : List (Component Parameter)) (plan : Plan) (records : RecordMap) (d : OpenDialogues) → CanSettle s plan
-    → records_of records ≡ written plan.codes.items plan.outcome.after plan.imsi (records_of s.records)
+    → records_of records ≡ written plan.codes plan.outcome.after plan.imsi (records_of s.records)
     → dialogues_of d ≡ changed s.clock cs plan.named plan.outcome.dialogue plan.new (dialogues_of s.dialogues)
     → state_of (shard_of_fields s.shard s.clock records d s.directory s.hlr) ≡ state_after_plan s cs plan
 settles s cs plan records d can written_so changed_so =
-    state_after s cs plan.named plan.new plan.codes.items plan.outcome records d plan.imsi can.concerned written_so changed_so
+    state_after s cs plan.named plan.new plan.codes plan.outcome records d plan.imsi can.concerned written_so changed_so
 
 -- ---- from what the calls tell
 
@@ -105,14 +105,14 @@ module _ (before s : ShardState) (plan : Plan) (clock : ℕ) (is : before ≡ s)
   next = subst (λ (t : ShardState). IsNext t.dialogues (id_of plan.named) plan.new) (sym is) (is_next s plan.named plan.new can.next_id)
 
   pub settled_by : (cs : List (Component Parameter)) (records : RecordMap) (d : OpenDialogues)
-      → records_of records ≡ written plan.codes.items plan.outcome.after plan.imsi (records_of before.records)
+      → records_of records ≡ written plan.codes plan.outcome.after plan.imsi (records_of before.records)
       → ((new : List ℕ) → IsNext before.dialogues (id_of plan.named) new
       → dialogues_of d ≡ changed clock cs plan.named plan.outcome.dialogue new (dialogues_of before.dialogues))
       → state_of (record before { records = records; dialogues = d }) ≡ state_after_plan s cs plan
   settled_by cs records d written_so changed_so =
       ap (λ (t : ShardState). state_of (record t { records = records; dialogues = d })) is
       ∙ settles s cs plan records d can
-      (written_so ∙ ap (λ (t : ShardState). written plan.codes.items plan.outcome.after plan.imsi (records_of t.records)) is)
+      (written_so ∙ ap (λ (t : ShardState). written plan.codes plan.outcome.after plan.imsi (records_of t.records)) is)
       (changed_so plan.new next
       ∙ ap (λ k. changed k cs plan.named plan.outcome.dialogue plan.new (dialogues_of before.dialogues)) at
       ∙ ap (λ (t : ShardState). changed s.clock cs plan.named plan.outcome.dialogue plan.new (dialogues_of t.dialogues)) is)

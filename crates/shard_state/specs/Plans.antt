@@ -39,7 +39,7 @@ here s plan = seen (state_of s) s.shard plan.imsi
 
 -- the procedure's outcome
 abbrev pub plan_outcome : ShardState → List (Component Parameter) → Plan → Outcome
-plan_outcome s components plan = outcome_of (here s plan) (named_as s components plan.named) plan.codes.items plan.outcome
+plan_outcome s components plan = outcome_of (here s plan) (named_as s components plan.named) plan.codes plan.outcome
 
 -- the state of the machine after
 abbrev pub state_after_plan : ShardState → List (Component Parameter) → Plan → machine.State
@@ -69,7 +69,7 @@ IsNextId s named new = after (id_of named)
 pub record CanSettle (s : ShardState) (plan : Plan) : Type 0 where
   pub is_open : IfSome (id_of plan.named) (λ id. dialogues_of s.dialogues id ≢ None)
   pub writable : CanBeWritten plan.outcome.after (record_at s.records plan.imsi)
-  pub codes : plan.outcome.after ≡ NewCodes → AreAllowed plan.codes.items
+  pub codes : plan.outcome.after ≡ NewCodes → AreAllowed plan.codes
   pub forgetting : IsForgetting plan.named plan.outcome.dialogue
   pub next_id : IsNextId s plan.named plan.new
   pub concerned : plan.imsi ≡ None → (plan.named ≡ Nothing) × (IsOpening plan.outcome.dialogue → ⊥)

@@ -2,7 +2,7 @@
 
 ghost use Rattle.std.specs.Prelude.{◌≡◌, ◌↔◌, IsTrue, None};
 
-use hlr_types::{Imsi, Peer, RemoteId, Tid};
+use hlr_types::{Imsi, Peer, RemoteId, ShortList, Tid};
 use location::{DialogueChange, Outcome};
 
 /// The open dialogue that an event names.
@@ -28,7 +28,7 @@ pub struct Plan {
     pub subject: Option<Imsi>,
     pub named: Named,
     pub new: Tid,
-    pub codes: Vec<u8>,
+    pub codes: ShortList<32>,
     pub outcome: Outcome,
 }
 

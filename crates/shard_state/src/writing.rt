@@ -9,7 +9,7 @@ ghost use Rattle.location.specs.Writing.{CanBeWritten};
 ghost use Rattle.shard_state.specs.Changing.{written};
 ghost use Rattle.shard_state.specs.Shards.{record_at, records_of};
 
-use hlr_types::Imsi;
+use hlr_types::{Imsi, ShortList};
 use location::After;
 use records::Records;
 
@@ -29,12 +29,12 @@ fn purge(records: &mut Records, imsi: &Imsi)
 }
 
 /// Sets the operator's new codes, and clears the current mark.
-fn recode(records: &mut Records, imsi: &Imsi, codes: Vec<u8>)
+fn recode(records: &mut Records, imsi: &Imsi, codes: ShortList<32>)
     requires known { IsSome (finite.get records.old imsi.now) }
-    requires codes { AreAllowed codes.items }
+    requires codes { AreAllowed codes }
     ensures { records_of records.new
         ≡ put (records_of records.old) imsi.now
-        (after_of codes.items After.NewCodes (records_of records.old imsi.now)) }
+        (after_of codes After.NewCodes (records_of records.old imsi.now)) }
 {
     let Some(found) = records.get(imsi) else {
         return;
@@ -47,10 +47,10 @@ fn recode(records: &mut Records, imsi: &Imsi, codes: Vec<u8>)
 }
 
 /// Writes the change of a subscriber's record, if any. Does not allocate.
-pub(crate) fn write(records: &mut Records, imsi: Option<Imsi>, after: After, codes: Vec<u8>)
+pub(crate) fn write(records: &mut Records, imsi: Option<Imsi>, after: After, codes: ShortList<32>)
     requires writable { CanBeWritten after (record_at records.old imsi) }
-    requires codes { after ≡ After.NewCodes → AreAllowed codes.items }
-    ensures { records_of records.new ≡ written codes.items after imsi (records_of records.old) }
+    requires codes { after ≡ After.NewCodes → AreAllowed codes }
+    ensures { records_of records.new ≡ written codes after imsi (records_of records.old) }
 {
     let Some(imsi) = imsi else {
         return;

@@ -114,9 +114,9 @@ fn begun(alloc: Global, shard: &ShardParts, octets: &[u8]) -> Option<Plan> {
 }
 
 /// The plan of new codes.
-fn changed(alloc: Global, shard: &ShardParts, imsi: Imsi) -> Option<Plan> {
-    let codes = read_codes(alloc, b"22").ok()??;
-    plan_codes(alloc, shard, imsi, &codes).ok()
+fn changed(shard: &ShardParts, imsi: Imsi) -> Option<Plan> {
+    let codes = read_codes(b"22")?;
+    Some(plan_codes(shard, imsi, codes))
 }
 
 /// Whether a Begin is answered, and new codes are the given ones.
@@ -157,8 +157,8 @@ fn is_so(alloc: Global, row: &Row) -> Option<bool> {
     let concerned = imsi(row.imsi).ok()?;
     let plan = match row.given {
         Given::Begin(octets) => begun(alloc, &shard, octets)?,
-        Given::NewCodes => changed(alloc, &shard, concerned)?,
-        Given::Withdrawal => plan_withdrawal(alloc, &shard, concerned),
+        Given::NewCodes => changed(&shard, concerned)?,
+        Given::Withdrawal => plan_withdrawal(&shard, concerned),
     };
     Some(is_plan(&plan, row, concerned))
 }

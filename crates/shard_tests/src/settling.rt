@@ -5,7 +5,7 @@ ghost use Rattle.std.specs.Prelude.{◌≡◌, IfSome};
 use crate::given::{self, FIRST, octets_at, shard};
 use crate::samples::RECORDS;
 use dialogues::{Dialogue, Kind};
-use hlr_types::{Imsi, Peer, RemoteId, Tid};
+use hlr_types::{Imsi, Peer, RemoteId, ShortList, Tid};
 use location::{After, DialogueChange, Opening, Outcome};
 use mapargs_loc::CancellationType;
 use outgoing::{Addressed, Components, SentMessage};
@@ -79,7 +79,7 @@ fn opens(alloc: Global, shard: &mut ShardParts) -> Option<StepAnswer> {
         subject: Some(imsi()?),
         named: Named::Nothing,
         new,
-        codes: Vec::new(alloc),
+        codes: ShortList::new(),
         outcome: only(alloc, stays)?,
     };
     if !shard.has_room(&plan) {
@@ -99,7 +99,7 @@ fn closes(alloc: Global, shard: &mut ShardParts, id: Tid) -> Option<StepAnswer> 
         subject: None,
         named: Named::Open(id),
         new,
-        codes: Vec::new(alloc),
+        codes: ShortList::new(),
         outcome: only(alloc, DialogueChange::Closes)?,
     };
     shard.settle(plan, &[]).ok()
@@ -117,7 +117,7 @@ fn withdraws(alloc: Global, shard: &mut ShardParts) -> Option<StepAnswer> {
         subject: Some(subscriber),
         named: Named::Nothing,
         new,
-        codes: Vec::new(alloc),
+        codes: ShortList::new(),
         outcome: Outcome {
             after: After::Withdrawn,
             dialogue: DialogueChange::Closes,

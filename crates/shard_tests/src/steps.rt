@@ -70,9 +70,9 @@ enum Given {
     Withdraw,
 }
 
-fn change(alloc: Global, given: &Given) -> Option<Change> {
+fn change(given: &Given) -> Option<Change> {
     match given {
-        Given::Codes(text) => Some(Change::Codes(Codes::read(alloc, text).ok()??)),
+        Given::Codes(text) => Some(Change::Codes(Codes::read(text)?)),
         _ => Some(Change::Withdraw),
     }
 }
@@ -87,7 +87,7 @@ fn raw_event(alloc: Global, shard: ShardNumber, given: &Given) -> Option<RawEven
         Given::Expire => Some(RawEvent::Expire { shard }),
         given => Some(RawEvent::Change {
             imsi: imsi(b"234150000000001").ok()?,
-            change: change(alloc, given)?,
+            change: change(given)?,
         }),
     }
 }
@@ -300,10 +300,11 @@ fn another_shard_has_its_own(rt: HostRuntime) -> Result<(), Fail> {
 
 /// Whether the copy of a change has its codes.
 fn is_copied(alloc: Global) -> Option<bool> {
-    let change = change(alloc, &Given::Codes(b"11,21"))?;
+    let change = change(&Given::Codes(b"11,21"))?;
     let imsi = imsi(b"234150000000002").ok()?;
     let event = RawEvent::Change { imsi, change };
-    match event.try_copy(alloc).ok()? {
+    let copy = event.try_copy(alloc).ok()?;
+    match &copy {
         RawEvent::Change {
             change: Change::Codes(codes),
             ..

@@ -17,7 +17,7 @@ fn is_for_none(alloc: Global, shard: &ShardParts, destination: &[u8]) -> Option<
     let origin = RemoteId::read(&[7])?;
     let id = RemoteId::read(destination)?;
     let continued = plan_continue(alloc, shard, from, origin, id, &[]).ok()?;
-    Some(continued.is_none() && plan_close(alloc, shard, id).is_none())
+    Some(continued.is_none() && plan_close(shard, id).is_none())
 }
 
 #[test]

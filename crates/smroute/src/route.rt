@@ -35,7 +35,7 @@ fn route_of(subscriber: &Record) -> RouteAnswer
         then route_by subscriber.now.imsi subscriber.now.purged (option_map machine_register subscriber.now.register)
         else NoRoute TELESERVICE_NOT_PROVISIONED) }
 {
-    if !has_short_messages(&subscriber.codes) {
+    if !has_short_messages(subscriber.codes.as_slice()) {
         return RouteAnswer::NoRoute(TELESERVICE_NOT_PROVISIONED);
     }
     route_by(subscriber.imsi, subscriber.purged, subscriber.register)

@@ -58,7 +58,7 @@ nobody_known s (Some x) e h = absurd cc
 
 -- ---- the plans
 
-module _ (s : ShardState) (imsi : Option (List ℕ)) (found : Option (Bor Subscriber)) (new : List ℕ) (codes : Vec ℕ) (outcome : Outcome) (plan : Plan)
+module _ (s : ShardState) (imsi : Option (List ℕ)) (found : Option (Bor Subscriber)) (new : List ℕ) (codes : List ℕ) (outcome : Outcome) (plan : Plan)
     (plan_is : plan ≡ unnamed_plan imsi found new codes outcome)
     (found_is : option_copied found ≡ record_at s.records imsi)
     (own : IfSome found (λ f. imsi ≡ Some f.now.imsi))
@@ -67,7 +67,7 @@ module _ (s : ShardState) (imsi : Option (List ℕ)) (found : Option (Bor Subscr
   abbrev here : Local
   here = seen (state_of s) s.shard imsi
 
-  can_settle : (outcome.after ≡ NewCodes → AreAllowed codes.items) → (imsi ≡ None → IsOpening outcome.dialogue → ⊥)
+  can_settle : (outcome.after ≡ NewCodes → AreAllowed codes) → (imsi ≡ None → IsOpening outcome.dialogue → ⊥)
       → CanSettle s (unnamed_plan imsi found new codes outcome)
   can_settle allowed concerned = record {
     is_open = tt;
@@ -80,8 +80,8 @@ module _ (s : ShardState) (imsi : Option (List ℕ)) (found : Option (Bor Subscr
 
   -- The plan is what the turn does.
   made : (turn : Turn) → concern (directory_of s.directory) turn ≡ imsi → named turn ≡ None → subject_of (state_of s) turn ≡ known_in (state_of s) imsi
-      → (outcome.after ≡ NewCodes → AreAllowed codes.items) → (imsi ≡ None → IsOpening outcome.dialogue → ⊥)
-      → outcome_in (state_of s) s.shard turn new ≡ outcome_of here None codes.items outcome → IsPlan s turn [] plan
+      → (outcome.after ≡ NewCodes → AreAllowed codes) → (imsi ≡ None → IsOpening outcome.dialogue → ⊥)
+      → outcome_in (state_of s) s.shard turn new ≡ outcome_of here None codes outcome → IsPlan s turn [] plan
   made turn concern_is named_is subject allowed concerned leaves = subst (IsPlan s turn []) (sym plan_is) (record {
     can = can_settle allowed concerned;
     concern_is = concern_is;
@@ -91,7 +91,7 @@ module _ (s : ShardState) (imsi : Option (List ℕ)) (found : Option (Bor Subscr
   })
 
   -- A Begin.
-  pub begin_plan : (from origin : List ℕ) (name : Option (List ℕ)) (cs : List Component) → imsi ≡ asked (directory_of s.directory) cs → codes.items ≡ []
+  pub begin_plan : (from origin : List ℕ) (name : Option (List ℕ)) (cs : List Component) → imsi ≡ asked (directory_of s.directory) cs → codes ≡ []
       → ((here : Local) → here.clock ≡ s.clock → IfSome found (λ f. f.now.imsi ≡ here.imsi) → here.record_of ≡ known found
       → outcome_of here None [] outcome ≡ begins here from origin name cs new)
       → IsPlan s (Begins from origin name cs) [] plan
@@ -106,7 +106,7 @@ module _ (s : ShardState) (imsi : Option (List ℕ)) (found : Option (Bor Subscr
       ∙ ap (λ items. outcome_of here None items outcome) (sym none))
 
   -- An operator's change, of these codes or of none.
-  pub change_plan : (x items : List ℕ) (change : Change) → imsi ≡ Some x → codes.items ≡ items → AreAllowed items
+  pub change_plan : (x items : List ℕ) (change : Change) → imsi ≡ Some x → codes ≡ items → AreAllowed items
       → ((here : Local) → IfSome found (λ f. f.now.imsi ≡ here.imsi) → here.record_of ≡ known found
       → outcome_of here None items outcome ≡ changes here change (known found) new)
       → IsPlan s (Changes x change) [] plan
@@ -119,7 +119,7 @@ module _ (s : ShardState) (imsi : Option (List ℕ)) (found : Option (Bor Subscr
       ∙ sym (leaves here (own_here s imsi found own) known_is) ∙ ap (λ is. outcome_of here None is outcome) (sym has))
 
   -- The end of a subscription.
-  pub withdrawal_plan : (x : List ℕ) → imsi ≡ Some x → codes.items ≡ []
+  pub withdrawal_plan : (x : List ℕ) → imsi ≡ Some x → codes ≡ []
       → ((here : Local) → IfSome found (λ f. f.now.imsi ≡ here.imsi) → here.record_of ≡ known found
       → outcome_of here None [] outcome ≡ changes here Withdraw (known found) new)
       → IsPlan s (Changes x Withdraw) [] plan

@@ -50,4 +50,4 @@ pub record IsPlanFor (subscriber : List ℕ) (named : Named) (new : List ℕ) (o
   pub named_is : plan.named ≡ named
   pub new_is : plan.new ≡ new
   pub outcome_is : plan.outcome ≡ outcome
-  pub no_codes : plan.codes.items ≡ []
+  pub no_codes : plan.codes ≡ []

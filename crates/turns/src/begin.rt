@@ -13,7 +13,7 @@ use crate::new_id::next_or_any;
 use crate::subject::asked;
 use crate::subscriber::record_of;
 use crate::unnamed::unnamed;
-use hlr_types::RemoteId;
+use hlr_types::{RemoteId, ShortList};
 use msgarena::{Indication, Parameter};
 use q773_comp::Component;
 use shard_state::{Plan, ShardParts};
@@ -39,5 +39,5 @@ pub fn plan_begin(
     let new = next_or_any(shard);
     let now = shard.clock();
     let outcome = location::begins(alloc, indication, origin, components, subscriber, now, new)?;
-    Ok(unnamed(imsi, subscriber, new, Vec::new(alloc), outcome))
+    Ok(unnamed(imsi, subscriber, new, ShortList::new(), outcome))
 }

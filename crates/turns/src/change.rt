@@ -1,6 +1,6 @@
 //! An operator's change of one subscriber.
 
-ghost use Rattle.std.specs.Prelude.{[], IfOk};
+ghost use Rattle.std.specs.Prelude.{[]};
 ghost use Rattle.machine.specs.Events as events;
 ghost use Rattle.machine.specs.Turns.{Changes};
 ghost use Rattle.records.specs.Subscriber.{AreAllowed};
@@ -9,34 +9,26 @@ ghost use Rattle.turns.specs.Planning.{IsPlan};
 use crate::new_id::next_or_any;
 use crate::subscriber::record_of;
 use crate::unnamed::unnamed;
-use hlr_types::Imsi;
+use hlr_types::{Imsi, ShortList};
 use shard_state::{Plan, ShardParts};
-use std::alloc::{AllocError, Global};
 
 /// The plan of an operator's new codes for a subscriber.
-pub fn plan_codes(
-    alloc: Global,
-    shard: &ShardParts,
-    imsi: Imsi,
-    codes: &[u8],
-) -> Result<Plan, AllocError>
-    requires { AreAllowed codes.now }
-    ensures { IfOk result (λ plan. IsPlan shard.now
-        (Changes imsi (events.Codes codes.now)) [] plan) }
+pub fn plan_codes(shard: &ShardParts, imsi: Imsi, codes: ShortList<32>) -> Plan
+    requires { AreAllowed codes }
+    ensures { IsPlan shard.now (Changes imsi (events.Codes codes)) [] result }
 {
-    let kept = codes.to_vec(alloc)?;
     let subscriber = record_of(shard, Some(&imsi));
     let new = next_or_any(shard);
     let outcome = location::new_codes(subscriber, codes, new);
-    Ok(unnamed(Some(imsi), subscriber, new, kept, outcome))
+    unnamed(Some(imsi), subscriber, new, codes, outcome)
 }
 
 /// The plan of an operator's withdrawal of a subscriber.
-pub fn plan_withdrawal(alloc: Global, shard: &ShardParts, imsi: Imsi) -> Plan
+pub fn plan_withdrawal(shard: &ShardParts, imsi: Imsi) -> Plan
     ensures { IsPlan shard.now (Changes imsi events.Withdraw) [] result }
 {
     let subscriber = record_of(shard, Some(&imsi));
     let new = next_or_any(shard);
     let outcome = location::withdraws(subscriber, new);
-    unnamed(Some(imsi), subscriber, new, Vec::new(alloc), outcome)
+    unnamed(Some(imsi), subscriber, new, ShortList::new(), outcome)
 }

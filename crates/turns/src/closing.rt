@@ -8,16 +8,15 @@ ghost use Rattle.turns.specs.Planning.{IsPlanOr};
 use crate::opened::{Opened, opened_for, plan_for};
 use hlr_types::RemoteId;
 use shard_state::{Named, Plan, ShardParts};
-use std::alloc::Global;
 use tsl::Head;
 
 /// The plan of a received End or Abort. `None` if it is for no open dialogue; it is then discarded.
-pub fn plan_close(alloc: Global, shard: &ShardParts, destination: RemoteId) -> Option<Plan>
+pub fn plan_close(shard: &ShardParts, destination: RemoteId) -> Option<Plan>
     ensures { IsPlanOr shard.now (close_at destination
         (dialogues_of shard.now.dialogues destination)) [] [] result }
 {
     let Opened { id, dialogue, new } = opened_for(shard, &Head::End { destination })?;
     let subscriber = shard.records().get(&dialogue.subscriber);
     let outcome = location::closes(subscriber, id);
-    Some(plan_for(alloc, &dialogue, Named::Open(id), new, outcome))
+    Some(plan_for(&dialogue, Named::Open(id), new, outcome))
 }

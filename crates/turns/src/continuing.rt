@@ -76,7 +76,7 @@ fn continued(
         .effect(id, &offer, components, shard.clock())?;
     let subscriber = shard.records().get(&dialogue.subscriber);
     let outcome = location::continues(shard.hlr(), subscriber, id, &dialogue, effect, new);
-    Ok(plan_for(alloc, &dialogue, named, new, outcome))
+    Ok(plan_for(&dialogue, named, new, outcome))
 }
 
 /// The plan of a received Continue. `None` if it is for no open dialogue; it is then answered with an Abort, P-Abort cause

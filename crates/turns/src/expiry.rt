@@ -37,5 +37,5 @@ pub fn plan_expiry(alloc: Global, shard: &ShardParts) -> Option<Plan>
     let subscriber = shard.records().get(&dialogue.subscriber);
     let current = current_register(shard, &dialogue.subscriber, subscriber);
     let outcome = location::expires(alloc, subscriber, current, &dialogue, due, new);
-    Some(plan_for(alloc, &dialogue, Named::Open(id), new, outcome))
+    Some(plan_for(&dialogue, Named::Open(id), new, outcome))
 }

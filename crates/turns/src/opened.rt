@@ -3,10 +3,9 @@
 ghost use Rattle.turns.specs.OpenOnes.{IsFor, IsOpenAt, IsPlanFor};
 
 use dialogues::Dialogue;
-use hlr_types::Tid;
+use hlr_types::{ShortList, Tid};
 use location::Outcome;
 use shard_state::{Named, Plan, ShardParts};
-use std::alloc::Global;
 use tsl::{Head, Received};
 
 /// An open dialogue, its id, and the id for a dialogue that opens as this one closes.
@@ -41,13 +40,7 @@ pub(crate) fn opened_for(shard: &ShardParts, head: &Head) -> Option<Opened>
 }
 
 /// A plan for an open dialogue and its subscriber.
-pub(crate) fn plan_for(
-    alloc: Global,
-    dialogue: &Dialogue,
-    named: Named,
-    new: Tid,
-    outcome: Outcome,
-) -> Plan
+pub(crate) fn plan_for(dialogue: &Dialogue, named: Named, new: Tid, outcome: Outcome) -> Plan
     ensures { IsPlanFor dialogue.now.subscriber named new outcome result }
 {
     Plan {
@@ -55,7 +48,7 @@ pub(crate) fn plan_for(
         subject: Some(dialogue.subscriber),
         named,
         new,
-        codes: Vec::new(alloc),
+        codes: ShortList::new(),
         outcome,
     }
 }

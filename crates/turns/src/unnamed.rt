@@ -3,7 +3,7 @@
 ghost use Rattle.std.specs.Prelude.{◌≡◌};
 ghost use Rattle.turns.specs.Unnamed.{known_imsi, unnamed_plan};
 
-use hlr_types::{Imsi, Tid};
+use hlr_types::{Imsi, ShortList, Tid};
 use location::Outcome;
 use records::Record;
 use shard_state::{Named, Plan};
@@ -23,7 +23,7 @@ pub(crate) fn unnamed(
     imsi: Option<Imsi>,
     subscriber: Option<&Record>,
     new: Tid,
-    codes: Vec<u8>,
+    codes: ShortList<32>,
     outcome: Outcome,
 ) -> Plan
     ensures { result ≡ unnamed_plan imsi subscriber.entry new codes outcome }

@@ -12,10 +12,10 @@ returns-in-Some-clause-leaves c = λ here own is.
     ap (λ (s : Subscriber). option_map machine_register s.register) (sym view) ∙ ap (option_map machine_register) c.in-Some.is in
     let not_purged : c.args.subscriber.now.purged ≡ false = ap (λ (s : Subscriber). s.purged) (sym view) ∙ c.if-not-subscriber.true in
     (λ i. record {
-      after = option_map (λ (s : machine.Subscriber). record s { codes = c.args.codes.now; current = None }) (is i);
+      after = option_map (λ (s : machine.Subscriber). record s { codes = c.args.codes; current = None }) (is i);
       stays = None;
       opens = Some (c.data_to.ensures here (ap (λ (s : Subscriber). s.imsi) view ∙ own) i);
       sent = c.data_begin.ensures here own i;
     })
-    ∙ codes_told here (machine_subscriber c.args.subscriber.now) c.args.codes.now c.args.new (machine_register c.in-Some.register)
+    ∙ codes_told here (machine_subscriber c.args.subscriber.now) c.args.codes c.args.new (machine_register c.in-Some.register)
     (option_map machine_register c.args.subscriber.now.register) registered not_purged

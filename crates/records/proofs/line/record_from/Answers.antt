@@ -12,10 +12,10 @@ invariant_of-result c =
     let f = c.args.fields in
     let imsi : imsi_in f.imsi.now ≡ Some c.in-Some.imsi = sym c.in-Some.ensures in
     let msisdn : digits_in f.msisdn.now ≡ Some c.in-Some-from_text.msisdn = sym c.in-Some-from_text.ensures.exact in
-    let codes : codes_in f.codes.now ≡ Some c.in-Some-2.codes.items = sym c.in_ok-codes.ensures ∙ ap (option_map (λ v. v.items)) c.in-Some-2.is in
-    let roam : roam_in f.roam.now ≡ Some (prefixes_of c.in-Some-3.roam) = sym c.in_ok-roam.ensures ∙ ap (option_map prefixes_of) c.in-Some-3.is in
+    let codes : codes_in f.codes.now ≡ Some c.in-Some-codes_field.codes = sym c.in-Some-codes_field.ensures in
+    let roam : roam_in f.roam.now ≡ Some (prefixes_of c.in-Some-2.roam) = sym c.in_ok-roam.ensures ∙ ap (option_map prefixes_of) c.in-Some-2.is in
     let register : register_in f.register.now
     ≡ Some (c.in-Some-register_field.register, c.in-Some-register_field.purged) = sym c.in-Some-register_field.ensures in
     let left : (c.args.withdrawn && is_some c.in-Some-register_field.register) ≡ false = sym c.has_stayed.ensures ∙ c.if-has_stayed.false in
     rw c.new.ensures (fields_keep f.imsi.now f.msisdn.now f.codes.now f.roam.now f.register.now c.args.withdrawn _ _ _ _ _ _ imsi msisdn codes roam register left
-    (subst AreOctets c.deref.ensures.value c.are_octets.ensures) c.register_numbers.ensures)
+    (subst AreOctets c.as_slice.ensures.value c.are_octets.ensures) c.register_numbers.ensures)

@@ -18,5 +18,5 @@ returns c name is =
     (c.record_of-subscriber.ensures.found ∙ ap (record_at s.records) imsi)
     (subst (λ (i : Option (List ℕ)). IfSome c.record_of-subscriber.result (λ f. i ≡ Some f.now.imsi)) imsi c.record_of-subscriber.ensures.own)
     c.next_or_any-new.ensures c.in_ok-outcome.ensures.writable
-    c.args.indication.now.from c.args.origin name cs concerned c.new.ensures.items
+    c.args.indication.now.from c.args.origin name cs concerned c.new.ensures
     (λ here clock own known_is. c.in_ok-outcome.ensures.leaves here name (clock ∙ sym c.clock-now.ensures.value) is own known_is)

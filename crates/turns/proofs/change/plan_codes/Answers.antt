@@ -6,7 +6,6 @@ use Rattle.turns.proofs.change.plan_codes.Goals as goal
 pub returns : goal.returns
 returns c =
     let found = c.record_of-subscriber in
-    change_plan c.args.shard.now _ found.result c.next_or_any-new.result c.in_ok-kept.kept c.new_codes-outcome.result c.unnamed.result c.unnamed.ensures
+    change_plan c.args.shard.now _ found.result c.next_or_any-new.result c.args.codes c.new_codes-outcome.result c.unnamed.result c.unnamed.ensures
     found.ensures.found found.ensures.own c.next_or_any-new.ensures c.new_codes-outcome.ensures.writable
-    c.args.imsi c.args.codes.now (Codes c.args.codes.now) refl (c.in_ok-kept.ensures.items_if_clones_equal
-    (λ x y h. h)) c.requires c.new_codes-outcome.ensures.leaves
+    c.args.imsi c.args.codes (Codes c.args.codes) refl refl c.requires c.new_codes-outcome.ensures.leaves

@@ -7,18 +7,18 @@ use Rattle.hlrcore.proofs.SettledLemmas.{no_room}
 use Rattle.hlrcore.proofs.stepper.Stepper.change.Goals as goal
 
 pub settle-requires-clause-can : goal.settle-requires-clause-can
-settle-requires-clause-can c = subst (λ (s : ShardState). CanSettle s c.in_ok-plan.plan) (sym c.self.view_is) c.in_ok-plan.ensures.can
+settle-requires-clause-can c = subst (λ (s : ShardState). CanSettle s c.plan_change-plan.result) (sym c.self.view_is) c.plan_change-plan.ensures.can
 
 pub returns-then-not-has_room-clause-no_room : goal.returns-then-not-has_room-clause-no_room
 returns-then-not-has_room-clause-no_room c = λ _.
     let none : c.has_room.result ≡ false = search rules in
-    no_room c.args.self.now c.args.imsi (said c.args.change.now) c.in_ok-plan.plan c.requires.routed c.in_ok-plan.ensures
-    (subst (λ (s : ShardState). Overflows s c.in_ok-plan.plan) c.self.view_is (c.has_room.ensures.full.0 none))
+    no_room c.args.self.now c.args.imsi (said c.args.change.now) c.plan_change-plan.result c.requires.routed c.plan_change-plan.ensures
+    (subst (λ (s : ShardState). Overflows s c.plan_change-plan.result) c.self.view_is (c.has_room.ensures.full.0 none))
 
 pub returns-clause-changed : goal.returns-clause-changed
 returns-clause-changed c =
     let some : c.has_room.result ≡ true = search rules in
     change_taken c.self.inside.shard c.args.self.now c.settle.new.self c.args.imsi
-    (said c.args.change.now) c.in_ok-plan.plan c.in_ok-settle.field-0 c.self.view_is c.requires
-    c.in_ok-plan.ensures c.settle.ensures.own (search rules) (has_no c.has_room.result some c.has_room.ensures.full.1)
+    (said c.args.change.now) c.plan_change-plan.result c.in_ok-settle.field-0 c.self.view_is c.requires
+    c.plan_change-plan.ensures c.settle.ensures.own (search rules) (has_no c.has_room.result some c.has_room.ensures.full.1)
     (c.in_ok-settle.ensures.settled, c.in_ok-settle.ensures.says)

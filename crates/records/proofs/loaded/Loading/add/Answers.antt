@@ -5,5 +5,6 @@ use Rattle.records.proofs.loaded.Loading.add.Goals as goal
 
 pub invariant_of-self-2 : goal.invariant_of-self-2
 invariant_of-self-2 c =
-    fresh_added c.add-2.result c.self.inside.records c.add-2.new.self c.args.subscriber c.add-2.ensures.ok c.add-2.ensures.err c.self.invariant
+    fresh_added c.add.result c.self.inside.records c.add.new.self c.args.subscriber c.add.ensures.added c.add.ensures.stays c.add.ensures.err
+    c.self.invariant
     (fresh_unmarked c.args.subscriber (subst IsRecord c.subscriber.view_is c.subscriber.invariant) c.requires.unmarked)

@@ -18,4 +18,4 @@ pub returns : goal.returns
 returns c =
     changed_view c.self.inside.in_order.items c.args.imsi.now c.in-Some.at c.index_mut-found.result.now c.allow.new.self c.self.invariant
     (rw c.deref.ensures.value at c.in-Some.ensures.found) c.index_mut-found.ensures.value (ap (λ (s : Subscriber). s.imsi) c.allow.ensures)
-    c.args.self.now (λ (s : Subscriber). allowed s c.args.codes.items c.args.withdrawn) c.self.view_is c.allow.ensures
+    c.args.self.now (λ (s : Subscriber). allowed s c.args.codes c.args.withdrawn) c.self.view_is c.allow.ensures
