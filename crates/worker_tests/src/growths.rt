@@ -14,7 +14,7 @@ use std::sync::Wait;
 use std::thread::Threads;
 use workers::{Job, JobNumber, Office, Receipt, Refusal, Unaccounted, reconcile};
 
-/// How many jobs a batch has: more than the channel holds.
+/// How many jobs a batch has: twenty for each worker.
 const JOBS: u64 = 80;
 
 /// A route, or a value of a clock.

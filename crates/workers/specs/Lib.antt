@@ -2,6 +2,7 @@ pub mod Jobs
 pub mod Receipts
 pub mod Refusals
 pub mod Hands
+pub mod Lots
 pub mod Batch
 pub mod Journals
 pub mod Only

@@ -1,17 +1,17 @@
 //! A batch of jobs that workers share.
 
-ghost use Rattle.std.specs.Prelude.{◌≡◌, ◌+◌, ◌<◌, ◌≤◌, ◌++◌, ◌∷◌, [], List, map, replicate, true, false, IfOk, OnOk, IsOkAnd, IsTrue, ◌↔◌};
+ghost use Rattle.std.specs.Prelude.{◌≡◌, ◌+◌, ◌<◌, ◌≤◌, ◌++◌, ◌∷◌, [], List, map, replicate, true, false, IfOk, IsOkAnd, IsTrue, ◌↔◌};
 ghost use Rattle.std.specs.List.Sorted.{IsPermutation, IsStrictlyIncreasing};
 ghost use Rattle.crossbeam_channel.specs.Claims.{view, IsSeatAt};
 ghost use Rattle.crossbeam_channel.specs.Ends.{sends_on, receives_on};
 ghost use Rattle.workers.specs.declared.rule.Work.TheVariants.{Do, Stop};
-ghost use Rattle.frames.specs.Account.{Job};
+ghost use Rattle.workers.specs.declared.lot.Lot.{Lot};
 ghost use Rattle.workers.specs.Hands.{hand, IsBatch};
 ghost use Rattle.workers.specs.Batch.{jobs_in, HasTaken, HasGathered, AreApart};
 
 use crate::gate::Gate;
 use crate::job::Job;
-use crate::lot::{Lot, lot_size};
+use crate::lot::{Lot, lot_size, room};
 use crate::office::Office;
 use crate::receipt::Receipt;
 use crate::rule::{Hires, Receiver, Seat, Sender, Sends, Totals, Work};
@@ -20,9 +20,6 @@ use crossbeam_channel::bounded_with;
 use std::alloc::{AllocError, Global};
 use std::sync::Wait;
 use std::thread::{self, Promise, Scope, Threads};
-
-/// How many messages the channel holds, each a lot of jobs or `Stop`.
-const CAPACITY: usize = 64;
 
 /// Sends one message. A reported disconnect proves nothing, so it tries again.
 fn put<R: Wait>(rt: &R, channel: &Sender, mut seat: Seat, work: Work) -> Seat
@@ -43,33 +40,23 @@ fn put<R: Wait>(rt: &R, channel: &Sender, mut seat: Seat, work: Work) -> Seat
     unreachable!()
 }
 
-/// Sends copies of the jobs in lots, which have `most` jobs and the last perhaps fewer, until a copy fails.
-fn put_jobs<R: Wait>(
-    rt: &R,
-    alloc: Global,
-    channel: &Sender,
-    mut seat: Seat,
-    jobs: &[Job],
-    most: usize,
-) -> (Seat, Result<(), AllocError>)
+/// Sends the jobs in lots, which have `most` jobs and the last perhaps fewer.
+fn put_jobs<R: Wait>(rt: &R, channel: &Sender, mut seat: Seat, jobs: &[Job], most: usize) -> Seat
     requires seat { IsSeatAt (sends_on channel.now) seat }
     requires new { (view seat ≡ hand true (view seat).shares [] []) }
     requires most { 1 ≤ most }
-    ensures seat { IsSeatAt (sends_on channel.now) result.0 }
-    ensures sent { (lots : List (List Job))
-        × (view result.0 ≡ hand true (view seat).shares (map Do lots) [])
-        × OnOk result.1 (jobs_in lots ≡ jobs.now) }
+    ensures seat { IsSeatAt (sends_on channel.now) result }
+    ensures sent { (lots : List Lot)
+        × (view result ≡ hand true (view seat).shares (map Do lots) [])
+        × (jobs_in jobs.now lots ≡ jobs.now) }
 {
-    let mut rest = jobs;
-    while !rest.is_empty() {
-        let (first, more) = rest.split_at(most.min(rest.len()));
-        match Lot::of(alloc, first) {
-            Ok(lot) => seat = put(rt, channel, seat, Work::Do(lot)),
-            Err(refused) => return (seat, Err(refused)),
-        }
-        rest = more;
+    let mut from = 0;
+    while from < jobs.len() {
+        let count = most.min(jobs.len() - from);
+        seat = put(rt, channel, seat, Work::Do(Lot { from, count }));
+        from += count;
     }
-    (seat, Ok(()))
+    seat
 }
 
 /// Sends `Stop` `count` times.
@@ -89,11 +76,11 @@ fn put_stops<R: Wait>(rt: &R, channel: &Sender, mut seat: Seat, count: usize) ->
 
 /// The promise of a worker's thread.
 #[derive(Clone, Copy)]
-struct Serving<'a>(&'a Receiver);
+struct Serving<'a>(&'a Receiver, &'a [Job]);
 
 impl<'a> Promise<Served> for Serving<'a> {
     ghost kept_by = { λ p r. IsSeatAt (receives_on p.0.now) r.seat
-        × HasTaken 1 (view r.seat) (map (λ x. x.job) r.receipts.items) r.refused };
+        × HasTaken p.1.now 1 (view r.seat) (map (λ x. x.job) r.receipts.items) r.refused };
 }
 
 /// Starts `left` more workers, sends the jobs and one `Stop` for each of all `workers`, and joins those `left`.
@@ -105,7 +92,7 @@ fn team<'s, E, R: Threads + Wait + Sync, G: Gate + Sync>(
     from: &'s Receiver,
     office: &'s Office,
     gate: &'s G,
-    jobs: &[Job],
+    jobs: &'s [Job],
     workers: usize,
     left: usize,
     mut seat: Seat,
@@ -122,13 +109,13 @@ fn team<'s, E, R: Threads + Wait + Sync, G: Gate + Sync>(
 {
     if left == 0 {
         let most = lot_size(jobs.len(), workers);
-        let (seat, sent) = put_jobs(rt, alloc, to, seat, jobs, most);
+        let seat = put_jobs(rt, to, seat, jobs, most);
         let seat = put_stops(rt, to, seat, workers);
-        return (seat, sent.map(|()| Vec::new(alloc)));
+        return (seat, Vec::with_capacity(alloc, jobs.len()));
     }
     let theirs = to.another::<Hires>(&mut seat);
-    let Ok(worker) = scope.spawn_with(Serving(from), move || {
-        serve(rt, alloc, from, theirs, office, gate)
+    let Ok(worker) = scope.spawn_with(Serving(from, jobs), move || {
+        serve(rt, alloc, from, theirs, office, jobs, gate)
     }) else {
         let seat = put_stops(rt, to, seat, workers - left);
         return (seat, Err(AllocError));
@@ -197,9 +184,9 @@ pub fn numbers_rise(jobs: &[Job]) -> bool
     true
 }
 
-/// Has 1 to 16 workers, each in its own thread, handle copies of the jobs. There is one receipt for each job, by ascending
-/// number. If a worker could not be started, or there is no memory for a job's copy or the receipts, it returns an error after
-/// all started workers have stopped: some jobs may then have been handled without a receipt.
+/// Has 1 to 16 workers, each in its own thread, handle the jobs. There is one receipt for each job, by ascending number. If a
+/// worker could not be started, or there is no memory for the channel or the receipts, it returns an error after all started
+/// workers have stopped: some jobs may then have been handled without a receipt.
 ///
 /// Limitation: no contract says which worker takes a job, in which order the jobs of a batch reach their shard, or that the call
 /// returns. That a receipt has its entry is known only from `reconcile`.
@@ -217,7 +204,7 @@ pub fn run_batch<R: Threads + Wait + Sync, G: Gate + Sync>(
         (map (λ r. r.job) rs.items)) }
     ensures rising { IfOk result (λ rs. IsStrictlyIncreasing (map (λ r. r.job) rs.items)) }
 {
-    let (to, from, seat) = bounded_with(alloc, CAPACITY)?;
+    let (to, from, seat) = bounded_with(alloc, room(jobs.len(), workers))?;
     let (sender, receiver) = (&to, &from);
     let (mut seat, gathered) = thread::scope(
         thread::scope_env(),
@@ -238,6 +225,6 @@ pub fn run_batch<R: Threads + Wait + Sync, G: Gate + Sync>(
     );
     let mut receipts = gathered?;
     to.learn_as::<Totals>(&mut seat);
-    receipts.sort_unstable_by_key(|r| r.job);
+    receipts.sort_by_key(|r| r.job)?;
     Ok(receipts)
 }

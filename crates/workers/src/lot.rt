@@ -1,46 +1,36 @@
 //! Jobs that are handed over together.
 
-ghost use Rattle.std.specs.Prelude.{◌≡◌, ◌≤◌, IfOk};
+ghost use Rattle.std.specs.Prelude.{◌≡◌, ◌≤◌};
 
 use crate::job::Job;
-use std::alloc::{AllocError, Global};
-use std::marker::Model;
 
 /// The most jobs of a lot: with so many, the way through the channel costs little beside the jobs.
 const MAX_LOT: usize = 64;
 
+/// The most messages that a channel has room for: the lots of 65,536 jobs, and a `Stop` for each of sixteen workers.
+const MAX_ROOM: usize = 1_040;
+
 /// How many lots each worker has at least, if there are jobs enough: so none waits long for another that has the last one.
 const LOTS_EACH: usize = 16;
 
-/// Jobs that one worker handles, one after another.
-#[derive(Drop)]
+/// Which jobs of a batch one worker handles, one after another: `count` jobs, the first of them at the place `from`. The jobs stay
+/// in the batch, and nothing of them is copied.
+#[derive(Clone, Copy, Drop)]
 pub struct Lot {
-    pub jobs: Vec<Job>,
-}
-
-impl Model for Lot {
-    ghost use Rattle.std.specs.Prelude.{List};
-    ghost use Rattle.std.specs.Coded.{coded_list};
-    ghost use Rattle.frames.specs.Account as account;
-    ghost use Rattle.workers.specs.Jobs.{job_code};
-
-    ghost Value = { List account.Job };
-
-    ghost coded = { coded_list job_code };
-
-    ghost view = { λ l. l.jobs.items };
+    pub from: usize,
+    pub count: usize,
 }
 
 impl Lot {
-    /// Copies of the jobs. The only error is out of memory.
-    pub fn of(alloc: Global, jobs: &[Job]) -> Result<Lot, AllocError>
-        ensures { IfOk result (λ lot. lot ≡ jobs.now) }
+    ghost use Rattle.workers.specs.Lots.{jobs_at};
+
+    /// The jobs of the lot, among those of the batch.
+    pub fn of<'a>(self, jobs: &'a [Job]) -> &'a [Job]
+        ensures { result.now ≡ jobs_at jobs.now self }
     {
-        let mut copies = Vec::with_capacity(alloc, jobs.len())?;
-        for job in jobs {
-            copies.push(job.try_copy(alloc)?)?;
-        }
-        Ok(Lot { jobs: copies })
+        let (_, rest) = jobs.split_at(self.from.min(jobs.len()));
+        let (lot, _) = rest.split_at(self.count.min(rest.len()));
+        lot
     }
 }
 
@@ -50,4 +40,14 @@ pub(crate) fn lot_size(jobs: usize, workers: usize) -> usize
     ensures { 1 ≤ result }
 {
     (jobs / workers / LOTS_EACH).clamp(1, MAX_LOT)
+}
+
+/// How many messages the channel of a batch has room for: all of them, up to a limit, so that the thread that sends them seldom
+/// waits, and takes no time from a worker.
+pub(crate) fn room(jobs: usize, workers: usize) -> usize
+    requires { 1 ≤ workers }
+    ensures { 1 ≤ result }
+{
+    let lots = (jobs / lot_size(jobs, workers)).saturating_add(1);
+    lots.saturating_add(workers).clamp(1, MAX_ROOM)
 }

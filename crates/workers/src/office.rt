@@ -148,10 +148,10 @@ impl Office {
         rt: &R,
         alloc: Global,
         bump: &mut Bump,
-        job: Job,
+        job: &Job,
         gate: &G,
     ) -> Receipt
-        ensures { result.job ≡ job.number }
+        ensures { result.job ≡ job.now.number }
     {
         let number = job.number;
         let answer = match read(alloc, bump, &job.event) {

@@ -8,7 +8,7 @@ use crossbeam_channel::protocol::{Join, Lesson, Outcome, Protocol, Split};
 use crossbeam_channel::{Pass, RuledReceiver, RuledSender};
 use std::collections::LinkedList;
 
-/// A message to a worker: jobs to be handled, or the order to stop.
+/// A message to a worker: which jobs of the batch it is to handle, or the order to stop.
 #[derive(Drop)]
 pub enum Work {
     Do(Lot),

@@ -7,7 +7,7 @@ ghost use Rattle.workers.specs.Hands.{hand};
 ghost use Rattle.workers.specs.Batch.{HasTaken};
 
 use crate::gate::Gate;
-use crate::lot::Lot;
+use crate::job::Job;
 use crate::office::Office;
 use crate::receipt::Receipt;
 use crate::rule::{Receiver, Seat, Takes, Work};
@@ -23,7 +23,7 @@ pub struct Served {
     pub refused: bool,
 }
 
-/// A worker: takes lots of jobs from a channel until it takes `Stop`. For a lot it reserves memory for the receipts; for each job
+/// A worker: takes lots of the jobs of a batch from a channel until it takes `Stop`. For a lot it reserves memory for the receipts; for each job
 /// of it, it reads the event in its own arena, locks the event's shard, and handles it there. The receipts are, in order, for the
 /// jobs that its pass took. If memory for receipts runs out, they are for the first of these; it then goes on taking lots without
 /// touching a shard.
@@ -36,12 +36,13 @@ pub fn serve<R: Wait, G: Gate>(
     channel: &Receiver,
     mut seat: Seat,
     office: &Office,
+    jobs: &[Job],
     gate: &G,
 ) -> Served
     requires seat { IsSeatAt (receives_on channel.now) seat }
     requires new { view seat ≡ hand false 1 [] [] }
     ensures seat { IsSeatAt (receives_on channel.now) result.seat }
-    ensures taken { HasTaken 1 (view result.seat)
+    ensures taken { HasTaken jobs.now 1 (view result.seat)
         (map (λ r. r.job) result.receipts.items) result.refused }
 {
     let mut bump = Bump::new(alloc);
@@ -62,28 +63,29 @@ pub fn serve<R: Wait, G: Gate>(
             }
         };
         if !refused {
-            refused = answer_lot(rt, alloc, office, &mut bump, lot, gate, &mut receipts).is_err();
+            let jobs = lot.of(jobs);
+            refused = answer_all(rt, alloc, office, &mut bump, jobs, gate, &mut receipts).is_err();
         }
     }
     unreachable!()
 }
 
-/// Handles the jobs of a lot, and appends their receipts. If there is no memory for these, no job is handled.
-fn answer_lot<R: Wait, G: Gate>(
+/// Handles jobs, and appends their receipts. If there is no memory for these, no job is handled.
+fn answer_all<R: Wait, G: Gate>(
     rt: &R,
     alloc: Global,
     office: &Office,
     bump: &mut Bump,
-    lot: Lot,
+    jobs: &[Job],
     gate: &G,
     receipts: &mut Vec<Receipt>,
 ) -> Result<(), AllocError>
     ensures ok { OnOk result (map (λ r. r.job) receipts.new.items
-        ≡ map (λ r. r.job) receipts.old.items ++ map (λ j. j.number) lot) }
+        ≡ map (λ r. r.job) receipts.old.items ++ map (λ j. j.number) jobs.now) }
     ensures err { OnErr result (receipts.new.items ≡ receipts.old.items) }
 {
-    receipts.reserve(lot.jobs.len())?;
-    for job in lot.jobs {
+    receipts.reserve(jobs.len())?;
+    for job in jobs {
         receipts.push_reserved(office.answer(rt, alloc, bump, job, gate));
     }
     Ok(())

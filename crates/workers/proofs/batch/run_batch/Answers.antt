@@ -20,13 +20,13 @@ returns-clause-one_each g c =
     let h = MatchResult-at_ok _ _ _ c.in_ok-receipts.was c.scoped-seat.ensures.1.1 in
     let same = c.learn_as.ensures.channel.2 in
     let settled = settles _ _ _ _ _ _ (omega arith) h c.learn_as.ensures.rule.1 in
-    IsPermutation-trans _ _ _ settled (IsPermutation-map (λ r. r.job) _ _ c.sort_unstable_by_key.ensures.permutation)
+    IsPermutation-trans _ _ _ settled (IsPermutation-map (λ r. r.job) _ _ c.sort_by_key.ensures.permutation)
 
 pub returns-clause-rising : goal.returns-clause-rising
 returns-clause-rising g c =
     let h = MatchResult-at_ok _ _ _ c.in_ok-receipts.was c.scoped-seat.ensures.1.1 in
     let settled = settles _ _ _ _ _ _ (omega arith) h c.learn_as.ensures.rule.1 in
-    let moved = IsPermutation-trans _ _ _ settled (IsPermutation-map (λ r. r.job) _ _ c.sort_unstable_by_key.ensures.permutation) in
-    let sorted : IsNonDecreasingBy (λ (r : Receipt). r.job) c.sort_unstable_by_key.new.self.items =
-    IsNonDecreasingBy-from_sort_by_key (λ r. r.job) _ c.sort_unstable_by_key.ensures.sorted (λ a r q k. search rules) in
+    let moved = IsPermutation-trans _ _ _ settled (IsPermutation-map (λ r. r.job) _ _ c.sort_by_key.ensures.permutation) in
+    let sorted : IsNonDecreasingBy (λ (r : Receipt). r.job) c.sort_by_key.new.self.items =
+    IsNonDecreasingBy-from_sort_by_key (λ r. r.job) _ c.in_ok-sort_by_key.ensures.sorted (λ a r q k. search rules) in
     rising _ (rising_keys (λ r. r.job) _ sorted) (apart_moved _ _ moved c.requires.distinct)
