@@ -1,16 +1,16 @@
 -- A frame's octets without a letter are those that the hexadecimal digits of the whole text stand for.
-use Rattle.std.proofs.Common.{◌≡◌, ℕ, ◌+◌, ◌*◌, ◌%◌, Bool, true, false, List, [], ◌∷◌, ◌++◌, length, refl, sym, ap, ◌∙◌, arith, append_assoc, inl, inr, ◌⊎◌}
+use Rattle.std.proofs.Common.{◌≡◌, ℕ, ◌+◌, ◌*◌, ◌%◌, Bool, true, false, List, [], ◌∷◌, ◌++◌, length, refl, sym, ap, ◌∙◌, arith, append_assoc, inl, inr}
 use Rattle.std.specs.Prelude.{◌&&◌, ◌==◌, Option, Some, None, option_map, is_some, Result, Ok, Err}
 use Rattle.std.specs.List.{list_any, list_all}
 use Rattle.std.specs.Result.{result_ok}
 use Rattle.std.specs.Char.{is_ascii_hexdigit}
-use Rattle.std.proofs.lemmas.Bool.{cases_eq, or_parts}
+use Rattle.std.proofs.lemmas.Bool.{cases_eq, or_parts, and_parts}
+use Rattle.std.proofs.lemmas.List.Sums.{list_all-from_AllPass}
 use Rattle.std.proofs.lemmas.List.{append-nil}
 use Rattle.hex.specs.Hex.{decode_of, decode_pairs, hex_digit_value, is_hex_digit}
 use Rattle.hex.proofs.HexLemmas.{decode_of-even, decode_of-odd, decode_pairs-ok}
 use Rattle.hex.proofs.Pairs.{cons_byte}
 use Rattle.hex.specs.declared.error.FromHexError.{FromHexError}
-use Rattle.hex.specs.declared.error.FromHexError.TheVariants.{OutOfMemory}
 use Rattle.records.specs.Reading.{◌>>=◌, octet_in}
 use Rattle.hlr_input.specs.declared.group.Group.TheVariants.{Octet}
 use Rattle.hlr_input.specs.Octets.{octets_of_group}
@@ -18,6 +18,17 @@ use Rattle.hlr_input.specs.Reading.{stands, are_groups, octets_after}
 
 pub digit_is_digit : (character : ℕ) → is_ascii_hexdigit character ≡ is_hex_digit character
 digit_is_digit character = grind (arith)
+
+-- ---- digits are no letters
+
+no_letter_is_digit : (character : ℕ) → is_hex_digit character ≡ true → (character == 36) ≡ false
+no_letter_is_digit character digit = grind (arith)
+
+digits_have_none : (text : List ℕ) → list_all is_hex_digit text ≡ true → list_any (λ character. character == 36) text ≡ false
+digits_have_none [] all = refl
+digits_have_none (character ∷ more) all =
+    let p = and_parts (is_hex_digit character) (list_all is_hex_digit more) all in
+    rw (no_letter_is_digit character p.0, digits_have_none more p.1) refl
 
 -- ---- whether they stand
 
@@ -48,6 +59,10 @@ groups_of_digits known (a ∷ b ∷ more) none =
     let q = or_parts (b == 36) (list_any (λ character. character == 36) more) p.1 in
     rw (p.0, two_stand known a b (hex_digit_value a) (hex_digit_value b) refl refl, groups_of_digits known more q.1, even_more more a b)
     (regroup (is_hex_digit a) (is_hex_digit b) (length more % 2 == 0) (list_all is_hex_digit more))
+
+-- an even number of digits are groups, whatever letters have an id
+pub digits_stand : (known : ℕ) (text : List ℕ) → length text % 2 ≡ 0 → list_all is_hex_digit text ≡ true → true ≡ are_groups known text
+digits_stand known text even all = sym (groups_of_digits known text (digits_have_none text all) ∙ rw (even, all) refl)
 
 -- ---- what they stand for
 
@@ -101,11 +116,15 @@ octets_of_digits ids text none =
     same None = refl
     same (Some octets) = refl
 
-pub digits_read : (text octets : List ℕ) → list_any (λ character. character == 36) text ≡ false → decode_of text ≡ Ok octets
-    → (ids : List (List ℕ)) → Some octets ≡ octets_after ids [] text
-digits_read text octets none e ids = sym (octets_of_digits ids text none ∙ ap result_ok e)
+-- what decodes has no letter
+decoded_has_none : (text octets : List ℕ) → decode_of text ≡ Ok octets → list_any (λ character. character == 36) text ≡ false
+decoded_has_none text octets e =
+    elim (cases_eq (length text % 2) 1) [
+      | inl odd ↦ cc (e, decode_of-odd text odd)
+      | inr even ↦
+          let pairs = decode_pairs-ok 0 text octets (sym (decode_of-even text (omega arith)) ∙ e) in
+          digits_have_none text (list_all-from_AllPass is_hex_digit text pairs.0)
+    ]
 
-pub digits_unread : (text : List ℕ) (fault : FromHexError) → list_any (λ character. character == 36) text ≡ false
-    → (fault ≡ OutOfMemory) ⊎ (decode_of text ≡ Err fault) → (fault ≡ OutOfMemory → ⊥) → (ids : List (List ℕ)) → None ≡ octets_after ids [] text
-digits_unread text fault none (inl memory) other ids = absurd (other memory)
-digits_unread text fault none (inr e) other ids = sym (octets_of_digits ids text none ∙ ap result_ok e)
+pub digits_read : (text octets : List ℕ) → decode_of text ≡ Ok octets → (ids : List (List ℕ)) → Some octets ≡ octets_after ids [] text
+digits_read text octets e ids = sym (octets_of_digits ids text (decoded_has_none text octets e) ∙ ap result_ok e)

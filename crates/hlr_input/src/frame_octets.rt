@@ -51,17 +51,16 @@ fn stand(text: &[u8], known: usize) -> bool
     are_groups(text, known)
 }
 
-/// Whether the text is groups of two characters, with no letter but the first `known`. Most texts have no letter: these are looked
-/// at as a whole.
-#[tactic(auto, using(crate::proofs::DigitLaws::groups_of_digits))]
+/// Whether the text is groups of two characters, with no letter but the first `known`. Most texts have no letter, and are gone
+/// through once, as digits alone.
+#[tactic(auto, using(crate::proofs::DigitLaws::digits_stand))]
 fn are_groups(text: &[u8], known: usize) -> bool
     ensures { result ≡ are_groups known text.now }
 {
-    if has_letter(text) {
-        groups_stand(text, known)
-    } else {
-        text.len() % 2 == 0 && are_digits(text)
+    if text.len() % 2 == 0 && are_digits(text) {
+        return true;
     }
+    groups_stand(text, known)
 }
 
 /// Whether each character is a hexadecimal digit, of either case.
@@ -130,28 +129,16 @@ fn octets_with(alloc: Global, text: &[u8], ids: &[Tid]) -> Result<Option<Vec<u8>
     listed_octets(alloc, text, ids)
 }
 
-/// The octets of a text that is neither `-` nor empty. One without a letter is read as a whole.
+/// The octets of a text that is neither `-` nor empty. Most texts have no letter, and are read as a whole, as digits alone.
+#[tactic(auto, using(crate::proofs::DigitLaws::digits_read))]
 fn listed_octets(alloc: Global, text: &[u8], ids: &[Tid]) -> Result<Option<Vec<u8>>, AllocError>
     ensures { IfOk result (λ read. option_map (λ octets. octets.items) read
         ≡ octets_after ids.now [] text.now) }
 {
-    if has_letter(text) {
-        group_octets(alloc, text, ids)
-    } else {
-        digit_octets(alloc, text)
-    }
-}
-
-/// The octets of a text without a letter.
-fn digit_octets(alloc: Global, text: &[u8]) -> Result<Option<Vec<u8>>, AllocError>
-    requires { list_any (λ character. character == 36) text.now ≡ false }
-    ensures { IfOk result (λ read. (ids : List (List ℕ))
-        → option_map (λ octets. octets.items) read ≡ octets_after ids [] text.now) }
-{
     match decode(alloc, text) {
         Ok(octets) => Ok(Some(octets)),
         Err(FromHexError::OutOfMemory) => Err(AllocError),
-        Err(_) => Ok(None),
+        Err(_) => group_octets(alloc, text, ids),
     }
 }
 

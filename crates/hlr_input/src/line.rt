@@ -25,13 +25,13 @@ use std::alloc::Global;
 /// - `O <imsi> <codes>`: new teleservice codes, in the form of the records file;
 /// - `X <imsi>`: the end of a subscription.
 #[tactic(auto, using(crate::proofs::LineLaws::reads_found, crate::proofs::LineLaws::reads_only))]
-pub fn read_line<'a>(alloc: Global, line: &'a [u8]) -> Result<Item<'a>, LineFault>
+pub fn read_line<'a>(_alloc: Global, line: &'a [u8]) -> Result<Item<'a>, LineFault>
     // The result is exactly what the line says, unless memory runs out.
     ensures found { IfOk result (λ item. IsLine line.now (line_of item)) }
     ensures only { (said : Line) → IsLine line.now said
         → MatchResult result (λ item. line_of item ≡ said) (λ fault. fault ≡ Memory) }
 {
-    read_fields(alloc, line)
+    read_fields(line)
 }
 
 /// Checks that a line has one of the forms, its octets too.
@@ -58,7 +58,7 @@ fn check_octets(octets: &[u8]) -> Result<(), LineFault>
 }
 
 #[tactic(auto, using(crate::proofs::LineLaws::too_many))]
-fn read_fields<'a>(alloc: Global, line: &'a [u8]) -> Result<Item<'a>, LineFault>
+fn read_fields<'a>(line: &'a [u8]) -> Result<Item<'a>, LineFault>
     ensures { Reads (IsLine line.now) result }
 {
     let (kind, rest) = cut(line, b' ');
@@ -73,7 +73,7 @@ fn read_fields<'a>(alloc: Global, line: &'a [u8]) -> Result<Item<'a>, LineFault>
     if let Some(_further) = rest {
         return Err(LineFault::Bad);
     }
-    read_three(alloc, kind, first, second)
+    read_three(kind, first, second)
 }
 
 /// A line of one field.
@@ -105,12 +105,7 @@ fn read_two<'a>(kind: &[u8], field: &[u8]) -> Result<Item<'a>, LineFault>
 }
 
 /// A line of three fields.
-fn read_three<'a>(
-    alloc: Global,
-    kind: &[u8],
-    first: &[u8],
-    second: &'a [u8],
-) -> Result<Item<'a>, LineFault>
+fn read_three<'a>(kind: &[u8], first: &[u8], second: &'a [u8]) -> Result<Item<'a>, LineFault>
     ensures { Reads (says_three kind.now first.now second.now) result }
 {
     if kind == b"F".as_slice() {
@@ -122,10 +117,9 @@ fn read_three<'a>(
     }
     if kind == b"O".as_slice() {
         let imsi = imsi(first).ok_or(LineFault::Bad)?;
-        return match Codes::read(alloc, second) {
-            Ok(Some(codes)) => Ok(Item::Codes { imsi, codes }),
-            Ok(None) => Err(LineFault::Bad),
-            Err(_) => Err(LineFault::Memory),
+        return match Codes::read(second) {
+            Some(codes) => Ok(Item::Codes { imsi, codes }),
+            None => Err(LineFault::Bad),
         };
     }
     Err(LineFault::Bad)

@@ -18,18 +18,29 @@ use std::io::{ErrorKind, Write};
 /// Room for the longest fault line: the words around a number of 20 digits.
 const MAX_TOLD: usize = 64;
 
+/// The most octets of a sent frame's line beside the octets of the frame: `S`, an address of 16 digits, two spaces, the line feed.
+const MAX_HEAD: usize = 20;
+
 /// The lines of the frames that a batch has sent; the local ids in them are recorded. Nothing is printed yet, so that a batch with
 /// a fault prints nothing.
 pub fn lines_of(alloc: Global, sent: &[Out], letters: &mut Letters) -> Result<Vec<u8>, AllocError>
     ensures lines { IfOk result (λ text. text.items ≡ sent_lines (map raw_out sent.now)) }
     ensures noted { OnOk result (letters.new ≡ noted_in letters.old (map raw_out sent.now)) }
 {
-    let mut text = Vec::new(alloc);
+    let mut text = Vec::with_capacity(alloc, room_for(sent))?;
     for frame in sent {
         push_sent(alloc, &mut text, frame)?;
         letters.note(&frame.octets)?;
     }
     Ok(text)
+}
+
+/// How many octets the lines of these frames have, or some more.
+fn room_for(sent: &[Out]) -> usize {
+    sent.iter().fold(0, |room: usize, frame| {
+        let line = frame.octets.len().saturating_mul(2);
+        room.saturating_add(line).saturating_add(MAX_HEAD)
+    })
 }
 
 /// Prints a text. If the writer fails, a prefix of the text was written.
