@@ -35,7 +35,7 @@ fn is_allowed(roam: &Roam, vlr: &IsdnAddress) -> bool
 {
     match roam {
         Roam::Everywhere => true,
-        Roam::Within(prefixes) => is_within(prefixes, vlr.digits()),
+        Roam::Within(prefixes) => is_within(prefixes.as_slice(), vlr.digits()),
     }
 }
 

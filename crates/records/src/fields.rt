@@ -30,7 +30,7 @@ pub fn roam_field(alloc: Global, field: &[u8]) -> Result<Option<Roam>, AllocErro
         return Ok(Some(Roam::Everywhere));
     }
     match listed_prefixes(alloc, field)? {
-        Some(prefixes) => Ok(Some(Roam::Within(prefixes))),
+        Some(prefixes) => Ok(Some(Roam::Within(Box::new(alloc, prefixes)?))),
         None => Ok(None),
     }
 }

@@ -92,7 +92,7 @@ fn push_roam(out: &mut String, roam: &Roam) -> Result<(), AllocError>
 {
     match roam {
         Roam::Everywhere => out.push_str("*"),
-        Roam::Within(prefixes) => push_prefixes(out, prefixes),
+        Roam::Within(prefixes) => push_prefixes(out, prefixes.as_slice()),
     }
 }
 

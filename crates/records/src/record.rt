@@ -14,11 +14,12 @@ use std::marker::Model;
 pub struct Record {
     pub imsi: Imsi,
     pub msisdn: IsdnAddress,
-    /// The teleservice codes (TS 29.002, TeleserviceCode), in the order of the file.
-    pub codes: ShortList<32>,
     pub roam: Roam,
     /// The serving register.
     pub register: Option<Register>,
+    /// The teleservice codes (TS 29.002, TeleserviceCode), in the order of the file. They stand behind the words of eight octets, so
+    /// that a record has no gap.
+    pub codes: ShortList<32>,
     /// Whether the serving register has purged the subscriber (TS 23.012, Purge MS).
     pub purged: bool,
     /// The local id of the current update, the only one that may complete.

@@ -8,8 +8,9 @@ use std::alloc::AllocError;
 pub enum Roam {
     /// Every VLR.
     Everywhere,
-    /// VLRs whose number begins with one of these 1 to 8 prefixes.
-    Within(Vec<Digits>),
+    /// VLRs whose number begins with one of these 1 to 8 prefixes. They stand elsewhere, since each record has room for what is
+    /// here, and most have none.
+    Within(Box<Vec<Digits>>),
 }
 
 /// A clone is an equal value.

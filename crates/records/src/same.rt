@@ -20,7 +20,10 @@ fn same_roam(left: &Roam, right: &Roam) -> bool
 {
     match (left, right) {
         (Roam::Everywhere, Roam::Everywhere) => true,
-        (Roam::Within(prefixes), Roam::Within(others)) => same_prefixes(prefixes, others),
+        (Roam::Within(prefixes), Roam::Within(others)) => same_prefixes(
+            prefixes.as_slice(),
+            others.as_slice(),
+        ),
         _ => false,
     }
 }
