@@ -75,8 +75,8 @@ fn sixteen_at_once(rt: HostRuntime) -> Result<(), Fail> {
     Ok(())
 }
 
-/// A hundred batches of sixteen workers, each of more jobs than the channel holds, most of them for one shard. Jobs and receipts
-/// account for the journals; after the journals are cut, so they do for the next batch.
+/// A hundred batches of sixteen workers, most jobs of each for one shard. Jobs and receipts account for the journals; after the
+/// journals are cut, so they do for the next batch.
 #[test]
 fn a_hundred_batches(rt: HostRuntime) -> Result<(), Fail> {
     let alloc = rt.alloc();
@@ -103,6 +103,26 @@ fn a_hundred_batches(rt: HostRuntime) -> Result<(), Fail> {
     assert_eq!(rt;
         (whole, reconcile(&shards, &jobs, &receipts)),
         (Ok(()), Ok(()))
+    );
+    Ok(())
+}
+
+/// Two workers and more lots of jobs than the channel holds, so that the sender waits for them. Each job has its receipt.
+#[test]
+fn more_lots_than_the_channel_holds(rt: HostRuntime) -> Result<(), Fail> {
+    let alloc = rt.alloc();
+    let mut register = Register::new(alloc)?;
+    let mut events = Vec::new(alloc);
+    for now in 0..5_000 {
+        for shard in 0..16 {
+            events.push(clock(shard, now)?)?;
+        }
+    }
+    register.take(&rt, &Open, 2, events)?;
+    let (shards, jobs, receipts) = register.close()?;
+    assert_eq!(rt;
+        (receipts.len(), reconcile(&shards, &jobs, &receipts)),
+        (80_000, Ok(()))
     );
     Ok(())
 }
