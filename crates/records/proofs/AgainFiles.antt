@@ -47,7 +47,7 @@ pub apart_middle : (found : List Subscriber) (s : Subscriber) (ss : List Subscri
 apart_middle [] s ss h = tt
 apart_middle (t ∷ ts) s ss h = (all_middle (λ u. ¬ (Share t u)) ts s ss h.0, apart_middle ts s ss h.1)
 
-records_again : (version : Version) (found : List Subscriber) (n : ℕ) (ls : List (List ℕ)) (rs : List Subscriber) → Each (IsRecordLine version) ls rs
+pub records_again : (version : Version) (found : List Subscriber) (n : ℕ) (ls : List (List ℕ)) (rs : List Subscriber) → Each (IsRecordLine version) ls rs
     → AreApart (found ++ rs) → records_after version found n ls ≡ Ok (found ++ rs)
 unfolding records_after
 records_again version found n [] [] h apart = ap (λ (x : List Subscriber). Ok x) (sym (append-nil found))

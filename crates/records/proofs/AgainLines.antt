@@ -68,7 +68,9 @@ codes_again field cs (inr h) =
     (each_lacks 44 IsCode (code_lacks 44 refl) l.texts cs l.each) in
     let found : codes_after [] (parts 44 field) ≡ Some cs = ap (codes_after []) ps ∙ codes_after_again [] l.texts cs l.each h.1 l.most in
     elim (cases_Bool (is_text field (codes "-"))) [
-      | inl t ↦ let bad : codes_after [] (parts 44 field) ≡ None = ap (λ (x : List ℕ). codes_after [] (parts 44 x)) (is_text_true field (codes "-") t) ∙ no_codes in absurd (cc (sym found ∙ bad))
+      | inl t ↦ let bad : codes_after [] (parts 44 field) ≡ None =
+          ap (λ (x : List ℕ). codes_after [] (parts 44 x)) (is_text_true field (codes "-") t) ∙ no_codes in
+          absurd (cc (sym found ∙ bad))
       | inr f ↦ cond-false (is_text field (codes "-")) (Some []) (codes_after [] (parts 44 field)) f ∙ found
     ]
 
@@ -84,7 +86,9 @@ roam_again field (Some prefixes) l =
     (each_lacks 44 IsNumber (number_lacks 44 (omega arith)) l.texts prefixes l.each) in
     let found : prefixes_after [] (parts 44 field) ≡ Some prefixes = ap (prefixes_after []) ps ∙ prefixes_after_again [] l.texts prefixes l.each l.most in
     elim (cases_Bool (is_text field (codes "*"))) [
-      | inl t ↦ let bad : prefixes_after [] (parts 44 field) ≡ None = ap (λ (x : List ℕ). prefixes_after [] (parts 44 x)) (is_text_true field (codes "*") t) ∙ no_prefixes in absurd (cc (sym found ∙ bad))
+      | inl t ↦ let bad : prefixes_after [] (parts 44 field) ≡ None =
+          ap (λ (x : List ℕ). prefixes_after [] (parts 44 x)) (is_text_true field (codes "*") t) ∙ no_prefixes in
+          absurd (cc (sym found ∙ bad))
       | inr f ↦ rw (f, found) refl
     ]
 
@@ -96,7 +100,9 @@ lmsi_again text None h = rw h refl
 lmsi_again text (Some lmsi) h =
     let found : result_ok (decode_sized text 4) ≡ Some lmsi = ap result_ok (octets_again text 4 lmsi h.0 h.1) in
     elim (cases_Bool (is_text text (codes "-"))) [
-      | inl t ↦ let bad : result_ok (decode_sized text 4) ≡ None = ap (λ (x : List ℕ). result_ok (decode_sized x 4)) (is_text_true text (codes "-") t) ∙ no_octets in absurd (cc (sym found ∙ bad))
+      | inl t ↦ let bad : result_ok (decode_sized text 4) ≡ None =
+          ap (λ (x : List ℕ). result_ok (decode_sized x 4)) (is_text_true text (codes "-") t) ∙ no_octets in
+          absurd (cc (sym found ∙ bad))
       | inr f ↦ rw (f, found) refl
     ]
 
@@ -141,7 +147,9 @@ register_again field (Some r) purged h =
     let ps : parts 44 field ≡ vlr ∷ msc ∷ lmsi ∷ purged_text purged ∷ [] = ap (parts 44) h.3 ∙ parts-join 44 vlr (msc ∷ lmsi ∷ purged_text purged ∷ []) lacks in
     let found : register_of (parts 44 field) ≡ Some (r, purged) = ap register_of ps ∙ register_in_again vlr msc lmsi r purged h.4 h.5 h.6 in
     elim (cases_Bool (is_text field (codes "-"))) [
-      | inl t ↦ let bad : register_of (parts 44 field) ≡ None = ap (λ (x : List ℕ). register_of (parts 44 x)) (is_text_true field (codes "-") t) ∙ no_register_in in absurd (cc (sym found ∙ bad))
+      | inl t ↦ let bad : register_of (parts 44 field) ≡ None =
+          ap (λ (x : List ℕ). register_of (parts 44 x)) (is_text_true field (codes "-") t) ∙ no_register_in in
+          absurd (cc (sym found ∙ bad))
       | inr f ↦ rw (f, found) refl
     ]
 
@@ -218,9 +226,25 @@ subscriber_again : (version : Version) (line : List ℕ) (s : Subscriber) (h : I
     → subscriber_of h.imsi h.msisdn h.codes h.roam h.register s.withdrawn ≡ Some s
 unfolding subscriber_of
 subscriber_again version line s h free =
-    let made : Subscriber = record { imsi = s.imsi; msisdn = s.msisdn; codes = s.codes; roam = s.roam; register = s.register; purged = s.purged; current = None; withdrawn = s.withdrawn } in
+    let made : Subscriber = record {
+      imsi = s.imsi;
+      msisdn = s.msisdn;
+      codes = s.codes;
+      roam = s.roam;
+      register = s.register;
+      purged = s.purged;
+      current = None;
+      withdrawn = s.withdrawn;
+    } in
     let same : made ≡ s = ap (λ (c : Option (List ℕ)). with_current s c) (sym h.no_current) in
-    rw (imsi_again h.imsi s.imsi h.is_imsi, number_again h.msisdn s.msisdn h.is_msisdn, codes_again h.codes s.codes h.is_codes, roam_again h.roam s.roam h.is_roam, register_again h.register s.register s.purged h.is_register, and_none s.withdrawn s.register free)
+    rw (
+      imsi_again h.imsi s.imsi h.is_imsi,
+      number_again h.msisdn s.msisdn h.is_msisdn,
+      codes_again h.codes s.codes h.is_codes,
+      roam_again h.roam s.roam h.is_roam,
+      register_again h.register s.register s.purged h.is_register,
+      and_none s.withdrawn s.register free,
+    )
     (ap (λ (x : Subscriber). Some x) same)
 
 record_in_again : (version : Version) (line : List ℕ) (s : Subscriber) (h : IsRecordLine version line s)

@@ -28,7 +28,7 @@ roam_allowed : (field : List ℕ) (roam : Option (List (List ℕ))) → IsRoam f
 roam_allowed field None h = tt
 roam_allowed field (Some ps) h = (h.some, h.most, each_prefix h.texts ps h.each)
 
-not_purged : (field : List ℕ) (register : Option Register) (purged : Bool) → IsRegister field register purged → register ≡ None → purged ≡ false
+pub not_purged : (field : List ℕ) (register : Option Register) (purged : Bool) → IsRegister field register purged → register ≡ None → purged ≡ false
 not_purged field None purged h e = h.1
 not_purged field (Some r) purged h e = absurd cc
 

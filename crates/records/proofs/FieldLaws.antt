@@ -199,7 +199,13 @@ roam_found field roam e =
           let m = map_some (λ (ps : List (List ℕ)). Some ps) (prefixes_after [] (parts 44 field)) roam p.1 in
           let r = prefixes_after_found [] (parts 44 field) m.0 m.1 in
           let each : Each IsNumber (parts 44 field) m.0 = subst (λ (xs : List (List ℕ)). Each IsNumber (parts 44 field) xs) (sym r.whole) r.each in
-          subst (IsRoam field) m.2 (record { texts = parts 44 field; joined = joined_again 44 field; each = each; some = parts-some IsNumber 44 field m.0 each; most = r.most (omega arith) })
+          subst (IsRoam field) m.2 (record {
+            texts = parts 44 field;
+            joined = joined_again 44 field;
+            each = each;
+            some = parts-some IsNumber 44 field m.0 each;
+            most = r.most (omega arith);
+          })
     ]
 
 -- ---- registers

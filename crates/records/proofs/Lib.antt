@@ -16,6 +16,7 @@ pub mod AgainFiles
 pub mod AgainFaults
 pub mod LoadLemmas
 pub mod FreshLemmas
+pub mod FaultlessLemmas
 pub mod Readings
 pub mod WrittenLemmas
 pub mod SavedLaws

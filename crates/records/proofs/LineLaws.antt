@@ -146,7 +146,8 @@ version_found : (text : List ℕ) (version : Version) → version_in text ≡ So
 version_found text version e =
     elim (chosen (is_text text (codes "HLR1 ")) One (cond (is_text text (codes "HLR2 ")) (Some Two) None) version e) [
       | inl p ↦ subst (λ (v : Version). text ≡ mark_of v) p.1 (is_text_true text (codes "HLR1 ") p.0)
-      | inr p ↦ let q = cond_some (is_text text (codes "HLR2 ")) Two version p.1 in subst (λ (v : Version). text ≡ mark_of v) q.1 (is_text_true text (codes "HLR2 ") q.0)
+      | inr p ↦ let q = cond_some (is_text text (codes "HLR2 ")) Two version p.1 in
+          subst (λ (v : Version). text ≡ mark_of v) q.1 (is_text_true text (codes "HLR2 ") q.0)
     ]
 
 pub header_found : (line : List ℕ) (h : Version × List ℕ) → header_in line ≡ Some h → IsHeader line h.0 h.1

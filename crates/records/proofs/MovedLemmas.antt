@@ -2,7 +2,7 @@
 use Rattle.std.proofs.Common.{◌≡◌, ℕ, ◌+◌, Bool, true, false, cond, List, [], ◌∷◌, ◌++◌, map as each, length, get_or, refl, sym, ap, subst, ◌∙◌, arith}
 use Rattle.std.specs.Prelude.{Option, Some, None, is_some, slice_get}
 use Rattle.std.specs.List.{AllByRecursion, IsDistinct, list_any}
-use Rattle.std.specs.List.Sorted.{IsPermutation, IsSortedByKey}
+use Rattle.std.specs.List.Sorted.{IsPermutation, IsSortedByKey, IsStrictlySortedBy}
 use Rattle.std.specs.Ordering.{eq_by_cmp, is_eq, is_lt, ordering_reverse}
 use Rattle.std.specs.declared.cmp.Ordering.{Ordering}
 use Rattle.std.specs.declared.cmp.Ordering.TheVariants.{Less, Equal, Greater}
@@ -15,48 +15,55 @@ use Rattle.std.proofs.lemmas.List.{get_or-map, map-append, length-map}
 use Rattle.std.proofs.lemmas.List.Sorted.{IsPermutation-map, IsPermutation-sym, Contains-permutation}
 use Rattle.std.proofs.lemmas.Map.{none_passes_from_lookup}
 use Rattle.std.proofs.lemmas.Map.Entries.{place_from_lookup, lookup_from_place}
-use Rattle.std.proofs.lemmas.Map.Keys.{IsDistinct-IsPermutation, IsDistinct-push, apart_from_distinct, sorted_from_all_adjacent}
+use Rattle.std.proofs.lemmas.Map.Keys.{IsDistinct-IsPermutation, IsDistinct-push, IsDistinct-from_sorted, apart_from_distinct, sorted_from_all_adjacent}
 use Rattle.std.proofs.lemmas.Option.{slice_get-get_or, slice_get_within, get_or_from_slice_get}
 use Rattle.records.specs.Subscriber.{Subscriber}
 use Rattle.records.specs.Maps.{digits_cmp, RecordMap}
 use Rattle.records.specs.Loaded.{imsi_entry, by_imsi}
-use Rattle.records.specs.Ordered.{AreInOrder, AreApartAs}
+use Rattle.records.specs.Ordered.{AreInOrder, AreApartAs, AreDistinct}
 use Rattle.records.proofs.MapLemmas.{digits_total, digits_exact, same_digits, get_view}
-use Rattle.records.proofs.InOrder.{keys_are, view_push, ordered_none}
-
-abbrev Entries : Type 0
-Entries = List (List ℕ × Subscriber)
+use Rattle.records.proofs.InOrder.{keys_are, ordered_keys, view_push, ordered_none}
 
 -- ---- entries that change places
 
-moved : (es fs : Entries) (q : List ℕ) (s : Subscriber) → IsPermutation es fs → IsDistinct (eq_by_cmp digits_cmp) (keys_of fs)
-    → lookup (is_at (digits_cmp q)) es ≡ Some s → lookup (is_at (digits_cmp q)) fs ≡ Some s
-moved es fs q s moves apart found =
-    let (i, k, at, tie) = place_from_lookup (is_at (digits_cmp q)) es s found in
-    let same : q ≡ k = same_digits q k tie in
-    let (j, lt, there) = Contains-permutation es fs (k, s) moves (i, slice_get_within es i (k, s) at, get_or_from_slice_get es i (k, s) (k, s) at) in
-    let place : slice_get fs j ≡ Some (k, s) = slice_get-get_or fs j (k, s) lt ∙ ap Some there in
-    subst (λ (p : List ℕ). lookup (is_at (digits_cmp p)) fs ≡ Some s) (sym same) (lookup_from_place (eq_by_cmp_equiv digits_total) fs j k s apart place)
+module _ {X : Type 0} where
+  moved : (es fs : List (List ℕ × X)) (q : List ℕ) (x : X) → IsPermutation es fs → AreDistinct fs
+      → lookup (is_at (digits_cmp q)) es ≡ Some x → lookup (is_at (digits_cmp q)) fs ≡ Some x
+  moved es fs q x moves apart found =
+      let (i, k, at, tie) = place_from_lookup (is_at (digits_cmp q)) es x found in
+      let same : q ≡ k = same_digits q k tie in
+      let (j, lt, there) = Contains-permutation es fs (k, x) moves (i, slice_get_within es i (k, x) at, get_or_from_slice_get es i (k, x) (k, x) at) in
+      let place : slice_get fs j ≡ Some (k, x) = slice_get-get_or fs j (k, x) lt ∙ ap Some there in
+      subst (λ (p : List ℕ). lookup (is_at (digits_cmp p)) fs ≡ Some x) (sym same) (lookup_from_place (eq_by_cmp_equiv digits_total) fs j k x apart place)
 
-same_lookup : (o p : Option Subscriber) → ((s : Subscriber) → o ≡ Some s → p ≡ Some s) → ((s : Subscriber) → p ≡ Some s → o ≡ Some s) → p ≡ o
-same_lookup None None there back = refl
-same_lookup None (Some s) there back = sym (back s refl)
-same_lookup (Some s) p there back = there s refl
+  same_lookup : (o p : Option X) → ((x : X) → o ≡ Some x → p ≡ Some x) → ((x : X) → p ≡ Some x → o ≡ Some x) → p ≡ o
+  same_lookup None None there back = refl
+  same_lookup None (Some x) there back = sym (back x refl)
+  same_lookup (Some x) p there back = there x refl
 
--- the map does not depend on the order of records that no two share an IMSI
-pub view_moved : (ss ts : List Subscriber) → IsPermutation ss ts → IsDistinct (eq_by_cmp digits_cmp) (keys_of (each imsi_entry ss)) → by_imsi ts ≡ by_imsi ss
-view_moved ss ts moves apart =
-    let es = each imsi_entry ss in
-    let fs = each imsi_entry ts in
-    let there : IsPermutation es fs = IsPermutation-map imsi_entry ss ts moves in
-    let keys = λ (e : List ℕ × Subscriber). e.0 in
-    let others : IsDistinct (eq_by_cmp digits_cmp) (keys_of fs) =
-    IsDistinct-IsPermutation (eq_by_cmp digits_cmp) (eq_by_cmp_equiv digits_total).symm (keys_of es) (keys_of fs) (IsPermutation-map keys es fs there) apart in
-    map.same_map digits_total digits_exact _ _ (λ q.
-    get_view fs q
-    ∙ same_lookup (lookup (is_at (digits_cmp q)) es) (lookup (is_at (digits_cmp q)) fs)
-    (λ s. moved es fs q s there others) (λ s. moved fs es q s (IsPermutation-sym es fs there) apart)
-    ∙ sym (get_view es q))
+  pub distinct_moved : (es fs : List (List ℕ × X)) → IsPermutation es fs → AreDistinct es → AreDistinct fs
+  distinct_moved es fs moves apart =
+      let keys = λ (e : List ℕ × X). e.0 in
+      IsDistinct-IsPermutation (eq_by_cmp digits_cmp) (eq_by_cmp_equiv digits_total).symm (keys_of es) (keys_of fs) (IsPermutation-map keys es fs moves) apart
+
+  pub distinct_before : (es fs : List (List ℕ × X)) → IsPermutation es fs → IsStrictlySortedBy digits_cmp (keys_of fs) → AreDistinct es
+  distinct_before es fs moves ordered = distinct_moved fs es (IsPermutation-sym es fs moves) (IsDistinct-from_sorted digits_cmp (keys_of fs) ordered)
+
+  -- the map does not depend on the order of entries whose keys are distinct
+  pub entries_moved : (es fs : List (List ℕ × X)) → IsPermutation es fs → AreDistinct es → map.from_entries {R = digits_cmp} fs ≡ map.from_entries es
+  entries_moved es fs moves apart = map.same_map digits_total digits_exact _ _ (λ q.
+      get_view fs q
+      ∙ same_lookup (lookup (is_at (digits_cmp q)) es) (lookup (is_at (digits_cmp q)) fs)
+      (λ x. moved es fs q x moves (distinct_moved es fs moves apart)) (λ x. moved fs es q x (IsPermutation-sym es fs moves) apart)
+      ∙ sym (get_view es q))
+
+-- nor on that of records that no two share an IMSI
+pub view_moved : (ss ts : List Subscriber) → IsPermutation ss ts → AreDistinct (each imsi_entry ss) → by_imsi ts ≡ by_imsi ss
+view_moved ss ts moves apart = entries_moved (each imsi_entry ss) (each imsi_entry ts) (IsPermutation-map imsi_entry ss ts moves) apart
+
+pub imsis_before : (ss ts : List Subscriber) → IsPermutation ss ts → AreInOrder ts → AreDistinct (each imsi_entry ss)
+imsis_before ss ts moves ordered =
+    distinct_before (each imsi_entry ss) (each imsi_entry ts) (IsPermutation-map imsi_entry ss ts moves) (ordered_keys ts ordered)
 
 -- ---- sorted, and none twice
 
@@ -65,7 +72,7 @@ strictly p q Less is not_above apart = is
 strictly p q Equal is not_above apart = absurd (false≢true (sym apart ∙ ap is_eq is))
 strictly p q Greater is not_above apart = absurd (false≢true (sym not_above ∙ ap is_lt (digits_total.antisymm q p ∙ ap ordering_reverse is)))
 
-sorted_with : (ss ts : List Subscriber) (d : Subscriber) → IsPermutation ss ts → IsDistinct (eq_by_cmp digits_cmp) (keys_of (each imsi_entry ss))
+sorted_with : (ss ts : List Subscriber) (d : Subscriber) → IsPermutation ss ts → AreDistinct (each imsi_entry ss)
     → IsSortedByKey (λ (s : Subscriber). s.imsi) digits_cmp ts → AreInOrder ts
 sorted_with ss ts d moves apart sorted =
     let imsi = λ (s : Subscriber). s.imsi in
@@ -84,7 +91,7 @@ sorted_with ss ts d moves apart sorted =
     ∙ sorted k d (omega arith) (omega arith) in
     strictly p q (digits_cmp p q) refl not_above (apart_from_distinct (eq_by_cmp digits_cmp) (each imsi ts) k (k + 1) d.imsi others (omega arith) lt))
 
-pub sorted_in_order : (ss ts : List Subscriber) → IsPermutation ss ts → IsDistinct (eq_by_cmp digits_cmp) (keys_of (each imsi_entry ss))
+pub sorted_in_order : (ss ts : List Subscriber) → IsPermutation ss ts → AreDistinct (each imsi_entry ss)
     → IsSortedByKey (λ (s : Subscriber). s.imsi) digits_cmp ts → AreInOrder ts
 sorted_in_order ss [] moves apart sorted = ordered_none
 sorted_in_order ss (t ∷ ts) moves apart sorted = sorted_with ss (t ∷ ts) t moves apart sorted

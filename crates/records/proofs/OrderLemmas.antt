@@ -1,19 +1,22 @@
 -- What a search by halves finds among things in the order of their keys.
-use Rattle.std.proofs.Common.{◌≡◌, ℕ, zero, suc, ◌<◌, ◌≤◌, ◌+◌, ◌⊎◌, false, List, map as each, length, get_or, refl, ap, subst, ◌∙◌, arith, inl, inr}
+use Rattle.std.proofs.Common.{◌≡◌, ℕ, zero, suc, ◌<◌, ◌≤◌, ◌+◌, ◌⊎◌, Bool, true, false, List, [], ◌∷◌, map as each, length, get_or, refl, sym, ap, subst, ◌∙◌, arith, inl, inr}
 use Rattle.std.specs.Prelude.{Some, None, Result, Ok, Err, MatchResult, All}
+use Rattle.std.specs.Bool.{OnTrue}
+use Rattle.std.specs.List.{IsAllAdjacentAnswer}
 use Rattle.std.specs.List.Sorted.{IsStrictlySortedBy, IsNonDecreasingBy, IsSortedBy, IsBinarySearchResult, IsSearchInRange}
 use Rattle.std.specs.Ordering.{ordering_index, eq_by_cmp, is_eq, is_lt, ordering_reverse}
 use Rattle.std.specs.declared.cmp.Ordering.{Ordering}
-use Rattle.std.specs.declared.cmp.Ordering.TheVariants.{Less, Greater}
+use Rattle.std.specs.declared.cmp.Ordering.TheVariants.{Less, Equal, Greater}
 use Rattle.std.specs.Cmp.{eq_by_cmp_equiv}
 use Rattle.std.specs.Map.{lookup, keys_of}
 use Rattle.std.specs.BTreeMap.{is_at}
+use Rattle.std.proofs.lemmas.Bool.{false≢true}
 use Rattle.std.proofs.lemmas.List.{get_or-map, length-map}
 use Rattle.std.proofs.lemmas.List.Sorted.{searchable_from_sorted}
 use Rattle.std.proofs.lemmas.List.Elements.{recursion_from_All}
 use Rattle.std.proofs.lemmas.Map.{lookup-none}
 use Rattle.std.proofs.lemmas.Map.Entries.{lookup_from_place}
-use Rattle.std.proofs.lemmas.Map.Keys.{Less-from_sorted, IsDistinct-from_sorted}
+use Rattle.std.proofs.lemmas.Map.Keys.{Less-from_sorted, IsDistinct-from_sorted, sorted_from_all_adjacent}
 use Rattle.std.proofs.lemmas.Option.{slice_get-get_or}
 use Rattle.records.specs.Maps.{digits_cmp}
 use Rattle.records.specs.Ordered.{AreOrderedBy}
@@ -68,3 +71,24 @@ hit es k at d ordered lt is =
 -- no value where no key is the one that is sought
 pub missed : {X : Type 0} (es : List (List ℕ × X)) (k : List ℕ) → All (λ e. eq_by_cmp digits_cmp k e.0 ≡ false) es → lookup (is_at (digits_cmp k)) es ≡ None
 missed es k none = lookup-none (is_at (digits_cmp k)) es (recursion_from_All (λ e. eq_by_cmp digits_cmp k e.0 ≡ false) es none)
+
+-- ---- what comes before the next one
+
+is_below : (o : Ordering) → true ≡ is_lt o → o ≡ Less
+is_below Less is = refl
+is_below Equal is = absurd (false≢true (sym is))
+is_below Greater is = absurd (false≢true (sym is))
+
+-- Things that were asked for in pairs are in order, if each came before the next.
+pub ascending : {Y : Type 0} (key : Y → List ℕ) (ys : List Y) (r : Bool)
+    → IsAllAdjacentAnswer (λ x y b. b ≡ is_lt (digits_cmp (key x) (key y))) ys r → OnTrue r (AreOrderedBy key ys)
+unfolding IsStrictlySortedBy
+ascending key ys false asked = tt
+ascending key [] true asked = tt
+ascending key (y ∷ ys) true asked = sorted_from_all_adjacent digits_total (each key (y ∷ ys)) (key y) (λ k lt.
+    let many : length (each key (y ∷ ys)) ≡ length (y ∷ ys) = length-map (y ∷ ys) key in
+    let here = get_or-map key (y ∷ ys) k y (key y) (omega arith) in
+    let next = get_or-map key (y ∷ ys) (k + 1) y (key y) (omega arith) in
+    let less = is_below (digits_cmp (key (get_or (y ∷ ys) k y)) (key (get_or (y ∷ ys) (k + 1) y))) (asked k y (omega arith)) in
+    ap (λ (p : List ℕ). digits_cmp p (get_or (each key (y ∷ ys)) (k + 1) (key y))) here
+    ∙ ap (λ (q : List ℕ). digits_cmp (key (get_or (y ∷ ys) k y)) q) next ∙ less)

@@ -14,6 +14,10 @@ use Rattle.records.specs.Loaded.{imsi_entry, by_imsi}
 abbrev pub AreOrderedBy : {Y : Type 0} → (Y → List ℕ) → List Y → Type 0
 AreOrderedBy key ys = IsStrictlySortedBy digits_cmp (each key ys)
 
+-- No key stands twice.
+abbrev pub AreDistinct : {X : Type 0} → List (List ℕ × X) → Type 0
+AreDistinct es = IsDistinct (eq_by_cmp digits_cmp) (keys_of es)
+
 -- Records in the order of their IMSIs.
 abbrev pub AreInOrder : List Subscriber → Type 0
 AreInOrder ss = AreOrderedBy (λ (s : Subscriber). s.imsi) ss
@@ -29,5 +33,5 @@ IsAbove records imsi = (other : List ℕ) → IsSome (map.get records other) →
 
 -- No IMSI stands twice, and those of the records are these.
 pub record AreApartAs (imsis : List (List ℕ)) (ss : List Subscriber) : Type 0 where
-  pub apart : IsDistinct (eq_by_cmp digits_cmp) (keys_of (each imsi_entry ss))
+  pub apart : AreDistinct (each imsi_entry ss)
   pub known : (imsi : List ℕ) → list_any (eq_by_cmp digits_cmp imsi) imsis ≡ is_some (map.get (by_imsi ss) imsi)

@@ -68,8 +68,8 @@ abbrev pub allowed : Subscriber → List ℕ → Bool → Subscriber
 allowed s codes withdrawn = record s { codes = codes; withdrawn = withdrawn }
 
 -- The record of a withdrawn subscriber: it has neither a register nor a current update.
-abbrev pub ended : Subscriber → Subscriber
-ended s = record s { register = None; purged = false; current = None; withdrawn = true }
+abbrev pub as_withdrawn : Subscriber → Subscriber
+as_withdrawn s = record s { register = None; purged = false; current = None; withdrawn = true }
 
 -- The record without a current update.
 abbrev pub unmarked : Subscriber → Subscriber

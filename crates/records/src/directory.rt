@@ -1,7 +1,9 @@
 //! The subscribers by MSISDN.
 
-ghost use Rattle.std.specs.Prelude.{◌≡◌, ◌↔◌, IfOk, IsTrue};
+ghost use Rattle.std.specs.Prelude.{◌≡◌, ◌↔◌, IfOk, IfSome, IsTrue, List, ℕ};
+ghost use Rattle.std.specs.Bool.{OnTrue};
 ghost use Rattle.std.specs.FinMap as map;
+ghost use Rattle.records.specs.Ordered.{AreDistinct, AreOrderedBy};
 
 use hlr_types::{Imsi, IsdnAddress};
 use std::alloc::{AllocError, Global};
@@ -44,6 +46,19 @@ impl Directory {
         Ok(Directory { entries })
     }
 
+    /// The directory of these entries, in whatever order. `None` if two have one MSISDN.
+    pub(crate) fn of_entries(entries: Vec<(IsdnAddress, Imsi)>) -> Option<Directory>
+        ensures value { IfSome result (λ directory. directory ≡ map.from_entries entries.items) }
+        ensures distinct { IfSome result (λ _. AreDistinct entries.items) }
+    {
+        let mut entries = entries;
+        entries.sort_unstable_by_key(|entry| entry.0);
+        if !ascend(&entries) {
+            return None;
+        }
+        Some(Directory { entries })
+    }
+
     /// The IMSI of the subscriber with this MSISDN.
     pub fn find(&self, msisdn: &IsdnAddress) -> Option<Imsi>
         ensures { result ≡ map.get self.now msisdn.now }
@@ -69,4 +84,11 @@ impl Directory {
             entries: self.entries.clone()?,
         })
     }
+}
+
+/// Whether each MSISDN comes before the next one.
+fn ascend(entries: &[(IsdnAddress, Imsi)]) -> bool
+    ensures { OnTrue result (AreOrderedBy (λ (e : List ℕ × List ℕ). e.0) entries.now) }
+{
+    entries.is_sorted_by(|entry, next| entry.0 < next.0)
 }

@@ -99,7 +99,8 @@ pub fn read_record(
 #[tactic(auto, unfolding(crate::specs::Reading::subscriber_of))]
 fn record_from(alloc: Global, fields: Fields, withdrawn: bool) -> Result<Option<Record>, AllocError>
     ensures { IfOk result
-        (λ read. read ≡ subscriber_of fields.entry.imsi.now fields.entry.msisdn.now fields.entry.codes.now fields.entry.roam.now fields.entry.register.now withdrawn) }
+        (λ read. read ≡ subscriber_of fields.entry.imsi.now fields.entry.msisdn.now
+        fields.entry.codes.now fields.entry.roam.now fields.entry.register.now withdrawn) }
 {
     let Some(imsi) = imsi_field(fields.imsi) else {
         return Ok(None);

@@ -1,17 +1,19 @@
 //! The reading of a records file.
 
-ghost use Rattle.std.specs.Prelude.{◌≡◌, ◌⊎◌, ℕ, ◌<◌, ◌≤◌, ◌+◌, ◌^◌, length, IfOk, MatchResult};
+ghost use Rattle.std.specs.Prelude.{◌≡◌, ◌⊎◌, ℕ, ◌<◌, ◌≤◌, ◌+◌, ◌^◌, length, IfOk, IfSome, MatchResult, Ok};
 ghost use Rattle.records.specs.File.{lines, Contents, File, IsBadLine, IsTwice};
 ghost use Rattle.records.specs.Loaded.{loaded_from};
+ghost use Rattle.records.specs.Spelling.{Each, IsRecordLine};
 ghost use Rattle.records.specs.Reading.{contents_of, below_header, Answers};
 
 use crate::fault::RecordsFault;
 use crate::line::{read_header, read_record};
 use crate::loaded::{Loaded, Loading};
 use crate::pieces::first_line;
+use crate::record::Record;
 use crate::version::Version;
 use hlr_types::IsdnAddress;
-use std::alloc::Global;
+use std::alloc::{AllocError, Global};
 
 /// The fewest octets that the line of a record has, with its line feed.
 const LEAST_LINE: usize = 13;
@@ -66,7 +68,63 @@ fn load(alloc: Global, text: &[u8]) -> Result<Loaded, RecordsFault>
     load_lines(alloc, version, hlr, below)
 }
 
+/// What the lines below the header make.
 fn load_lines(
+    alloc: Global,
+    version: Version,
+    hlr: IsdnAddress,
+    text: &[u8],
+) -> Result<Loaded, RecordsFault>
+    requires { length text.now + 1 < 2 ^ 64 }
+    ensures { Answers result (below_header version hlr (lines text.now)) }
+{
+    match load_faultless(alloc, version, hlr, text)? {
+        Some(loaded) => Ok(loaded),
+        None => load_until_fault(alloc, version, hlr, text),
+    }
+}
+
+/// What the lines make if none has a fault. They are sorted to see that no two records share an IMSI or an MSISDN, since that
+/// is far cheaper than to look for each among those before it. Which fault is the first is not known here.
+fn load_faultless(
+    alloc: Global,
+    version: Version,
+    hlr: IsdnAddress,
+    text: &[u8],
+) -> Result<Option<Loaded>, AllocError>
+    ensures { IfOk result (λ found. IfSome found
+        (λ loaded. Answers (Ok loaded) (below_header version hlr (lines text.now)))) }
+{
+    let Some(all) = read_each(alloc, version, text)? else {
+        return Ok(None);
+    };
+    Loaded::of_records(alloc, hlr, all)
+}
+
+/// The records of the lines, if each line is one.
+fn read_each(
+    alloc: Global,
+    version: Version,
+    text: &[u8],
+) -> Result<Option<Vec<Record>>, AllocError>
+    ensures { IfOk result (λ found. IfSome found
+        (λ all. Each (IsRecordLine version) (lines text.now) all.items)) }
+{
+    let mut all = Vec::with_capacity(alloc, room_for(text))?;
+    let mut rest = text;
+    while !rest.is_empty() {
+        let (line, after) = first_line(rest);
+        let Some(subscriber) = read_record(alloc, version, line)? else {
+            return Ok(None);
+        };
+        all.push(subscriber)?;
+        rest = after;
+    }
+    Ok(Some(all))
+}
+
+/// What the lines make, or the first fault: each record is looked for among those before it.
+fn load_until_fault(
     alloc: Global,
     version: Version,
     hlr: IsdnAddress,

@@ -1,15 +1,17 @@
 //! The contents of a records file.
 
-ghost use Rattle.std.specs.Prelude.{◌≡◌, ◌<◌, None, IfOk};
+ghost use Rattle.std.specs.Prelude.{◌≡◌, ◌<◌, None, IfOk, IfSome};
 ghost use Rattle.std.specs.Bool.{OnTrue};
 ghost use Rattle.std.specs.Arc.{arc_value};
+ghost use Rattle.std.specs.Prelude.{map as each};
+ghost use Rattle.records.specs.Loaded.{msisdn_entry};
 
 use crate::directory::Directory;
 use crate::directory_tree::DirectoryTree;
 use crate::record::Record;
 use crate::records::Records;
 use crate::unordered::Unordered;
-use hlr_types::IsdnAddress;
+use hlr_types::{Imsi, IsdnAddress};
 use std::alloc::{AllocError, Global};
 use std::marker::Model;
 use std::sync::Arc;
@@ -33,7 +35,8 @@ impl Model for Loaded {
 
     ghost coded = { subscribers_code };
 
-    ghost view = { λ l. record { hlr = l.hlr; records = l.records; directory = arc_value l.directory } };
+    ghost view = { λ l.
+        record { hlr = l.hlr; records = l.records; directory = arc_value l.directory } };
 
     ghost invariant = { λ l. AreFresh l.records };
 }
@@ -41,7 +44,36 @@ impl Model for Loaded {
 impl Loaded {
     ghost use Rattle.records.specs.Maps.{part_of};
     ghost use Rattle.records.specs.Parts.{AreParts};
-    ghost use Rattle.records.specs.Fresh.{AreFresh};
+    ghost use Rattle.records.specs.Fresh.{AreFresh, IsFresh};
+    ghost use Rattle.std.specs.List.{AllByRecursion};
+    ghost use Rattle.records.specs.File.{AreApart};
+    ghost use Rattle.records.specs.Loaded.{loaded_from};
+    ghost use Rattle.records.specs.Reading.{with_hlr};
+
+    /// The HLR number and these records. `None` if two share an IMSI or an MSISDN.
+    pub(crate) fn of_records(
+        alloc: Global,
+        hlr: IsdnAddress,
+        all: Vec<Record>,
+    ) -> Result<Option<Loaded>, AllocError>
+        requires fresh { AllByRecursion IsFresh all.items }
+        ensures value { IfOk result
+            (λ found. IfSome found (λ loaded. loaded ≡ loaded_from (with_hlr hlr all.items))) }
+        ensures apart { IfOk result (λ found. IfSome found (λ _. AreApart all.items)) }
+    {
+        let entries = entries_of(alloc, &all)?;
+        let Some(directory) = Directory::of_entries(entries) else {
+            return Ok(None);
+        };
+        let Some(records) = Records::of_unsorted(alloc, all) else {
+            return Ok(None);
+        };
+        Ok(Some(Loaded {
+            hlr,
+            records,
+            directory: Arc::new(alloc, directory)?,
+        }))
+    }
 
     /// The HLR number.
     pub fn hlr(&self) -> &IsdnAddress
@@ -84,6 +116,16 @@ impl Loaded {
     {
         self.records.into_parts()
     }
+}
+
+/// The MSISDN and the IMSI of each record.
+fn entries_of(alloc: Global, records: &[Record]) -> Result<Vec<(IsdnAddress, Imsi)>, AllocError>
+    ensures { IfOk result (λ entries. entries.items ≡ each msisdn_entry records.now) }
+{
+    records
+        .iter()
+        .map(|record| (record.msisdn, record.imsi))
+        .collect(alloc)
 }
 
 /// The contents of the lines read so far.

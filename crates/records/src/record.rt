@@ -64,7 +64,7 @@ impl Clone for Record {
 
 impl Record {
     ghost use Rattle.std.specs.Prelude.{◌≡◌};
-    ghost use Rattle.records.specs.Subscriber.{IsPlace, AreAllowed, placed, allowed, ended};
+    ghost use Rattle.records.specs.Subscriber.{IsPlace, AreAllowed, placed, allowed, as_withdrawn};
 
     /// Sets the serving register, the purged flag and the current update.
     pub(crate) fn place(&mut self, register: Option<Register>, purged: bool, current: Option<Tid>)
@@ -90,7 +90,7 @@ impl Record {
 
     /// Withdraws the subscriber: no register and no current update any more.
     pub(crate) fn withdraw(&mut self)
-        ensures { self.new ≡ ended self.old }
+        ensures { self.new ≡ as_withdrawn self.old }
     {
         self.register = None;
         self.purged = false;

@@ -1,10 +1,11 @@
 //! The subscribers of a shard.
 
 ghost use Rattle.std.specs.Prelude.{◌≡◌, ◌<◌, ◌↔◌, ◌==◌, IsSome, IsTrue, IfSome, IfNone, IfOk, OnOk, option_copied, count_by, map as each, length, replicate, slice_index_or};
+ghost use Rattle.std.specs.Bool.{OnTrue};
 ghost use Rattle.std.specs.FinMap as map;
 ghost use Rattle.records.specs.Maps.{shard_of};
-ghost use Rattle.records.specs.Loaded.{by_imsi};
-ghost use Rattle.records.specs.Ordered.{AreInOrder, IsPlaceOf, IsAbove};
+ghost use Rattle.records.specs.Loaded.{by_imsi, imsi_entry};
+ghost use Rattle.records.specs.Ordered.{AreDistinct, AreInOrder, IsPlaceOf, IsAbove};
 ghost use Rattle.records.specs.Parts.{AreParts, with_one};
 
 use crate::record::Record;
@@ -36,7 +37,7 @@ impl Model for Records {
 }
 
 impl Records {
-    ghost use Rattle.records.specs.Subscriber.{Subscriber, IsRecord, IsPlace, AreAllowed, placed, allowed, ended};
+    ghost use Rattle.records.specs.Subscriber.{Subscriber, IsRecord, IsPlace, AreAllowed, placed, allowed, as_withdrawn};
     ghost use Rattle.records.specs.Maps.{part_of};
 
     /// An empty map with room for so many records.
@@ -55,6 +56,19 @@ impl Records {
         ensures { result ≡ by_imsi in_order.items }
     {
         Records { alloc, in_order }
+    }
+
+    /// These records, in whatever order. `None` if two have one IMSI.
+    pub(crate) fn of_unsorted(alloc: Global, all: Vec<Record>) -> Option<Records>
+        ensures value { IfSome result (λ records. records ≡ by_imsi all.items) }
+        ensures distinct { IfSome result (λ _. AreDistinct (each imsi_entry all.items)) }
+    {
+        let mut in_order = all;
+        in_order.sort_unstable_by_key(|record| record.imsi);
+        if !ascend(&in_order) {
+            return None;
+        }
+        Some(Records { alloc, in_order })
     }
 
     /// Appends a record whose IMSI comes after all others.
@@ -123,7 +137,7 @@ impl Records {
     pub fn withdraw(&mut self, imsi: &Imsi)
         requires known { IsSome (map.get self.old imsi.now) }
         ensures { (s : Subscriber) → map.get self.old imsi.now ≡ Some s
-            → self.new ≡ map.insert self.old imsi.now (ended s) }
+            → self.new ≡ map.insert self.old imsi.now (as_withdrawn s) }
     {
         let Some(at) = place_of(&self.in_order, imsi) else {
             return;
@@ -176,6 +190,13 @@ impl Records {
             in_order: self.in_order.clone()?,
         })
     }
+}
+
+/// Whether each IMSI comes before the next one.
+fn ascend(records: &[Record]) -> bool
+    ensures { OnTrue result (AreInOrder records.now) }
+{
+    records.is_sorted_by(|record, next| record.imsi < next.imsi)
 }
 
 /// Where the record with this IMSI is.

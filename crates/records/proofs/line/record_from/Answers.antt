@@ -17,5 +17,6 @@ invariant_of-result c =
     let register : register_in f.register.now
     ≡ Some (c.in-Some-register_field.register, c.in-Some-register_field.purged) = sym c.in-Some-register_field.ensures in
     let left : (c.args.withdrawn && is_some c.in-Some-register_field.register) ≡ false = sym c.has_stayed.ensures ∙ c.if-has_stayed.false in
-    rw c.new.ensures (fields_keep f.imsi.now f.msisdn.now f.codes.now f.roam.now f.register.now c.args.withdrawn _ _ _ _ _ _ imsi msisdn codes roam register left
+    rw c.new.ensures (fields_keep f.imsi.now f.msisdn.now f.codes.now f.roam.now
+    f.register.now c.args.withdrawn _ _ _ _ _ _ imsi msisdn codes roam register left
     (subst AreOctets c.as_slice.ensures.value c.are_octets.ensures) c.register_numbers.ensures)

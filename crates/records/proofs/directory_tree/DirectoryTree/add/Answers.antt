@@ -15,4 +15,5 @@ pub returns-clause-is_new : goal.returns-clause-is_new
 returns-clause-is_new c =
     let k = c.args.msisdn in
     turned (is_some c.in_ok-before.before) c.is_none.result c.is_none.ensures
-    ∙ ap (λ o. not (is_some o)) (c.in_ok-before.ensures.old ∙ sym (get_view c.self.inside.imsis.entries k) ∙ ap (λ (m : DirectoryMap). map.get m k) c.self.view_is)
+    ∙ ap (λ o. not (is_some o)) (c.in_ok-before.ensures.old
+    ∙ sym (get_view c.self.inside.imsis.entries k) ∙ ap (λ (m : DirectoryMap). map.get m k) c.self.view_is)

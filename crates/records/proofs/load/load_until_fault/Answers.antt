@@ -5,7 +5,7 @@ use Rattle.records.specs.File.{lines}
 use Rattle.records.proofs.LinesLemmas.{lines_nil}
 use Rattle.records.proofs.LoadLemmas.{on_true, begins, line_is_bad, stands_twice, line_goes_on, lines_end}
 use Rattle.records.proofs.FreshLemmas.{read_unmarked}
-use Rattle.records.proofs.load.load_lines.Goals as goal
+use Rattle.records.proofs.load.load_until_fault.Goals as goal
 
 pub loop-rest-init : goal.loop-rest-init
 loop-rest-init c = (begins _ _ _ _ c.in_ok-loading.ensures, omega arith)

@@ -1,7 +1,7 @@
 use Rattle.std.proofs.Common.{◌+◌, ◌≤◌, length}
 use Rattle.records.specs.File.{lines}
 use Rattle.records.proofs.LoadLemmas.{IsAtLine}
-use Rattle.records.proofs.load.load_lines.Given as goal
+use Rattle.records.proofs.load.load_until_fault.Given as goal
 
 abbrev pub invariant-loop-rest : goal.invariant-loop-rest
 invariant-loop-rest l = IsAtLine l.version l.loading l.fn.hlr (l.before + 1) (lines l.rest) (lines l.fn.text)
