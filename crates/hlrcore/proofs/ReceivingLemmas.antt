@@ -1,7 +1,7 @@
 -- A received frame, by the turn of its verdict.
 use Rattle.std.proofs.Common.{◌≡◌, ℕ, List, [], map, Bool, true, false, Option, Some, None, refl, sym, ap, ◌∙◌, subst}
 use Rattle.std.specs.Prelude.{Result, Ok, Err, IfOk, OnOk}
-use Rattle.machine.specs.Received.{Component, Verdict, Read, Begin, Continue}
+use Rattle.machine.specs.Received.{Component, Verdict, Read, Begin}
 use Rattle.machine.specs.Sent.{Out, SentAbort, Cause}
 use Rattle.machine.specs.Events.{Frame, Expire, Operator, Change}
 use Rattle.machine.specs.State.{Dialogue}

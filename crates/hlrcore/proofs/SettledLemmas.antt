@@ -2,12 +2,11 @@
 use Rattle.std.proofs.Common.{◌≡◌, ◌≢◌, ℕ, List, [], Option, Some, None, is_some, IsTrue, refl, sym, ap, ◌∙◌, subst}
 use Rattle.std.specs.Prelude.{IfSome}
 use Rattle.machine.specs.Received.{Component}
-use Rattle.machine.specs.Received as received
 use Rattle.machine.specs.Sent.{SentAbort, Cause}
 use Rattle.machine.specs.Events.{Change, Event, Operator}
 use Rattle.machine.specs.State.{IsIdOf, State}
 use Rattle.machine.specs.Outcome.{Outcome, send}
-use Rattle.machine.specs.Turns.{Turn, Begins, Changes, TurnsTo, concern, named}
+use Rattle.machine.specs.Turns.{Turn, Begins, Changes, TurnsTo, concern}
 use Rattle.machine.specs.Keys.{shard_of}
 use Rattle.machine.specs.Routing.{route}
 use Rattle.machine.specs.Step.{Answer, Full, HasNoRoom, IsNewId, WouldOverflow, moved, outcome_in, taken, ticked}

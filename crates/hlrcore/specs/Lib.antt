@@ -1,5 +1,6 @@
 pub mod Events
 pub mod Taken
+pub mod Addressees
 pub mod Leading
 pub mod Receiving
 pub mod Sound

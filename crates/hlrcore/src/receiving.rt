@@ -4,16 +4,17 @@ ghost use Rattle.std.specs.Prelude.{◌≡◌, IfOk, OnErr, map};
 ghost use Rattle.frames.specs.Frames.{IsVerdict};
 ghost use Rattle.machine.specs.Events.{Frame};
 ghost use Rattle.machine.specs.Received.{Read};
-ghost use Rattle.machine.specs.Routing.{route};
+ghost use Rattle.machine.specs.Routing.{route, subject_of_begin};
 ghost use Rattle.msgarena.specs.Seen.{message as message_of, parameter};
 ghost use Rattle.q773_comp.specs.Seen.{component};
 ghost use Rattle.location.specs.Asking.{IsBeginOf};
 ghost use Rattle.shard_state.specs.Shards.{IsSameShard, directory_of};
+ghost use Rattle.hlrcore.specs.Addressees.{subject_of_message, subject_of_verdict};
 ghost use Rattle.hlrcore.specs.Receiving.{Receives, IsForMe, IsClosing, IsContinueOf};
 
 use crate::sending::{aborted, silent};
 use crate::stepper::Stepper;
-use hlr_types::RemoteId;
+use hlr_types::{Imsi, RemoteId};
 use machine::numbers::{RESOURCE_LIMITATION, UNRECOGNIZED_TRANSACTION_ID};
 use msgarena::{Indication, Parameter, ReadMessage, Verdict};
 use q773_comp::Component;
@@ -22,10 +23,16 @@ use std::alloc::AllocError;
 use turns::{plan_begin, plan_close, plan_continue};
 
 impl Stepper {
-    /// Handles a received frame.
-    pub(crate) fn receive(&mut self, indication: &Indication) -> Result<StepAnswer, AllocError>
-        requires { route (directory_of self.old.directory)
+    /// Handles a received frame. `subject` is the subscriber that a Begin is about.
+    pub(crate) fn receive(
+        &mut self,
+        indication: &Indication,
+        subject: Option<Imsi>,
+    ) -> Result<StepAnswer, AllocError>
+        requires mine { route (directory_of self.old.directory)
             (Frame indication.now.from indication.now.verdict) ≡ self.old.shard }
+        requires about { subject
+            ≡ subject_of_verdict (directory_of self.old.directory) indication.now.verdict }
         ensures received { IfOk result (λ a. Receives self.old indication.now a self.new) }
         ensures judged { IsVerdict indication.now.octets indication.now.verdict }
         ensures err { OnErr result (self.new ≡ self.old) }
@@ -36,7 +43,7 @@ impl Stepper {
             Verdict::Refuse(origin, cause) => {
                 aborted(self.alloc, indication.from(), *origin, *cause, None)
             }
-            Verdict::Read(message) => self.receive_message(indication, message),
+            Verdict::Read(message) => self.receive_message(indication, message, subject),
         }
     }
 
@@ -45,9 +52,12 @@ impl Stepper {
         &mut self,
         indication: &Indication,
         message: &ReadMessage,
+        subject: Option<Imsi>,
     ) -> Result<StepAnswer, AllocError>
         requires mine { IsForMe self.old indication.now }
         requires message { indication.now.verdict ≡ Read (message_of message.now) }
+        requires about { subject
+            ≡ subject_of_message (directory_of self.old.directory) (message_of message.now) }
         ensures received { IfOk result (λ a. Receives self.old indication.now a self.new) }
         ensures err { OnErr result (self.new ≡ self.old) }
         ensures same_shard { IsSameShard self.old self.new }
@@ -57,7 +67,7 @@ impl Stepper {
                 origin,
                 components,
                 ..
-            } => self.begin(indication, *origin, components),
+            } => self.begin(indication, *origin, components, subject),
             ReadMessage::Continue {
                 origin,
                 destination,
@@ -77,15 +87,25 @@ impl Stepper {
         indication: &Indication,
         origin: RemoteId,
         components: &[Component<Parameter>],
+        subject: Option<Imsi>,
     ) -> Result<StepAnswer, AllocError>
         requires mine { IsForMe self.old indication.now }
         requires begin { IsBeginOf indication.now.verdict origin
+            (map (component parameter) components.now) }
+        requires about { subject ≡ subject_of_begin (directory_of self.old.directory)
             (map (component parameter) components.now) }
         ensures received { IfOk result (λ a. Receives self.old indication.now a self.new) }
         ensures err { OnErr result (self.new ≡ self.old) }
         ensures same_shard { IsSameShard self.old self.new }
     {
-        let plan = plan_begin(self.alloc, &self.shard, indication, origin, components)?;
+        let plan = plan_begin(
+            self.alloc,
+            &self.shard,
+            indication,
+            origin,
+            components,
+            subject,
+        )?;
         if !self.shard.has_room(&plan) {
             let from = indication.from();
             return aborted(self.alloc, from, origin, RESOURCE_LIMITATION, plan.subject);

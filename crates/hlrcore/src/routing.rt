@@ -1,8 +1,9 @@
 //! The shard that an event is for (profile).
 
-ghost use Rattle.std.specs.Prelude.{◌≡◌, ◌<◌};
-ghost use Rattle.machine.specs.Routing.{shard_named, shard_asked, route_message, route_verdict, route};
+ghost use Rattle.std.specs.Prelude.{◌≡◌, ◌<◌, None};
+ghost use Rattle.machine.specs.Routing.{shard_named, shard_of_subject, route_message, route_verdict, route};
 ghost use Rattle.msgarena.specs.Seen.{message, seen};
+ghost use Rattle.hlrcore.specs.Addressees.{subject_of_message, subject_of_verdict, IsAddressee};
 ghost use Rattle.hlrcore.specs.Events.{event_of};
 ghost use Rattle.shard_state.specs.Shards.{directory_of};
 
@@ -11,7 +12,7 @@ use hlr_types::{Imsi, RemoteId};
 use machine::numbers::SHARDS;
 use msgarena::{ReadMessage, Verdict};
 use records::{Directory, shard_of};
-use turns::asked;
+use turns::subject_of_begin;
 
 /// The shard of a destination id, which may not have the form of a local id.
 #[tactic(auto, unfolding(machine::specs::Keys::shard_of_id))]
@@ -27,50 +28,86 @@ fn shard_named(id: &RemoteId) -> u8
     }
 }
 
-/// The shard of a subscriber; shard 0 without one.
-#[tactic(auto, using(crate::proofs::ShardLemmas::same_shard))]
-fn shard_asked(imsi: Option<Imsi>) -> u8
-    ensures value { result ≡ shard_asked imsi }
-    ensures small { result < 16 }
+/// Whom an event is for. Only a Begin is about a subscriber by itself; later messages are for the dialogue that they name.
+#[derive(Drop)]
+pub(crate) struct Addressee {
+    pub(crate) shard: u8,
+    pub(crate) subject: Option<Imsi>,
+}
+
+/// This shard, whoever the subscriber may be.
+fn in_shard(shard: u8) -> Addressee
+    ensures shard { result.shard ≡ shard }
+    ensures subject { result.subject ≡ None }
 {
-    match imsi {
-        Some(imsi) => shard_of(&imsi),
-        None => 0,
+    Addressee {
+        shard,
+        subject: None,
     }
 }
 
-fn route_message(directory: &Directory, said: &ReadMessage) -> u8
-    ensures value { result ≡ route_message (directory_of directory.now) (message said.now) }
-    ensures small { result < 16 }
+/// The shard of the subscriber that a Begin is about; shard 0 without one.
+#[tactic(auto, using(crate::proofs::ShardLemmas::same_shard))]
+fn begin_about(subject: Option<Imsi>) -> Addressee
+    ensures shard { result.shard ≡ shard_of_subject subject }
+    ensures small { result.shard < 16 }
+    ensures subject { result.subject ≡ subject }
+{
+    match subject {
+        Some(imsi) => Addressee {
+            shard: shard_of(&imsi),
+            subject,
+        },
+        None => in_shard(0),
+    }
+}
+
+fn addressee_of_message(directory: &Directory, said: &ReadMessage) -> Addressee
+    ensures shard { result.shard ≡ route_message (directory_of directory.now) (message said.now) }
+    ensures small { result.shard < 16 }
+    ensures subject { result.subject
+        ≡ subject_of_message (directory_of directory.now) (message said.now) }
 {
     match said {
-        ReadMessage::Begin { components, .. } => shard_asked(asked(directory, components)),
+        ReadMessage::Begin { components, .. } => {
+            begin_about(subject_of_begin(directory, components))
+        }
         ReadMessage::Continue { destination, .. }
         | ReadMessage::End { destination, .. }
-        | ReadMessage::Abort { destination } => shard_named(destination),
+        | ReadMessage::Abort { destination } => in_shard(shard_named(destination)),
     }
 }
 
-fn route_verdict(directory: &Directory, verdict: &Verdict) -> u8
-    ensures value { result ≡ route_verdict (directory_of directory.now) (seen verdict.now) }
-    ensures small { result < 16 }
+fn addressee_of_verdict(directory: &Directory, verdict: &Verdict) -> Addressee
+    ensures shard { result.shard ≡ route_verdict (directory_of directory.now) (seen verdict.now) }
+    ensures small { result.shard < 16 }
+    ensures subject { result.subject
+        ≡ subject_of_verdict (directory_of directory.now) (seen verdict.now) }
 {
     match verdict {
-        Verdict::Read(message) => route_message(directory, message),
-        Verdict::Discard | Verdict::Refuse(..) => 0,
+        Verdict::Read(message) => addressee_of_message(directory, message),
+        Verdict::Discard | Verdict::Refuse(..) => in_shard(0),
     }
 }
 
 /// The shard that an event is for: of a Begin by its subscriber, of a Continue, End or Abort by its destination id; everything
-/// else is for shard 0.
+/// else is for shard 0. With it comes the subscriber that a Begin is about.
 #[tactic(auto, using(crate::proofs::ShardLemmas::same_shard))]
+pub(crate) fn addressee_of(directory: &Directory, event: &Event) -> Addressee
+    ensures found { IsAddressee (directory_of directory.now) (event_of event.now) result }
+    ensures small { result.shard < 16 }
+{
+    match event {
+        Event::Frame(indication) => addressee_of_verdict(directory, indication.verdict()),
+        Event::Clock { shard, .. } | Event::Expire { shard } => in_shard(shard.number()),
+        Event::Change { imsi, .. } => in_shard(shard_of(imsi)),
+    }
+}
+
+/// The shard that an event is for.
 pub fn route(directory: &Directory, event: &Event) -> u8
     ensures value { result ≡ route (directory_of directory.now) (event_of event.now) }
     ensures small { result < 16 }
 {
-    match event {
-        Event::Frame(indication) => route_verdict(directory, indication.verdict()),
-        Event::Clock { shard, .. } | Event::Expire { shard } => shard.number(),
-        Event::Change { imsi, .. } => shard_of(imsi),
-    }
+    addressee_of(directory, event).shard
 }

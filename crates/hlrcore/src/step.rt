@@ -14,7 +14,7 @@ ghost use Rattle.turns.specs.Planning.{IsPlan};
 use crate::change::Change;
 use crate::event::Event;
 use crate::fault::StepFault;
-use crate::routing::route;
+use crate::routing::addressee_of;
 use crate::sending::silent;
 use crate::stepper::Stepper;
 use hlr_types::Imsi;
@@ -36,11 +36,12 @@ impl Stepper {
         ensures err { OnErr result (self.new ≡ self.old) }
         ensures same_shard { IsSameShard self.old self.new }
     {
-        if route(self.shard.directory(), event) != self.shard.number() {
+        let found = addressee_of(self.shard.directory(), event);
+        if found.shard != self.shard.number() {
             return Err(StepFault::NotMine);
         }
         match event {
-            Event::Frame(indication) => Ok(self.receive(indication)?),
+            Event::Frame(indication) => Ok(self.receive(indication, found.subject)?),
             Event::Clock { now, .. } => {
                 self.shard.tick(*now);
                 Ok(silent(self.alloc))

@@ -14,13 +14,13 @@ named_in directory (Some (Route msisdn)) = directory msisdn
 named_in directory _ = None
 
 -- The subscriber that a Begin names, by its first component alone. Its context is not considered.
-abbrev pub asked : (directory : List ℕ → Option (List ℕ)) → List Component → Option (List ℕ)
-asked directory components = named_in directory (first_argument components)
+abbrev pub subject_of_begin : (directory : List ℕ → Option (List ℕ)) → List Component → Option (List ℕ)
+subject_of_begin directory components = named_in directory (first_argument components)
 
 -- without a subscriber, shard 0
-abbrev pub shard_asked : Option (List ℕ) → ℕ
-shard_asked None = 0
-shard_asked (Some imsi) = shard_of imsi
+abbrev pub shard_of_subject : Option (List ℕ) → ℕ
+shard_of_subject None = 0
+shard_of_subject (Some imsi) = shard_of imsi
 
 -- the shard of a destination id, which may not have the form of a local id
 abbrev pub shard_named : List ℕ → ℕ
@@ -28,7 +28,7 @@ shard_named id = cond ((length id == 4) && nat_lt (shard_of_id id) SHARDS) (shar
 
 -- a Begin is routed by the subscriber that it names, later messages by the local id
 abbrev pub route_message : (directory : List ℕ → Option (List ℕ)) → Message → ℕ
-route_message directory (Begin origin name components) = shard_asked (asked directory components)
+route_message directory (Begin origin name components) = shard_of_subject (subject_of_begin directory components)
 route_message directory (Continue origin destination portion components) = shard_named destination
 route_message directory (End destination portion components) = shard_named destination
 route_message directory (Abort destination) = shard_named destination

@@ -11,7 +11,7 @@ use Rattle.machine.specs.Events.{Change, Event, Frame, Clock, Expire, Operator}
 use Rattle.machine.specs.State.{Transaction, Was, Invocation, Dialogue, State}
 use Rattle.machine.specs.Transactions.{transact, ContinueComes, Row, Disposition, ForIt}
 use Rattle.machine.specs.Outcome.{send}
-use Rattle.machine.specs.Routing.{asked}
+use Rattle.machine.specs.Routing.{subject_of_begin}
 
 -- What is to be done: only to answer, to set a clock, or one of five procedures.
 pub data Turn : Type 0 where
@@ -106,7 +106,7 @@ TurnsTo S (Operator imsi change) turn = turn ≡ Changes imsi change
 abbrev pub concern : (directory : List ℕ → Option (List ℕ)) → Turn → Option (List ℕ)
 concern directory (Dismissed sent) = None
 concern directory (Ticks shard now) = None
-concern directory (Begins from origin name components) = asked directory components
+concern directory (Begins from origin name components) = subject_of_begin directory components
 concern directory (Continues id dialogue components) = Some dialogue.subscriber
 concern directory (Closes id dialogue) = Some dialogue.subscriber
 concern directory (Expires id dialogue invoke was) = Some dialogue.subscriber

@@ -439,7 +439,8 @@ module _ (L : Local) (new : List ℕ) (here : LocalInBounds L) where
       opens = λ f e. subst (λ v. DialogueInBounds v) (some_inj _ f _ refl e) (cancel_in vlr attempt cause (g refl).0 (g refl).1 (g refl).2 (g refl).3);
       sent = λ t. every_append OutInBounds out _ h (cancel_sent vlr cause (g refl).0 (g refl).1 (t refl));
     }
-    bounded_cancel after out vlr attempt cause false a h g = record { after = a; stays = no_dialogue; opens = no_dialogue; sent = λ t. every_append OutInBounds out [] h tt }
+    bounded_cancel after out vlr attempt cause false a h g =
+        record { after = a; stays = no_dialogue; opens = no_dialogue; sent = λ t. every_append OutInBounds out [] h tt }
 
     served_in : (s : Subscriber) (register : Register) → L.record_of ≡ Some s → IsRegister register → (u : Subscriber)
         → Some (record s { register = Some register; purged = false; current = None }) ≡ Some u → AreDigits L.imsi × RecordInBounds u
@@ -452,7 +453,13 @@ module _ (L : Local) (new : List ℕ) (here : LocalInBounds L) where
     bounded_done : (register : Register) (s : Subscriber) (k : ℤ) (rejects : List Rejection) (old : Option Register) → L.record_of ≡ Some s
         → IsRegister register → IfThere IsRegister old → IsInvokeId k → RejectsInBounds rejects
         → Bounded L new (update_done L register s (end_in_dialogue d.transaction d.transaction.remote rejects (UpdateResult k L.hlr ∷ [])) new old)
-    bounded_done register s k rejects None r g o j h = record { after = served_in s register r g; stays = no_dialogue; opens = no_dialogue; sent = λ t. ended_in d.transaction.remote rejects (UpdateResult k L.hlr ∷ []) bounds.remote h (((j, here.hlr), tt), few_one) }
+    bounded_done register s k rejects None r g o j h =
+        record {
+          after = served_in s register r g;
+          stays = no_dialogue;
+          opens = no_dialogue;
+          sent = λ t. ended_in d.transaction.remote rejects (UpdateResult k L.hlr ∷ []) bounds.remote h (((j, here.hlr), tt), few_one);
+        }
     bounded_done register s k rejects (Some old) r g o j h = by (same old.vlr register.vlr)
       where
         by : (b : Bool) → Bounded L new (record {

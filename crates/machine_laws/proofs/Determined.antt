@@ -196,7 +196,8 @@ expiry_one S n turn come (OneDue i d j v due least is) (OneDue i' d' j' v' due' 
     let same_dialogue : d ≡ d' = some_inj d d' _ due.is_open (ap S.dialogues t.id ∙ due'.is_open) in
     let same_invocation : v ≡ v' = some_inj v v' _ due.stands (ap (λ k. invocation_of k d.invocations) t.invoke
     ∙ ap (λ (f : Dialogue). invocation_of j' f.invocations) same_dialogue ∙ due'.stands) in
-    is ∙ ap (λ k. Expires k d j v.was) t.id ∙ ap (λ f. Expires i' f j v.was) same_dialogue ∙ ap (λ k. Expires i' d' k v.was) t.invoke ∙ ap (λ (w : Invocation). Expires i' d' j' w.was) same_invocation ∙ sym is'
+    is ∙ ap (λ k. Expires k d j v.was) t.id ∙ ap (λ f. Expires i' f j v.was) same_dialogue
+    ∙ ap (λ k. Expires i' d' k v.was) t.invoke ∙ ap (λ (w : Invocation). Expires i' d' j' w.was) same_invocation ∙ sym is'
 expiry_one S n turn come (OneDue i d j v due least is) (NoneDue none is') = absurd (none i d j v due)
 expiry_one S n turn come (NoneDue none is) (OneDue i' d' j' v' due' least' is') = absurd (none i' d' j' v' due')
 expiry_one S n turn come (NoneDue none is) (NoneDue none' is') = is ∙ sym is'
@@ -226,7 +227,13 @@ module _ (S : State) (e : Event) (turn : Turn) (new old : List ℕ) where
 
       by : (c : Option (List ℕ)) → moved S c (named turn) new o ≡ moved S c (named turn) old o
       by None = refl
-      by (Some x) = λ k. record { records = put S.records x o.after; dialogues = opens_alike o.opens n k; clocks = S.clocks; directory = S.directory; hlr = S.hlr }
+      by (Some x) = λ k. record {
+        records = put S.records x o.after;
+        dialogues = opens_alike o.opens n k;
+        clocks = S.clocks;
+        directory = S.directory;
+        hlr = S.hlr;
+      }
 
   moves_one : (T U : State) (a b : Answer) → Moves S (route S.directory e) turn new (outcome_in S (route S.directory e) turn new) T a
       → Moves S (route S.directory e) turn old (outcome_in S (route S.directory e) turn old) U b → a.id ≡ b.id → (T ≡ U) × (a ≡ b)

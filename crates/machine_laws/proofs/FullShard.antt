@@ -13,7 +13,7 @@ use Rattle.machine.specs.Begins.{route_component, update_begins}
 use Rattle.machine.specs.Changes.{changes}
 use Rattle.machine.specs.Effect.{effect}
 use Rattle.machine_laws.specs.Play.{play}
-use Rattle.machine.specs.Routing.{route, shard_asked}
+use Rattle.machine.specs.Routing.{route, shard_of_subject}
 use Rattle.machine.specs.Outcome.{send}
 use Rattle.machine.specs.Keys.{shard_of}
 use Rattle.machine.specs.SmRoute.{sm_route}
@@ -78,7 +78,7 @@ route_answered S full r d = (
     subject = refl;
     sent = refl;
   }),
-  ap (λ o. (outcome (seen S (shard_asked (S.directory first_msisdn)) o)
+  ap (λ o. (outcome (seen S (shard_of_subject (S.directory first_msisdn)) o)
       (Begins gateway theirs (Some (name_of ShortMsgGateway)) (route_of first_msisdn ∷ [])) []).sent) d
       ∙ ap (λ R. send gateway (SentEnd theirs (Some ShortMsgGateway) [] (route_component (pos 1) (sm_route first_imsi R) ∷ []))) r,
 )

@@ -476,7 +476,18 @@ overflows S e turn new v turns w x c = by turn refl
     away from r p cs is = inl (
       S,
       record { id = None; subject = subject_of S turn; sent = send from (SentAbort r (Cause RESOURCE_LIMITATION)) },
-      Full turn new turns (record { from = from; origin = r; name = p; components = cs; begins = is; overflows = w; state = refl; id = refl; subject = refl; sent = refl }),
+      Full turn new turns (record {
+        from = from;
+        origin = r;
+        name = p;
+        components = cs;
+        begins = is;
+        overflows = w;
+        state = refl;
+        id = refl;
+        subject = refl;
+        sent = refl;
+      }),
     )
 
     refused : (imsi : List ℕ) (change : Change) → turn ≡ Changes imsi change → e ≡ Operator imsi change → HasNoRoom S e

@@ -11,7 +11,7 @@ use Rattle.machine.specs.State.{Local, State, Subscriber, local_of, local_of_nob
 use Rattle.machine.specs.Isolation.{MetFullShard, is_turned_away}
 use Rattle.machine.specs.Outcome.{Outcome, unchanged}
 use Rattle.machine.specs.Contexts.{accepted}
-use Rattle.machine.specs.Routing.{asked, named_in, route}
+use Rattle.machine.specs.Routing.{subject_of_begin, named_in, route}
 use Rattle.machine.specs.Keys.{same, shard_of}
 use Rattle.machine_laws.proofs.Keys.{some_inj}
 use Rattle.machine_laws.proofs.Views.{View, view, Idly, Ticking, Beginning, Continuing, Closing, Expiring, Changing}
@@ -73,7 +73,8 @@ module _ (L : Local) (new : List ℕ) where
   procedure_opens : (initiator : Initiator) (k : ℤ) (p : Argument) (cs : List Component) → first_argument cs ≡ Some p
       → IsTrue (is_some (procedure L initiator k p new).opens) → IsUpdateHere L cs
   procedure_opens initiator k BadValue cs q h = never _ h
-  procedure_opens initiator k (Update imsi register) cs q h = record { imsi = imsi; register = register; argument = q; known = opens_known initiator k register L.record_of refl h }
+  procedure_opens initiator k (Update imsi register) cs q h =
+      record { imsi = imsi; register = register; argument = q; known = opens_known initiator k register L.record_of refl h }
   procedure_opens initiator k (Purge imsi vlr) cs q h = purge_opens _ initiator k vlr L.record_of h
   procedure_opens initiator k (Route msisdn) cs q h = never _ h
 
@@ -119,20 +120,20 @@ record_known S n x h = h
 pub away_is : (S : State) (e : Event) (turn : Turn) (new : List ℕ) (T : State) (a : Answer) → TurnsTo S e turn
     → TurnedAway S (route S.directory e) turn (outcome_in S (route S.directory e) turn new) T a
     → (x : List ℕ) × MetFullShard S e T a x × (is_turned_away a.sent ≡ true)
-away_is S e turn new T a turns t = go (asked S.directory t.components) refl
+away_is S e turn new T a turns t = go (subject_of_begin S.directory t.components) refl
   where
     n : ℕ
     n = route S.directory e
 
-    concern_is : concern S.directory turn ≡ asked S.directory t.components
+    concern_is : concern S.directory turn ≡ subject_of_begin S.directory t.components
     concern_is = ap (λ k. concern S.directory k) t.begins
 
-    sight : (o : Option (List ℕ)) → asked S.directory t.components ≡ o → IsUpdateHere (seen S (route S.directory e) o) t.components
+    sight : (o : Option (List ℕ)) → subject_of_begin S.directory t.components ≡ o → IsUpdateHere (seen S (route S.directory e) o) t.components
     sight o q = begins_opens (seen S (route S.directory e) o) new t.from t.origin t.name t.components
         (sym (ap (λ (p : Outcome). is_some p.opens) (ap (λ k. outcome_in S (route S.directory e) k new) t.begins
         ∙ ap (λ p. begins (seen S (route S.directory e) p) t.from t.origin t.name t.components new) q)) ∙ t.overflows.opens)
 
-    go : (o : Option (List ℕ)) → asked S.directory t.components ≡ o → (x : List ℕ) × MetFullShard S e T a x × (is_turned_away a.sent ≡ true)
+    go : (o : Option (List ℕ)) → subject_of_begin S.directory t.components ≡ o → (x : List ℕ) × MetFullShard S e T a x × (is_turned_away a.sent ≡ true)
     go None q = absurd (nobody_known S (route S.directory e) (sight None q).known)
     go (Some x) q =
         let one : IsUpdateHere (seen S (route S.directory e) (Some x)) t.components = sight (Some x) q in

@@ -9,7 +9,7 @@ use Rattle.machine.specs.Events.{Event}
 use Rattle.machine.specs.Outcome.{Outcome}
 use Rattle.machine.specs.Sound.{Sound}
 use Rattle.machine.specs.Holders.{vlr_of, vlr_of_kind}
-use Rattle.machine.specs.Routing.{route, shard_asked, shard_named}
+use Rattle.machine.specs.Routing.{route, shard_of_subject, shard_named}
 use Rattle.machine.specs.Keys.{shard_of, shard_of_id}
 use Rattle.machine_laws.proofs.Keys.{none_some, some_inj}
 use Rattle.machine_laws.proofs.ChangeOutcomes.{good_changes}
@@ -72,7 +72,7 @@ facts S e _ x new n sound (Beginning from r p cs q) c =
     subst P (sym q) (record {
       good = good_begins (local_of S n x) S.dialogues None new (sound_before S n x sound) from r p cs;
       names = no_name S x;
-      here = ap shard_asked c;
+      here = ap shard_of_subject c;
     })
 facts S e _ x new n sound (Continuing i d t cs there active v nm r) c =
     let P : List ℕ → Type 0 = λ y. Facts S e (Continues i (record d { transaction = t }) cs) y new n in

@@ -5,7 +5,7 @@ use Rattle.machine.specs.Turns.{Begins, Changes, Closes, Continues, Dismissed, E
 use Rattle.machine.specs.State.{Dialogue, State, Subscriber}
 use Rattle.machine.specs.Events.{Event}
 use Rattle.machine.specs.Sound.{Sound}
-use Rattle.machine.specs.Routing.{asked}
+use Rattle.machine.specs.Routing.{subject_of_begin}
 use Rattle.machine.specs.Step.{if_known, known_in, subject_of}
 use Rattle.machine.specs.Holders.{is_subject}
 use Rattle.machine_laws.proofs.Keys.{same_is}
@@ -51,7 +51,7 @@ known_concern S x (Some y) h = go (S.records y) h
 pub subject_concern : (S : State) (x : List ℕ) (turn : Turn) → is_subject x (subject_of S turn) ≡ true → concern S.directory turn ≡ Some x
 subject_concern S x (Dismissed out) h = known_concern S x None h
 subject_concern S x (Ticks n now) h = known_concern S x None h
-subject_concern S x (Begins from r p cs) h = known_concern S x (asked S.directory cs) h
+subject_concern S x (Begins from r p cs) h = known_concern S x (subject_of_begin S.directory cs) h
 subject_concern S x (Continues i d cs) h = ap (λ (z : List ℕ). Some z) (same_is d.subscriber x h)
 subject_concern S x (Closes i d) h = ap (λ (z : List ℕ). Some z) (same_is d.subscriber x h)
 subject_concern S x (Expires i d j was) h = ap (λ (z : List ℕ). Some z) (same_is d.subscriber x h)

@@ -256,7 +256,9 @@ continue_moves S from r i portion cs T a (Taken turn new turns m) = by (S.dialog
         (λ u q none. absurd (known (ap (λ (v : Transaction). v.remote) (some_inj t u _ refl q) ∙ none))) in
         let after : T.dialogues i ≡ (continues (local_of S (shard_named i) d.subscriber) i (record d { transaction = t }) cs new).stays = after_is S
         (Frame from (Read (Continue r i portion cs))) (Continues i (record d { transaction = t }) cs) new T a w i d.subscriber d there refl refl in
-        ForDialogue d t there row_is does (λ f q. goes_on_with S (shard_named i) (local_of S (shard_named i) d.subscriber) i (record d { transaction = t }) cs new f (sym after ∙ q) ∙ ap (λ now. invocations_after now cs d.invocations) (seen_clock S (shard_named i) (Some d.subscriber)))
+        ForDialogue d t there row_is does (λ f q. goes_on_with S (shard_named i) (local_of S (shard_named i) d.subscriber) i
+        (record d { transaction = t }) cs new f (sym after ∙ q)
+        ∙ ap (λ now. invocations_after now cs d.invocations) (seen_clock S (shard_named i) (Some d.subscriber)))
 
     by : (o : Option Dialogue) → S.dialogues i ≡ o → ContinueMoves S from r i cs T a
     by None q = none (ap (λ o. transact (transaction_of o) (ContinueComes from r)) q ∙ ap (λ o. row (transaction_of o) Unassigned) (sym q))

@@ -13,7 +13,7 @@ use Rattle.machine.specs.Keys.{Every, put_at, same, shard_of, shard_of_id}
 use Rattle.machine.specs.Transactions.{ForIt, Unassigned, continue_row, row}
 use Rattle.machine.specs.Outcome.{Outcome, send}
 use Rattle.machine.specs.Run.{Run}
-use Rattle.machine.specs.Routing.{asked, route}
+use Rattle.machine.specs.Routing.{subject_of_begin, route}
 use Rattle.machine_laws.specs.Worked.{directory, hlr, records}
 use Rattle.machine.specs.declared.numbers.TheConstants.{MAX_CLOCK, SHARDS}
 use Rattle.machine.specs.Holders.{names}
@@ -56,7 +56,17 @@ module _ (S : State) (bounds : StateInBounds S) where
 
       matches : (known : List ℕ) (z : Bool) → TurnInBounds (continue_for from r i cs d
           (for_it (cond z (row (Some d.transaction) ForIt) (row (Some d.transaction) Unassigned))))
-      matches known true = (b.0, record { subscriber = b.1.subscriber; peer = b.1.peer; remote = b.1.remote; invocations = b.1.invocations; kind = b.1.kind }, h)
+      matches known true = (
+        b.0,
+        record {
+          subscriber = b.1.subscriber;
+          peer = b.1.peer;
+          remote = b.1.remote;
+          invocations = b.1.invocations;
+          kind = b.1.kind;
+        },
+        h,
+      )
       matches known false = unassigned from r 1 f t (lit< tt)
 
       at_remote : (o : Option (List ℕ)) → d.transaction.remote ≡ o → TurnInBounds (continue_for from r i cs d (for_it (continue_row d.transaction o from r)))
@@ -97,7 +107,7 @@ module _ (S : State) (bounds : StateInBounds S) where
   outcome_in_bounds : (n : ℕ) (turn : Turn) (new : List ℕ) → TurnInBounds turn → Bounded (seen S n (concern S.directory turn)) new (outcome_in S n turn new)
   outcome_in_bounds n (Dismissed out) new h = bounded_unchanged _ new (local_in n None) out h
   outcome_in_bounds n (Ticks m now) new h = bounded_unchanged _ new (local_in n None) [] tt
-  outcome_in_bounds n (Begins from r p cs) new h = bounded_begins _ new (local_in n (asked S.directory cs)) from r p cs h.0 h.1 h.2 h.3
+  outcome_in_bounds n (Begins from r p cs) new h = bounded_begins _ new (local_in n (subject_of_begin S.directory cs)) from r p cs h.0 h.1 h.2 h.3
   outcome_in_bounds n (Continues i d cs) new h = bounded_continues _ new (local_in n (Some d.subscriber)) i d h.0 h.1 cs h.2
   outcome_in_bounds n (Closes i d) new h = bounded_closes _ new (local_in n (Some d.subscriber)) i d h.0 h.1
   outcome_in_bounds n (Expires i d j was) new h = bounded_expires _ new (local_in n (Some d.subscriber)) i d h.0 h.1 j was (sym (imsi_of n d.subscriber))

@@ -92,7 +92,11 @@ pub fn rejects_go_along()
           message = SentEnd theirs None bad
               (UpdateResult (pos 1) hlr ∷ []);
         }
-        ∷ record { to = vlr_a; message = SentBegin id_b LocationCancellation (Cancel (pos 1) first_imsi UpdateProcedure ∷ []) } ∷ [])
+        ∷ record {
+          to = vlr_a;
+          message = SentBegin id_b LocationCancellation
+              (Cancel (pos 1) first_imsi UpdateProcedure ∷ []);
+        } ∷ [])
         × (failed.answer.sent ≡ one vlr_b (SentEnd theirs None bad (SentError (pos 1) 34 ∷ [])))
         × (over.answer.sent ≡ one vlr_a (SentEnd theirs None bad [])) }
 {}
@@ -178,7 +182,8 @@ pub fn rows_of_transactions()
     ensures { let initiated : Transaction = record { peer = vlr_a; remote = None } in
         let active : Transaction = record { peer = vlr_a; remote = Some theirs } in
         let short = 0 ∷ 0 ∷ 11 ∷ [] in
-        (transact (Some initiated) (ContinueComes gateway theirs) ≡ row (Some (record { peer = gateway; remote = Some theirs })) ForIt)
+        (transact (Some initiated) (ContinueComes gateway theirs)
+        ≡ row (Some (record { peer = gateway; remote = Some theirs })) ForIt)
         × (transact (Some active) (ContinueComes gateway theirs) ≡ row (Some active) ForIt)
         × (transact (Some active) (ContinueComes vlr_a short) ≡ row (Some active) Unassigned)
         × (transact None (ContinueComes vlr_a theirs) ≡ row None Unassigned)
@@ -205,7 +210,9 @@ pub fn timers_and_clocks()
         (continue_to id_d (result_of (pos 1) ∷ [])) id_a).state.dialogues id_d ≡ Some (record {
           subscriber = second_imsi;
           transaction = record { peer = vlr_b; remote = Some theirs };
-          invocations = record { id = pos 1; was = WaitForReject; deadline = 8 } ∷ record { id = pos 2; was = OperationSent; deadline = 20 } ∷ [];
+          invocations =
+              record { id = pos 1; was = WaitForReject; deadline = 8 }
+              ∷ record { id = pos 2; was = OperationSent; deadline = 20 } ∷ [];
           kind = Updates at_b (pos 1);
         }) }
     ensures forgotten { let begun = receives start vlr_b

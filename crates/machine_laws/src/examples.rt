@@ -71,7 +71,9 @@ pub fn two_inserts()
         let half = receives begun.state vlr_b (continue_to id_d (result_of (pos 2) ∷ [])) id_a in
         let done = receives half.state vlr_b (continue_to id_d (result_of (pos 1) ∷ [])) id_a in
         (begun.answer.sent ≡ one vlr_b (SentContinue id_d theirs (Some NetworkLocUp) [] (
-        Insert (pos 1) None (Some second_msisdn) (0x11 ∷ 0x12 ∷ 0x20 ∷ 0x21 ∷ 0x22 ∷ 0x61 ∷ 0x62 ∷ 0x91 ∷ []) ∷ Insert (pos 2) None None (0x92 ∷ []) ∷ [])))
+        Insert (pos 1) None (Some second_msisdn)
+        (0x11 ∷ 0x12 ∷ 0x20 ∷ 0x21 ∷ 0x22 ∷ 0x61 ∷ 0x62 ∷ 0x91 ∷ [])
+        ∷ Insert (pos 2) None None (0x92 ∷ []) ∷ [])))
         × (half.answer.sent ≡ [])
         × (done.answer.sent ≡ one vlr_b (SentEnd theirs None [] (UpdateResult (pos 1) hlr ∷ [])))
         × (done.answer.id ≡ None)
@@ -81,7 +83,8 @@ pub fn two_inserts()
 /// Seventeen codes go in three inserts, eight in one. Each insert has the id of its invocation, and the IMSI if no update names
 /// it.
 pub fn three_inserts()
-    ensures { let seventeen = 1 ∷ 2 ∷ 3 ∷ 4 ∷ 5 ∷ 6 ∷ 7 ∷ 8 ∷ 9 ∷ 10 ∷ 11 ∷ 12 ∷ 13 ∷ 14 ∷ 15 ∷ 16 ∷ 17 ∷ [] in
+    ensures { let seventeen =
+        1 ∷ 2 ∷ 3 ∷ 4 ∷ 5 ∷ 6 ∷ 7 ∷ 8 ∷ 9 ∷ 10 ∷ 11 ∷ 12 ∷ 13 ∷ 14 ∷ 15 ∷ 16 ∷ 17 ∷ [] in
         let eight = 1 ∷ 2 ∷ 3 ∷ 4 ∷ 5 ∷ 6 ∷ 7 ∷ 8 ∷ [] in
         let next_eight = 9 ∷ 10 ∷ 11 ∷ 12 ∷ 13 ∷ 14 ∷ 15 ∷ 16 ∷ [] in
         (inserts (Some first_imsi) first_msisdn seventeen
@@ -115,7 +118,11 @@ pub fn whole_update()
           message = SentEnd theirs None []
               (UpdateResult (pos 1) hlr ∷ []);
         }
-        ∷ record { to = vlr_a; message = SentBegin id_b LocationCancellation (Cancel (pos 1) first_imsi UpdateProcedure ∷ []) } ∷ [])
+        ∷ record {
+          to = vlr_a;
+          message = SentBegin id_b LocationCancellation
+              (Cancel (pos 1) first_imsi UpdateProcedure ∷ []);
+        } ∷ [])
         × (over.answer.sent ≡ [])
         × (over.state.dialogues id_a ≡ None)
         × (over.state.dialogues id_b ≡ None)
@@ -138,7 +145,11 @@ pub fn overtaken_update()
           message = SentEnd theirs None []
               (UpdateResult (pos 1) hlr ∷ []);
         }
-        ∷ record { to = vlr_a; message = SentBegin id_c LocationCancellation (Cancel (pos 1) first_imsi UpdateProcedure ∷ []) } ∷ [])
+        ∷ record {
+          to = vlr_a;
+          message = SentBegin id_c LocationCancellation
+              (Cancel (pos 1) first_imsi UpdateProcedure ∷ []);
+        } ∷ [])
         × (late.answer.sent ≡ one vlr_b (SentEnd theirs None [] (SentError (pos 1) 34 ∷ [])))
         × (late.state.records first_imsi ≡ Some (record first_record { register = Some at_c })) }
 {}
@@ -158,7 +169,11 @@ pub fn same_update_twice()
           message = SentEnd theirs None []
               (UpdateResult (pos 1) hlr ∷ []);
         }
-        ∷ record { to = vlr_a; message = SentBegin id_c LocationCancellation (Cancel (pos 1) first_imsi UpdateProcedure ∷ []) } ∷ []) }
+        ∷ record {
+          to = vlr_a;
+          message = SentBegin id_c LocationCancellation
+              (Cancel (pos 1) first_imsi UpdateProcedure ∷ []);
+        } ∷ []) }
 {}
 
 /// An update of a purged record completes with a cancel to the purged register all the same.
@@ -172,7 +187,11 @@ pub fn purged_register_cancelled()
           message = SentEnd theirs None []
               (UpdateResult (pos 1) hlr ∷ []);
         }
-        ∷ record { to = vlr_a; message = SentBegin id_b LocationCancellation (Cancel (pos 1) first_imsi UpdateProcedure ∷ []) } ∷ [])
+        ∷ record {
+          to = vlr_a;
+          message = SentBegin id_b LocationCancellation
+              (Cancel (pos 1) first_imsi UpdateProcedure ∷ []);
+        } ∷ [])
         × (done.state.records first_imsi ≡ Some (record first_record { register = Some at_b })) }
 {}
 
@@ -186,7 +205,8 @@ pub fn update_from_the_serving_register()
         let done = receives begun.state vlr_a (continue_to id_a (result_of (pos 1) ∷ [])) id_b in
         (done.answer.sent ≡ one vlr_a (SentEnd theirs None [] (UpdateResult (pos 1) hlr ∷ [])))
         × (done.answer.id ≡ None)
-        × (done.state.records first_imsi ≡ Some (record first_record { register = Some register })) }
+        × (done.state.records first_imsi
+        ≡ Some (record first_record { register = Some register })) }
 {}
 
 /// An update comes from an address other than its VLR number, with the invoke id 7: it is answered to that address under that
@@ -211,9 +231,14 @@ pub fn update_from_another_address()
           message = SentEnd theirs None []
               (UpdateResult (pos 7) hlr ∷ []);
         }
-        ∷ record { to = vlr_a; message = SentBegin id_b LocationCancellation (Cancel (pos 1) first_imsi UpdateProcedure ∷ []) } ∷ [])
+        ∷ record {
+          to = vlr_a;
+          message = SentBegin id_b LocationCancellation
+              (Cancel (pos 1) first_imsi UpdateProcedure ∷ []);
+        } ∷ [])
         × (again.answer.sent ≡ one gateway (SentEnd theirs None [] (UpdateResult (pos 7) hlr ∷ [])))
-        × (again.state.records first_imsi ≡ Some (record first_record { register = Some with_lmsi }))
+        × (again.state.records first_imsi
+        ≡ Some (record first_record { register = Some with_lmsi }))
         × ((receives again.state gateway
         (begin_in ShortMsgGateway (Invoke (pos 7) None (Number 45)
         (Some (Typed (Route first_msisdn))) ∷ [])) id_c).answer.sent
@@ -370,7 +395,11 @@ pub fn holders_of_journals()
         let home = receives back.state vlr_a (continue_to id_c (result_of (pos 1) ∷ [])) id_d in
         let over = expires_at (waits home.state 1 20) id_b (pos 1) id_c in
         let moved = message_entry vlr_b to_b begun ∷ message_entry vlr_b (continue_to id_a (result_of (pos 1) ∷ [])) done ∷ [] in
-        let returned = message_entry vlr_a to_a back ∷ message_entry vlr_a (continue_to id_c (result_of (pos 1) ∷ [])) home ∷ expiry_entry 1 over ∷ [] in
+        let returned =
+        message_entry vlr_a to_a back
+        ∷ message_entry vlr_a (continue_to id_c (result_of (pos 1) ∷ [])) home
+        ∷ expiry_entry 1 over
+        ∷ [] in
         (holders start [] first_imsi vlr_a ≡ true)
         × (holders start moved first_imsi vlr_a ≡ false)
         × (holders start moved first_imsi vlr_b ≡ true)
@@ -381,7 +410,11 @@ pub fn holders_of_journals()
         let purged = receives start vlr_a purges id_a in
         let begun = receives purged.state vlr_b to_b id_a in
         let done = receives begun.state vlr_b (continue_to id_a (result_of (pos 1) ∷ [])) id_b in
-        let journal = message_entry vlr_a purges purged ∷ message_entry vlr_b to_b begun ∷ message_entry vlr_b (continue_to id_a (result_of (pos 1) ∷ [])) done ∷ [] in
+        let journal =
+        message_entry vlr_a purges purged
+        ∷ message_entry vlr_b to_b begun
+        ∷ message_entry vlr_b (continue_to id_a (result_of (pos 1) ∷ [])) done
+        ∷ [] in
         (holders start (message_entry vlr_a purges purged ∷ []) first_imsi vlr_a ≡ true)
         × (holders start journal first_imsi vlr_a ≡ false)
         × (holders start journal first_imsi vlr_b ≡ true) }
@@ -390,8 +423,16 @@ pub fn holders_of_journals()
       message = SentEnd theirs None []
           (UpdateResult (pos 1) hlr ∷ []);
     } in
-        let cancel : Out = record { to = vlr_b; message = SentBegin id_b LocationCancellation (Cancel (pos 1) first_imsi UpdateProcedure ∷ []) } in
-        let of_another : Out = record { to = vlr_b; message = SentBegin id_b LocationCancellation (Cancel (pos 1) fifth_imsi UpdateProcedure ∷ []) } in
+        let cancel : Out = record {
+          to = vlr_b;
+          message = SentBegin id_b LocationCancellation
+              (Cancel (pos 1) first_imsi UpdateProcedure ∷ []);
+        } in
+        let of_another : Out = record {
+          to = vlr_b;
+          message = SentBegin id_b LocationCancellation
+              (Cancel (pos 1) fifth_imsi UpdateProcedure ∷ []);
+        } in
         (held_after first_imsi true (Some vlr_b) (result ∷ of_another ∷ []) held_by_none vlr_b
         ≡ true)
         × (held_after first_imsi true (Some vlr_b) (result ∷ cancel ∷ []) held_by_none vlr_b
@@ -410,7 +451,8 @@ pub fn purge()
         let answer = λ (component : SentComponent). one vlr_a
         (SentEnd theirs (Some MsPurging) [] (component ∷ [])) in
         ((asks (purge_of first_imsi (Some vlr_a))).answer.sent ≡ answer (PurgeResult (pos 1) true))
-        × ((asks (purge_of first_imsi (Some vlr_a))).state.records first_imsi ≡ Some (record first_record { purged = true }))
+        × ((asks (purge_of first_imsi (Some vlr_a))).state.records first_imsi
+        ≡ Some (record first_record { purged = true }))
         × ((receives (asks (purge_of first_imsi (Some vlr_a))).state gateway
         (begin_in ShortMsgGateway (route_of first_msisdn ∷ [])) id_a).answer.sent
         ≡ one gateway (SentEnd theirs (Some ShortMsgGateway) [] (SentError (pos 1) 6 ∷ [])))
@@ -436,12 +478,14 @@ pub fn purges_at_other_times()
         ≡ one vlr_a (SentEnd theirs (Some MsPurging) [] (PurgeResult (pos 1) true ∷ [])) }
     ensures withdrawn { let purged = receives start vlr_a
         (begin_in MsPurging (purge_of first_imsi (Some vlr_a) ∷ [])) id_a in
-        (is_changed purged.state first_imsi Withdraw id_a).state.records first_imsi ≡ Some (record first_record { register = None; withdrawn = true }) }
+        (is_changed purged.state first_imsi Withdraw id_a).state.records first_imsi
+        ≡ Some (record first_record { register = None; withdrawn = true }) }
     ensures during_update { let begun = receives start vlr_b
         (begin_in NetworkLocUp (update_of first_imsi at_b ∷ [])) id_a in
         let purged = receives begun.state vlr_a (begin_in MsPurging (purge_of first_imsi (Some vlr_a) ∷ [])) id_b in
         let done = receives purged.state vlr_b (continue_to id_a (result_of (pos 1) ∷ [])) id_b in
-        (purged.state.records first_imsi ≡ Some (record first_record { purged = true; current = Some id_a }))
+        (purged.state.records first_imsi
+        ≡ Some (record first_record { purged = true; current = Some id_a }))
         × (done.state.records first_imsi ≡ Some (record first_record { register = Some at_b })) }
 {}
 
@@ -472,7 +516,8 @@ pub fn codes_changed()
         (pos 1) id_b).answer.sent
         ≡ one vlr_a (SentEnd theirs None [] []))
         × ((is_changed start second_imsi (Codes []) id_d).answer.sent ≡ [])
-        × ((is_changed start hlr (Codes []) id_d).answer ≡ record { id = None; subject = None; sent = [] }) }
+        × ((is_changed start hlr (Codes []) id_d).answer
+        ≡ record { id = None; subject = None; sent = [] }) }
 {}
 
 /// New codes during an update: the update fails when it would complete, whether or not a register served.
@@ -497,7 +542,8 @@ pub fn codes_not_told()
         (begin_in MsPurging (purge_of first_imsi (Some vlr_a) ∷ [])) id_a in
         let changed = is_changed purged.state first_imsi (Codes (0x11 ∷ [])) id_b in
         (changed.answer ≡ record { id = None; subject = Some first_imsi; sent = [] })
-        × (changed.state.records first_imsi ≡ Some (record first_record { codes = 0x11 ∷ []; purged = true })) }
+        × (changed.state.records first_imsi
+        ≡ Some (record first_record { codes = 0x11 ∷ []; purged = true })) }
     ensures withdrawn { let gone = is_changed start first_imsi Withdraw id_a in
         let changed = is_changed gone.state first_imsi (Codes (0x11 ∷ [])) id_b in
         (changed.answer.sent ≡ [])
@@ -520,7 +566,8 @@ pub fn withdrawn()
     ensures { let gone = is_changed start first_imsi Withdraw id_a in
         (gone.answer.sent ≡ one vlr_a (SentBegin id_a LocationCancellation
         (Cancel (pos 1) first_imsi SubscriptionWithdraw ∷ [])))
-        × (gone.state.records first_imsi ≡ Some (record first_record { register = None; withdrawn = true }))
+        × (gone.state.records first_imsi
+        ≡ Some (record first_record { register = None; withdrawn = true }))
         × ((receives gone.state vlr_b (begin_in NetworkLocUp
         (update_of first_imsi at_b ∷ [])) id_b).answer.sent
         ≡ one vlr_b (SentEnd theirs (Some NetworkLocUp) [] (SentError (pos 1) 1 ∷ [])))
@@ -542,7 +589,8 @@ pub fn withdrawn_during_update()
         let gone = is_changed begun.state first_imsi Withdraw id_b in
         let late = receives gone.state vlr_b (continue_to id_a (result_of (pos 1) ∷ [])) id_c in
         (late.answer.sent ≡ one vlr_b (SentEnd theirs None [] (SentError (pos 1) 34 ∷ [])))
-        × (late.state.records first_imsi ≡ Some (record first_record { register = None; withdrawn = true })) }
+        × (late.state.records first_imsi
+        ≡ Some (record first_record { register = None; withdrawn = true })) }
 {}
 
 // A full shard
@@ -551,7 +599,11 @@ pub fn withdrawn_during_update()
 pub fn full_shard()
     ensures update { (S : State) → IsFull S 1 → S.records first_imsi ≡ Some first_record
         → Step S (Frame vlr_b (Read (begin_in NetworkLocUp (update_of first_imsi at_b ∷ [])))) S
-        (record { id = None; subject = Some first_imsi; sent = one vlr_b (SentAbort theirs (Cause 4)) }) }
+        (record {
+          id = None;
+          subject = Some first_imsi;
+          sent = one vlr_b (SentAbort theirs (Cause 4));
+        }) }
     ensures route_asked { (S : State) → IsFull S 1 → S.records first_imsi ≡ Some first_record
         → S.directory first_msisdn ≡ Some first_imsi
         → (T : State) × (a : Answer) × Step S

@@ -9,7 +9,7 @@ use msgarena::{ReadMessage, Round, Verdict};
 use records::read_codes;
 use shard_state::{Plan, ShardParts};
 use std::alloc::Global;
-use turns::{plan_begin, plan_codes, plan_withdrawal};
+use turns::{plan_begin, plan_codes, plan_withdrawal, subject_of_begin};
 
 /// Two subscribers of shard 1: one with a register, one without.
 const RECORDS_OF_TWO: &[u8] = b"HLR1 447700900100
@@ -110,7 +110,8 @@ fn begun(alloc: Global, shard: &ShardParts, octets: &[u8]) -> Option<Plan> {
     else {
         return None;
     };
-    plan_begin(alloc, shard, &indication, *origin, components).ok()
+    let subject = subject_of_begin(shard.directory(), components);
+    plan_begin(alloc, shard, &indication, *origin, components, subject).ok()
 }
 
 /// The plan of new codes.

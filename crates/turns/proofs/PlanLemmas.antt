@@ -2,14 +2,13 @@
 use Rattle.std.proofs.Common.{◌≡◌, ◌∙◌, ℕ, List, [], Option, Some, None, is_some, IsTrue, refl, sym, ap, subst}
 use Rattle.std.specs.Prelude.{IfSome, option_map, option_copied}
 use Rattle.std.specs.Borrow.{Bor}
-use Rattle.std.specs.Global.{Vec}
 use Rattle.records.specs.Subscriber.{Subscriber, AreAllowed}
 use Rattle.machine.specs.Events.{Change, Withdraw}
 use Rattle.machine.specs.Received.{Component}
 use Rattle.machine.specs.State.{Local}
 use Rattle.machine.specs.Begins.{begins}
 use Rattle.machine.specs.Changes.{changes}
-use Rattle.machine.specs.Routing.{asked}
+use Rattle.machine.specs.Routing.{subject_of_begin}
 use Rattle.machine.specs.Turns.{Turn, Begins, Changes, concern, named}
 use Rattle.machine.specs.Step.{if_known, known_in, outcome_in, seen, subject_of}
 use Rattle.machine_laws.proofs.Refusing.{begins_opens}
@@ -91,7 +90,7 @@ module _ (s : ShardState) (imsi : Option (List ℕ)) (found : Option (Bor Subscr
   })
 
   -- A Begin.
-  pub begin_plan : (from origin : List ℕ) (name : Option (List ℕ)) (cs : List Component) → imsi ≡ asked (directory_of s.directory) cs → codes ≡ []
+  pub begin_plan : (from origin : List ℕ) (name : Option (List ℕ)) (cs : List Component) → imsi ≡ subject_of_begin (directory_of s.directory) cs → codes ≡ []
       → ((here : Local) → here.clock ≡ s.clock → IfSome found (λ f. f.now.imsi ≡ here.imsi) → here.record_of ≡ known found
       → outcome_of here None [] outcome ≡ begins here from origin name cs new)
       → IsPlan s (Begins from origin name cs) [] plan

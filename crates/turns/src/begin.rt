@@ -3,38 +3,42 @@
 ghost use Rattle.std.specs.Prelude.{◌≡◌, [], List, ℕ, Option, IfOk, map};
 ghost use Rattle.machine.specs.Received as machine;
 ghost use Rattle.machine.specs.Received.{Read};
+ghost use Rattle.machine.specs.Routing.{subject_of_begin};
 ghost use Rattle.machine.specs.Turns.{Begins};
 ghost use Rattle.q773_comp.specs.Seen.{component};
 ghost use Rattle.msgarena.specs.Seen.{parameter};
 ghost use Rattle.location.specs.Asking.{IsBeginOf};
+ghost use Rattle.shard_state.specs.Shards.{directory_of};
 ghost use Rattle.turns.specs.Planning.{IsPlan};
 
 use crate::new_id::next_or_any;
-use crate::subject::asked;
 use crate::subscriber::record_of;
 use crate::unnamed::unnamed;
-use hlr_types::{RemoteId, ShortList};
+use hlr_types::{Imsi, RemoteId, ShortList};
 use msgarena::{Indication, Parameter};
 use q773_comp::Component;
 use shard_state::{Plan, ShardParts};
 use std::alloc::{AllocError, Global};
 
-/// The plan of a received Begin.
+/// The plan of a received Begin, which is about this subscriber.
 pub fn plan_begin(
     alloc: Global,
     shard: &ShardParts,
     indication: &Indication,
     origin: RemoteId,
     components: &[Component<Parameter>],
+    imsi: Option<Imsi>,
 ) -> Result<Plan, AllocError>
-    requires { IsBeginOf indication.now.verdict origin (map (component parameter) components.now) }
+    requires begin { IsBeginOf indication.now.verdict origin
+        (map (component parameter) components.now) }
+    requires about { imsi ≡ subject_of_begin (directory_of shard.now.directory)
+        (map (component parameter) components.now) }
     ensures { IfOk result (λ plan. (name : Option (List ℕ))
         → indication.now.verdict ≡ Read (machine.Begin origin name
         (map (component parameter) components.now))
         → IsPlan shard.now (Begins indication.now.from origin name
         (map (component parameter) components.now)) [] plan) }
 {
-    let imsi = asked(shard.directory(), components);
     let subscriber = record_of(shard, imsi.as_ref());
     let new = next_or_any(shard);
     let now = shard.clock();

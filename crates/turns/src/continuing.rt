@@ -90,7 +90,8 @@ pub fn plan_continue(
     components: &[Component<Parameter>],
 ) -> Result<Option<Plan>, AllocError>
     ensures { IfOk result (IsPlanOr shard.now
-        (continue_at from origin destination (map (component parameter) components.now) (dialogues_of shard.now.dialogues destination))
+        (continue_at from origin destination (map (component parameter) components.now)
+        (dialogues_of shard.now.dialogues destination))
         components.now (send from (SentAbort origin (Cause UNRECOGNIZED_TRANSACTION_ID)))) }
 {
     let head = Head::Continue {

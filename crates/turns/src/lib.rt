@@ -20,4 +20,4 @@ pub use change::{plan_codes, plan_withdrawal};
 pub use closing::plan_close;
 pub use continuing::plan_continue;
 pub use expiry::plan_expiry;
-pub use subject::asked;
+pub use subject::subject_of_begin;

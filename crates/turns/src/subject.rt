@@ -1,7 +1,7 @@
 //! The subscriber that a Begin is about.
 
 ghost use Rattle.std.specs.Prelude.{◌≡◌, map};
-ghost use Rattle.machine.specs.Routing.{asked};
+ghost use Rattle.machine.specs.Routing.{subject_of_begin};
 ghost use Rattle.msgarena.specs.Seen.{parameter};
 ghost use Rattle.q773_comp.specs.Seen.{component};
 ghost use Rattle.shard_state.specs.Shards.{directory_of};
@@ -14,8 +14,8 @@ use records::Directory;
 
 /// The subscriber that a Begin is about, by its first component only. sendRoutingInfoForSM names the subscriber by MSISDN
 /// (TS 29.002, 12.1).
-pub fn asked(directory: &Directory, components: &[Component<Parameter>]) -> Option<Imsi>
-    ensures { result ≡ asked (directory_of directory.now)
+pub fn subject_of_begin(directory: &Directory, components: &[Component<Parameter>]) -> Option<Imsi>
+    ensures { result ≡ subject_of_begin (directory_of directory.now)
         (map (component parameter) components.now) }
 {
     match first_argument(components)? {

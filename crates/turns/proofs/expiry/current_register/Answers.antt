@@ -14,5 +14,6 @@ returns c =
     sym (ap (λ (x : Subscriber). x.current) c.branch.view_is) ∙ c.in_ok-current.was in
     rw c.in_ok-subscriber.was (
     ap (current_register (local_of (state_of s) s.shard imsi)) marked
-    ∙ current_is s imsi c.in_ok-current.current c.dialogues.result.now c.get.result c.register_of.result c.dialogues.ensures.value c.get.ensures c.register_of.ensures
+    ∙ current_is s imsi c.in_ok-current.current c.dialogues.result.now c.get.result
+    c.register_of.result c.dialogues.ensures.value c.get.ensures c.register_of.ensures
     )

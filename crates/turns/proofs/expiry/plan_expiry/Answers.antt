@@ -8,7 +8,8 @@ pub returns-in_err-due : goal.returns-in_err-due
 returns-in_err-due c =
     let s = c.args.shard.now in
     rw c.from_residual.ensures (nothing_expires s
-    (expiry_here s c.dialogues.result.now c.clock.result None c.dialogues.ensures.value c.clock.ensures.value c.dialogues.ensures.own c.in_err-due.ensures.expiry))
+    (expiry_here s c.dialogues.result.now c.clock.result None c.dialogues.ensures.value
+    c.clock.ensures.value c.dialogues.ensures.own c.in_err-due.ensures.expiry))
 
 pub returns : goal.returns
 returns c =

@@ -10,7 +10,8 @@ settle-requires-clause-room c = closed_room c.self.inside.shard c.args.destinati
 pub returns-in-Some-clause-received : goal.returns-in-Some-clause-received
 returns-in-Some-clause-received c =
     both_ok c.settle.result
-    (λ a settled says. close_taken c.self.inside.shard c.args.self.now c.settle.new.self c.args.indication.now c.args.destination c.plan_close.result c.in-Some.plan a
+    (λ a settled says. close_taken c.self.inside.shard c.args.self.now c.settle.new.self
+    c.args.indication.now c.args.destination c.plan_close.result c.in-Some.plan a
     c.self.view_is c.requires.mine c.requires.closes c.plan_close.ensures c.in-Some.is c.settle.ensures.own (settled, says))
     c.settle.ensures.settled c.settle.ensures.says
 

@@ -10,7 +10,8 @@ settle-requires-clause-room c = expiry_has_room c.self.inside.shard c.plan_expir
 pub returns-in-Some-clause-expired : goal.returns-in-Some-clause-expired
 returns-in-Some-clause-expired c =
     both_ok c.settle.result
-    (λ a settled says. expiry_taken c.self.inside.shard c.args.self.now c.settle.new.self c.plan_expiry.result c.in-Some.plan a c.self.view_is c.plan_expiry.ensures c.in-Some.is c.settle.ensures.own
+    (λ a settled says. expiry_taken c.self.inside.shard c.args.self.now c.settle.new.self
+    c.plan_expiry.result c.in-Some.plan a c.self.view_is c.plan_expiry.ensures c.in-Some.is c.settle.ensures.own
     (settled, says))
     c.settle.ensures.settled c.settle.ensures.says
 

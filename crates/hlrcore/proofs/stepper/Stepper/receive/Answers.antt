@@ -10,7 +10,7 @@ use Rattle.hlrcore.proofs.stepper.Stepper.receive.Goals as goal
 
 pub returns-in-Discard-clause-received : goal.returns-in-Discard-clause-received
 returns-in-Discard-clause-received c =
-    received_as _ c.args.indication.now Discard [] _ (record { routed = c.requires; judged = c.verdict.ensures.judged })
+    received_as _ c.args.indication.now Discard [] _ (record { routed = c.requires.mine; judged = c.verdict.ensures.judged })
     (sym c.verdict.ensures.value ∙ ap seen c.in-Discard.is) (λ d. refl) c.silent.ensures
 
 pub returns-in-Refuse-clause-received : goal.returns-in-Refuse-clause-received
@@ -18,6 +18,6 @@ returns-in-Refuse-clause-received c =
     let abort = SentAbort c.in-Refuse.origin (Cause c.in-Refuse.cause) in
     then_ok c.aborted.result
     (λ a says. received_as _ c.args.indication.now (Refuse c.in-Refuse.origin c.in-Refuse.cause) (send c.args.indication.now.from abort) a
-    (record { routed = c.requires; judged = c.verdict.ensures.judged }) (sym c.verdict.ensures.value ∙ ap seen c.in-Refuse.is) (λ d. refl)
+    (record { routed = c.requires.mine; judged = c.verdict.ensures.judged }) (sym c.verdict.ensures.value ∙ ap seen c.in-Refuse.is) (λ d. refl)
     (subst (λ (to : List ℕ). Says a None None (send to abort)) c.from.ensures says))
     c.aborted.ensures
