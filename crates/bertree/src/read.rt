@@ -71,6 +71,9 @@ fn alone<'a>(node: Node<'a>, after: &[u8]) -> Result<Node<'a>, TreeFault>
     }
 }
 
+/// Levels for which room is made at once; messages of TCAP and MAP have hardly more.
+const USUAL_LEVELS: usize = 8;
+
 /// The tree that the octets spell, and its levels. The elements that have begun are in `outer`, outermost first, and in
 /// `inner`; `rest` is what is left of the contents of `inner`.
 fn read_levels<'a>(bump: &'a Bump, octets: &'a [u8]) -> Result<(Node<'a>, usize), TreeFault>
@@ -88,7 +91,7 @@ fn read_levels<'a>(bump: &'a Bump, octets: &'a [u8]) -> Result<(Node<'a>, usize)
         }
         Head::Constructed(tag, contents, after) => (Open::new(bump, tag, after), contents),
     };
-    let mut outer: Vec<Open<'a>, &'a Bump> = Vec::new(bump);
+    let mut outer: Vec<Open<'a>, &'a Bump> = Vec::with_capacity(bump, USUAL_LEVELS)?;
     let mut deepest = 1;
     loop {
         if let Some(after) = end(inner.after, rest) {

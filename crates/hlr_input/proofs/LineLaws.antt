@@ -65,7 +65,8 @@ pub none_read : (r : Option (List ℕ)) (others : List ℕ) → r ≡ None → r
 none_read None others is e = absurd cc
 none_read (Some y) others is e = absurd cc
 
-only_codes : (kind first second imsi : List ℕ) (read : List ℕ) → kind ≡ codes "O" → ((digits : List ℕ) → IsImsiNumber first digits → imsi ≡ digits) → ((others : List ℕ) → IsCodes second others → read ≡ others)
+only_codes : (kind first second imsi : List ℕ) (read : List ℕ) → kind ≡ codes "O"
+    → ((digits : List ℕ) → IsImsiNumber first digits → imsi ≡ digits) → ((others : List ℕ) → IsCodes second others → read ≡ others)
     → (said : Line) → says_three kind first second said → Codes imsi read ≡ said
 only_codes kind first second imsi read is one_imsi one_field (Frame from field) h = absurd (o_is_not_f (sym is ∙ h.0))
 only_codes kind first second imsi read is one_imsi one_field (Clock now) h = absurd h
@@ -77,9 +78,11 @@ only_codes kind first second imsi read is one_imsi one_field (Withdraw digits) h
 pub codes_said : (kind first second imsi : List ℕ) (read : List ℕ) → kind ≡ codes "O" → IsImsiNumber first imsi → IsCodes second read
     → ((digits : List ℕ) → IsImsiNumber first digits → imsi ≡ digits) → ((others : List ℕ) → IsCodes second others → read ≡ others)
     → says_three kind first second (Codes imsi read) × ((said : Line) → says_three kind first second said → Codes imsi read ≡ said)
-codes_said kind first second imsi read is number field one_imsi one_field = ((is, number, field), λ said h. only_codes kind first second imsi read is one_imsi one_field said h)
+codes_said kind first second imsi read is number field one_imsi one_field =
+    ((is, number, field), λ said h. only_codes kind first second imsi read is one_imsi one_field said h)
 
-pub no_codes_said : (kind first second : List ℕ) → kind ≡ codes "O" → ((others : List ℕ) → IsCodes second others → ⊥) → (said : Line) → says_three kind first second said → ⊥
+pub no_codes_said : (kind first second : List ℕ) → kind ≡ codes "O"
+    → ((others : List ℕ) → IsCodes second others → ⊥) → (said : Line) → says_three kind first second said → ⊥
 no_codes_said kind first second is none (Frame from field) h = o_is_not_f (sym is ∙ h.0)
 no_codes_said kind first second is none (Clock now) h = h
 no_codes_said kind first second is none Expire h = h

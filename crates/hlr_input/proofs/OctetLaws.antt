@@ -244,7 +244,8 @@ stand_found text e =
     elim (cases_Bool (is_text text (codes "-"))) [
       | inl t ↦ ([], is_text_true text (codes "-") t)
       | inr f ↦
-          let rest : cond (length text == 0) false (are_groups 26 text) ≡ true = sym (cond-false (is_text text (codes "-")) true (cond (length text == 0) false (are_groups 26 text)) f) ∙ e in
+          let rest : cond (length text == 0) false (are_groups 26 text) ≡ true =
+          sym (cond-false (is_text text (codes "-")) true (cond (length text == 0) false (are_groups 26 text)) f) ∙ e in
           elim (cases_Bool (length text == 0)) [
             | inl z ↦ absurd (false≢true (sym (cond-true (length text == 0) false (are_groups 26 text) z) ∙ rest))
             | inr some ↦
@@ -304,7 +305,8 @@ octets_in_found ids text octets e =
     elim (cases_Bool (is_text text (codes "-"))) [
       | inl t ↦ ([], is_text_true text (codes "-") t)
       | inr f ↦
-          let rest : cond (length text == 0) None (octets_after ids [] text) ≡ Some octets = sym (cond-false (is_text text (codes "-")) (Some []) (cond (length text == 0) None (octets_after ids [] text)) f) ∙ e in
+          let rest : cond (length text == 0) None (octets_after ids [] text) ≡ Some octets =
+          sym (cond-false (is_text text (codes "-")) (Some []) (cond (length text == 0) None (octets_after ids [] text)) f) ∙ e in
           elim (cases_Bool (length text == 0)) [
             | inl z ↦ let bad : None ≡ Some octets = sym (cond-true (length text == 0) None (octets_after ids [] text) z) ∙ rest in absurd cc
             | inr some ↦

@@ -63,11 +63,16 @@ fn are_groups(text: &[u8], known: usize) -> bool
     groups_stand(text, known)
 }
 
-/// Whether each character is a hexadecimal digit, of either case.
+/// Whether each character is a hexadecimal digit, of either case. It looks at all of them, since the compiler takes sixteen at a
+/// time where no character ends the loop.
 fn are_digits(text: &[u8]) -> bool
     ensures { result ≡ list_all is_hex_digit text.now }
 {
-    text.iter().all(|character| is_digit(*character))
+    let mut all = true;
+    for character in text {
+        all = all & is_digit(*character);
+    }
+    all
 }
 
 #[tactic(auto, using(crate::proofs::DigitLaws::digit_is_digit))]

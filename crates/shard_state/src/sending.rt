@@ -42,7 +42,8 @@ pub(crate) fn outs_of(
 ) -> Result<Frames, AllocError>
     ensures { IfOk result (λ outs. outs ≡ map spelled_out (sent_of message.now cancel.now)) }
 {
-    let mut outs = Vec::new(alloc);
+    let room = usize::from(message.is_some()) + usize::from(cancel.is_some());
+    let mut outs = Vec::with_capacity(alloc, room)?;
     push(&mut outs, alloc, message)?;
     push(&mut outs, alloc, cancel)?;
     Frames::of(alloc, outs)

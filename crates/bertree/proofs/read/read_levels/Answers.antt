@@ -21,7 +21,7 @@ returns-in-Primitive-clause-ok c =
 pub loop-after-init : goal.loop-after-init
 loop-after-init c =
     let o = c.new.ensures in
-    reading-first _ _ _ _ _ _ c.new-outer.ensures.items o.tag o.after o.children (rw c.in-Constructed.is at c.in-Some.ensures.found)
+    reading-first _ _ _ _ _ _ c.in_ok-outer.ensures.items o.tag o.after o.children (rw c.in-Constructed.is at c.in-Some.ensures.found)
 
 -- an element has ended
 

@@ -1,5 +1,5 @@
 use Rattle.std.proofs.Common.{refl}
-use Rattle.records.specs.Subscriber.{placed, ended}
+use Rattle.records.specs.Subscriber.{placed, as_withdrawn}
 use Rattle.location.specs.declared.outcome.After.TheVariants.{Location, Withdrawn}
 use Rattle.shard_state.specs.Shards.{records_of}
 use Rattle.shard_state.proofs.RecordLemmas.{same_written, written_by}
@@ -18,4 +18,4 @@ returns-in-Location c =
 pub returns-in-Withdrawn : goal.returns-in-Withdrawn
 returns-in-Withdrawn c =
     written_by c.args.codes c.args.after Withdrawn c.args.imsi c.in-Some.imsi c.args.records.now c.withdraw.new.self
-    ended c.in-Some.is c.in-Withdrawn.is (λ e. absurd (cc e)) c.requires.writable (λ s. refl) c.withdraw.ensures
+    as_withdrawn c.in-Some.is c.in-Withdrawn.is (λ e. absurd (cc e)) c.requires.writable (λ s. refl) c.withdraw.ensures

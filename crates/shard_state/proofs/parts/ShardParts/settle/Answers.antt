@@ -10,7 +10,8 @@ returns-clause-settled c =
 
 pub returns-clause-says : goal.returns-clause-says
 returns-clause-says c = record {
-  id_is = taken_by _ c.args.self.now c.args.plan c.clock-clock.result c.self.view_is c.clock-clock.ensures.value c.requires.can c.in_ok-id.id c.in_ok-id.ensures.taken;
+  id_is = taken_by _ c.args.self.now c.args.plan c.clock-clock.result c.self.view_is
+      c.clock-clock.ensures.value c.requires.can c.in_ok-id.id c.in_ok-id.ensures.taken;
   subject_is = refl;
   outs = c.in_ok-outs.ensures;
 }
