@@ -43,7 +43,8 @@ enc-definite (x690.Constructed tag children) = refl
 pub contents-primitive : (t : OwnTree) (tag : Tag) (octets : Bor (List ℕ)) → t ≡ Primitive tag octets → contents_of (own t) ≡ octets.now
 contents-primitive t tag octets is = ap contents_of (ap own is ∙ own-Primitive tag octets)
 
-pub contents-constructed : (t : OwnTree) (tag : Tag) (children : Bor (List OwnTree)) → t ≡ Constructed tag children → contents_of (own t) ≡ enc_each children.now
+pub contents-constructed : (t : OwnTree) (tag : Tag) (children : Bor (List OwnTree))
+    → t ≡ Constructed tag children → contents_of (own t) ≡ enc_each children.now
 contents-constructed t tag children is = ap contents_of (ap own is ∙ own-Constructed tag children)
 
 -- nothing is left after the last child

@@ -52,7 +52,8 @@ fn widen(out: &mut Vec<u8>, place: usize, octets: &[u8]) -> Result<(), AllocErro
 pub(crate) fn set_length(out: &mut Vec<u8>, place: usize) -> Result<(), AllocError>
     requires { place < list_length out.old.items }
     ensures { OnOk result (out.new.items ≡ take place out.old.items
-        ++ (length_octets (list_length out.old.items - place - 1) ++ drop (place + 1) out.old.items)) }
+        ++ (length_octets (list_length out.old.items - place - 1)
+        ++ drop (place + 1) out.old.items)) }
 {
     let length = out.len() - place - 1;
     let [.., a, b, c, d] = (length as u64).to_be_bytes();

@@ -12,13 +12,13 @@ use Rattle.machine_laws.proofs.Folding.{after_append}
 use Rattle.machine_laws.proofs.Rising.{int_is, IsMap, every_one, rising_map}
 use Rattle.csl.specs.declared.ending.How.TheVariants.{Succeeds, Fails, IsRejected}
 use Rattle.csl.specs.declared.ending.Ending.{Ending}
-use Rattle.csl.specs.Endings.{has_id, ending, ended, is_failing}
+use Rattle.csl.specs.Endings.{has_id, ending, after_ending, is_failing}
 use Rattle.csl.proofs.Places.{Parts, NoneHas, parts_of, none_of, get_at, set_at, remove_at}
 
 -- an ending as a value of the definitions
 record Ends {P : Type 0} (c : ComponentOf P) (e : Ending) : Type 0 where
   pub concludes_its : (j : ℤ) → concludes j c ≡ int_eq e.id j
-  pub after : (now : ℕ) (v : Invocation) → concluded_by now v (Some c) ≡ ended now e.how v
+  pub after : (now : ℕ) (v : Invocation) → concluded_by now v (Some c) ≡ after_ending now e.how v
   pub failed : is_failure (Some c) ≡ is_failing e.how
 
 and_true : (b : Bool) → (b && true) ≡ b
@@ -175,17 +175,20 @@ module _ {P : Type 0} where
                   ∙ ap (λ b. b && is_failure (concluding its.own.id (c ∷ []))) own_waits);
             }
 
-        after_sent : is_sent v.was ≡ true → its.front ++ (ended now e.how v ++ its.back) ≡ invocations_after now (c ∷ []) vs
+        after_sent : is_sent v.was ≡ true → its.front ++ (after_ending now e.how v ++ its.back) ≡ invocations_after now (c ∷ []) vs
         after_sent w =
-            ap (λ us. its.front ++ (us ++ its.back)) (ap (ended now e.how) own_is ∙ sym ((ends c e is).after now its.own) ∙ ap (concluded_by now its.own) (sym is_concluding) ∙ sym (ap (λ b. cond b (concluded_by now its.own (concluding its.own.id (c ∷ []))) (its.own ∷ [])) (sym (ap (λ (u : Invocation). is_sent u.was) own_is) ∙ w)))
+            ap (λ us. its.front ++ (us ++ its.back)) (ap (after_ending now e.how) own_is ∙ sym ((ends c e is).after now its.own)
+            ∙ ap (concluded_by now its.own) (sym is_concluding)
+            ∙ sym (ap (λ b. cond b (concluded_by now its.own (concluding its.own.id (c ∷ []))) (its.own ∷ []))
+            (sym (ap (λ (u : Invocation). is_sent u.was) own_is) ∙ w)))
             ∙ sym (ap (invocations_after now (c ∷ [])) its.whole ∙ after_at its.front its.own its.back its.others behind)
 
         pub removed : is_sent v.was ≡ true → e.how ≡ IsRejected → remove vs place ≡ invocations_after now (c ∷ []) vs
         removed w how =
             ap (λ us. remove us place) its.whole ∙ ap (remove (its.front ++ its.own ∷ its.back)) (sym its.at) ∙ remove_at its.front its.own its.back
-            ∙ ap (λ h. its.front ++ (ended now h v ++ its.back)) (sym how) ∙ after_sent w
+            ∙ ap (λ h. its.front ++ (after_ending now h v ++ its.back)) (sym how) ∙ after_sent w
 
-        waits_as : is_sent v.was ≡ true → (u : Invocation) → ended now e.how v ≡ u ∷ [] → set vs place u ≡ invocations_after now (c ∷ []) vs
+        waits_as : is_sent v.was ≡ true → (u : Invocation) → after_ending now e.how v ≡ u ∷ [] → set vs place u ≡ invocations_after now (c ∷ []) vs
         waits_as w u how =
             ap (λ us. set us place u) its.whole ∙ ap (λ n. set (its.front ++ its.own ∷ its.back) n u) (sym its.at) ∙ set_at its.front its.own its.back u
             ∙ ap (λ us. its.front ++ (us ++ its.back)) (sym how) ∙ after_sent w
@@ -199,11 +202,13 @@ module _ {P : Type 0} where
                 (record { id = w.id; was = WaitForReject; deadline = now + REJECT_TIMER })
             same_wait s = λ i. record { id = (s i).id; was = WaitForReject; deadline = now + REJECT_TIMER }
 
-            ended_now : (e.how ≡ Fails) ⊎ (e.how ≡ Succeeds) → ended now e.how v ≡ record { id = v.id; was = WaitForReject; deadline = now + REJECT_TIMER } ∷ []
-            ended_now (inl f) = ap (λ h. ended now h v) f
-            ended_now (inr f) = ap (λ h. ended now h v) f
+            ended_now : (e.how ≡ Fails) ⊎ (e.how ≡ Succeeds)
+                → after_ending now e.how v ≡ record { id = v.id; was = WaitForReject; deadline = now + REJECT_TIMER } ∷ []
+            ended_now (inl f) = ap (λ h. after_ending now h v) f
+            ended_now (inr f) = ap (λ h. after_ending now h v) f
 
         pub failed_sent : is_sent v.was ≡ true → is_failing e.how ≡ any_failed (c ∷ []) vs
         failed_sent w =
-            sym (ends c e is).failed ∙ ap is_failure (sym is_concluding) ∙ ap (λ b. b && is_failure (concluding its.own.id (c ∷ []))) (sym (sym (ap (λ (u : Invocation). is_sent u.was) own_is) ∙ w))
+            sym (ends c e is).failed ∙ ap is_failure (sym is_concluding)
+            ∙ ap (λ b. b && is_failure (concluding its.own.id (c ∷ []))) (sym (sym (ap (λ (u : Invocation). is_sent u.was) own_is) ∙ w))
             ∙ sym (ap (any_failed (c ∷ [])) its.whole ∙ failed_at its.front its.own its.back its.others behind)

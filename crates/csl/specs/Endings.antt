@@ -21,10 +21,10 @@ ending (Reject (Some id) side problem) = cond (ends_it side) (Some (record { id 
 ending _ = None
 
 -- An invocation after its ending: Wait for Reject if it was answered, Idle if it was rejected.
-abbrev pub ended : ℕ → How → Invocation → List Invocation
-ended now IsRejected v = []
-ended now Fails v = record { id = v.id; was = WaitForReject; deadline = now + REJECT_TIMER } ∷ []
-ended now Succeeds v = record { id = v.id; was = WaitForReject; deadline = now + REJECT_TIMER } ∷ []
+abbrev pub after_ending : ℕ → How → Invocation → List Invocation
+after_ending now IsRejected v = []
+after_ending now Fails v = record { id = v.id; was = WaitForReject; deadline = now + REJECT_TIMER } ∷ []
+after_ending now Succeeds v = record { id = v.id; was = WaitForReject; deadline = now + REJECT_TIMER } ∷ []
 
 abbrev pub is_failing : How → Bool
 is_failing Succeeds = false

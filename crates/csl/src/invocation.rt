@@ -33,7 +33,8 @@ impl Model for Invocation {
 
     ghost inverse = { λ v. record { id = v.id; was = was_back v.was; deadline = v.deadline } };
 
-    ghost inverse_ok = { λ a h i. record { id = a.id; was = was_returns a.was i; deadline = a.deadline } };
+    ghost inverse_ok = { λ a h i.
+        record { id = a.id; was = was_returns a.was i; deadline = a.deadline } };
 }
 
 impl Invocation {
@@ -72,7 +73,8 @@ impl Invocation {
     /// It is answered now: Wait for Reject, with the reject timer.
     pub(crate) fn wait(&mut self, now: u64)
         requires { now ≤ 2 ^ 62 }
-        ensures { self.new ≡ record { id = self.old.id; was = WaitForReject; deadline = now + REJECT_TIMER } }
+        ensures { self.new
+            ≡ record { id = self.old.id; was = WaitForReject; deadline = now + REJECT_TIMER } }
     {
         self.was = Was::Waiting;
         self.deadline = now + REJECT_TIMER;

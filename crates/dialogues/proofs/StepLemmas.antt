@@ -56,7 +56,8 @@ module _ (id : List ℕ) (t t' : OpenTransactions) (lists lists' : InvocationLis
   pub tied_closed : AreTied t lists talks → at t id ≢ None → AreTied t' lists' talks
   tied_closed tied some =
       let fewer = ap count closes ∙ count-closed t id some in
-      tied_changed id None [] t t' lists lists' talks talks changes_closed tied (omega arith) (λ some. absurd (some refl)) (λ e. refl) (λ some. absurd (some refl)) (ap (λ (s : OpenTransactions). s.shard) closes)
+      tied_changed id None [] t t' lists lists' talks talks changes_closed tied (omega arith)
+      (λ some. absurd (some refl)) (λ e. refl) (λ some. absurd (some refl)) (ap (λ (s : OpenTransactions). s.shard) closes)
       (omega (arith, fewer, tied.few))
 
   pub place_after : AreTied t lists talks → at t id ≢ None → count t' + 1 ≤ 4096

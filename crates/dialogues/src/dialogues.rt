@@ -99,7 +99,8 @@ impl Dialogues {
     ) -> Result<Effect, AllocError>
         requires { now ≤ 2 ^ 62 }
         ensures { IfOk result (λ answer. IsEffect answer
-            (effect now (offered offer.now) (invocations_in (dialogues_of self.now id)) (map heard components.now))) }
+            (effect now (offered offer.now) (invocations_in (dialogues_of self.now id))
+            (map heard components.now))) }
     {
         self.invocations.effect(id, offer, components, now)
     }
@@ -250,7 +251,8 @@ impl Dialogues {
         requires is_open { dialogues_of self.old id ≢ None }
         requires early { now ≤ 2 ^ 62 }
         ensures ok { OnOk result (dialogues_of self.new ≡ put (dialogues_of self.old) id
-            (option_map (gone_on peer remote now (map heard components.now)) (dialogues_of self.old id))) }
+            (option_map (gone_on peer remote now (map heard components.now))
+            (dialogues_of self.old id))) }
         ensures shard { self.new.shard ≡ self.old.shard }
         ensures err { OnErr result (self.new ≡ self.old) }
     {

@@ -41,8 +41,16 @@ one_verdict octets v w (inr (t, f, j)) (inr (u, g, k)) =
 answered : (t : Tree) (m : TcMessage) (cause : ℕ) → IsMessage t m → (u : Unread) × IsAnswer t (Some cause) u × (verdict_on u ≡ refusal m cause)
 answered t (tc.Begin o p) cause (ts, are, fits, e) =
     (Refused o cause, inl (o, may_be t o (inl (ap tag_of e)) (record { rest = ts; fits = fits; spelled = children_are t BEGIN _ e }), refl), refl)
-answered t (tc.Continue o d p) cause (ts, are, fits, fits', e) =
-    (Refused o cause, inl (o, may_be t o (inr (ap tag_of e)) (record { rest = Primitive DESTINATION d ∷ ts; fits = fits; spelled = children_are t CONTINUE _ e }), refl), refl)
+answered t (tc.Continue o d p) cause (ts, are, fits, fits', e) = (
+  Refused o cause,
+  inl (
+    o,
+    may_be t o (inr (ap tag_of e))
+        (record { rest = Primitive DESTINATION d ∷ ts; fits = fits; spelled = children_are t CONTINUE _ e }),
+    refl,
+  ),
+  refl,
+)
 answered t (tc.End d p) cause (ts, are, fits, e) = (Discarded, inr ((λ o may. may.1 (ap tag_of e)), refl), refl)
 answered t (tc.Abort d) cause (ts, are, fits, e) = (Discarded, inr ((λ o may. may.2 (ap tag_of e)), refl), refl)
 

@@ -111,7 +111,8 @@ message_passes t (tc.Begin o p) (ts, are, fits, e) =
     (λ h. other t BEGIN CONTINUE refl tag h.0) (tc.Begin o p) (ts, are, fits, e)
 message_passes t (tc.Continue o d p) (ts, are, fits, fits', e) =
     let tag : tag_of t ≡ CONTINUE = ap tag_of e in
-    passes t (λ f. other t CONTINUE UNIDIRECTIONAL refl tag f) (λ h. h.1 tag) (λ h. h.1 o (record { rest = Primitive DESTINATION d ∷ ts; fits = fits; spelled = children_are t CONTINUE _ e }))
+    passes t (λ f. other t CONTINUE UNIDIRECTIONAL refl tag f) (λ h. h.1 tag)
+    (λ h. h.1 o (record { rest = Primitive DESTINATION d ∷ ts; fits = fits; spelled = children_are t CONTINUE _ e }))
     (λ h. h.1 o d (record { rest = ts; origin_fits = fits; destination_fits = fits'; spelled = children_are t CONTINUE _ e })) (tc.Continue o d p)
     (ts, are, fits, fits', e)
 message_passes t (tc.End d p) (ts, are, fits, e) =

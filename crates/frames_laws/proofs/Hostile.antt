@@ -64,7 +64,8 @@ five_length_octets rest t h = no_length BEGIN true 0x85 rest (0x62 ∷ 0x85 ∷ 
 -- ---- a primitive element of the indefinite form
 
 -- an element that begins with the identifier octet 48 is an ORIGIN
-origin_begins : (tag : Tag) (c : Bool) (front back more rest : List ℕ) → IsTag c tag → front ≡ identifier tag ++ more → front ++ back ≡ 0x48 ∷ rest → (tag ≡ ORIGIN) × (more ++ back ≡ rest)
+origin_begins : (tag : Tag) (c : Bool) (front back more rest : List ℕ) → IsTag c tag
+    → front ≡ identifier tag ++ more → front ++ back ≡ 0x48 ∷ rest → (tag ≡ ORIGIN) × (more ++ back ≡ rest)
 unfolding identifier
 origin_begins tag c front back more rest is e same =
     let f : identifier tag ++ (more ++ back) ≡ identifier ORIGIN ++ rest = sym (append_assoc (identifier tag) more back)

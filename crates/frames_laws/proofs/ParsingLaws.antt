@@ -125,7 +125,8 @@ abbrev InSome : Bool → List ℕ → Type 0
 InSome c i = InClass c i Universal ⊎ (InClass c i Application ⊎ (InClass c i ContextSpecific ⊎ InClass c i Private))
 
 names_in : (c : Bool) (i : List ℕ) (class : Class) → InClass c i class → Names c i
-names_in c i class (n, small, (no_end, is)) = (record { class = class; constructed = c; number = n }, record { kind = refl; small = small; no_end = no_end }, is)
+names_in c i class (n, small, (no_end, is)) =
+    (record { class = class; constructed = c; number = n }, record { kind = refl; small = small; no_end = no_end }, is)
 
 names_some : (c : Bool) (i : List ℕ) → InSome c i → Names c i
 names_some c i (inl h) = names_in c i Universal h

@@ -39,16 +39,19 @@ ends Good Bad whole start rest before h is = h.all (subst (AllByRecursion Good) 
 
 -- ---- batches
 
-pub batch_goes_on : (rest : List (List ℕ)) (line : List ℕ) (more : List (List ℕ)) → rest ≡ line ∷ more → is_text line (codes "W") ≡ false → batch_of rest ≡ line ∷ batch_of more
+pub batch_goes_on : (rest : List (List ℕ)) (line : List ℕ) (more : List (List ℕ))
+    → rest ≡ line ∷ more → is_text line (codes "W") ≡ false → batch_of rest ≡ line ∷ batch_of more
 batch_goes_on rest line more is no_end = ap batch_of is ∙ cond-false (is_text line (codes "W")) [] (line ∷ batch_of more) no_end
 
 pub batch_ends : (rest : List (List ℕ)) (line : List ℕ) (more : List (List ℕ)) → rest ≡ line ∷ more → is_text line (codes "W") ≡ true → batch_of rest ≡ []
 batch_ends rest line more is end = ap batch_of is ∙ cond-true (is_text line (codes "W")) [] (line ∷ batch_of more) end
 
-pub behind_goes_on : (rest : List (List ℕ)) (line : List ℕ) (more : List (List ℕ)) → rest ≡ line ∷ more → is_text line (codes "W") ≡ false → behind_batch rest ≡ behind_batch more
+pub behind_goes_on : (rest : List (List ℕ)) (line : List ℕ) (more : List (List ℕ))
+    → rest ≡ line ∷ more → is_text line (codes "W") ≡ false → behind_batch rest ≡ behind_batch more
 behind_goes_on rest line more is no_end = ap behind_batch is ∙ cond-false (is_text line (codes "W")) more (behind_batch more) no_end
 
-pub behind_ends : (rest : List (List ℕ)) (line : List ℕ) (more : List (List ℕ)) → rest ≡ line ∷ more → is_text line (codes "W") ≡ true → behind_batch rest ≡ more
+pub behind_ends : (rest : List (List ℕ)) (line : List ℕ) (more : List (List ℕ))
+    → rest ≡ line ∷ more → is_text line (codes "W") ≡ true → behind_batch rest ≡ more
 behind_ends rest line more is end = ap behind_batch is ∙ cond-true (is_text line (codes "W")) more (behind_batch more) end
 
 -- ---- lines without a letter

@@ -15,7 +15,7 @@ use Rattle.machine.specs.Keys.{Every, put_at, shard_of, shard_of_id}
 use Rattle.machine.specs.Legal.{Entry}
 use Rattle.machine.specs.Parts.{Leaves, part}
 use Rattle.machine.specs.Received.{Begin, Continue, End, Abort, Read}
-use Rattle.machine.specs.Routing.{asked, route, shard_asked, shard_named}
+use Rattle.machine.specs.Routing.{subject_of_begin, route, shard_of_subject, shard_named}
 use Rattle.machine.specs.Sound.{Sound}
 use Rattle.machine.specs.State.{State}
 use Rattle.machine.specs.Step.{Step}
@@ -84,12 +84,12 @@ small_cond false n h = omega arith
 named_small : (id : List ℕ) → shard_named id < 16
 named_small id = small_cond _ (shard_of_id id) (λ e. ltb-true (shard_of_id id) 16 (and_parts (length id == 4) (nat_lt (shard_of_id id) 16) e).1)
 
-asked_small : (o : Option (List ℕ)) → shard_asked o < 16
+asked_small : (o : Option (List ℕ)) → shard_of_subject o < 16
 asked_small None = omega arith
 asked_small (Some imsi) = shard_small imsi
 
 route_small : (directory : List ℕ → Option (List ℕ)) (raw : RawEvent) (e : Event) → IsEvent raw e → IsOfShard raw → route directory e < 16
-route_small directory (RawFrame from octets) (Frame source (Read (Begin origin name components))) is of = asked_small (asked directory components)
+route_small directory (RawFrame from octets) (Frame source (Read (Begin origin name components))) is of = asked_small (subject_of_begin directory components)
 route_small directory (RawFrame from octets) (Frame source (Read (Continue origin destination portion components))) is of = named_small destination
 route_small directory (RawFrame from octets) (Frame source (Read (End destination portion components))) is of = named_small destination
 route_small directory (RawFrame from octets) (Frame source (Read (Abort destination))) is of = named_small destination
@@ -284,7 +284,16 @@ handed_out_kept begin events sent shards sound of h = record {
     entries = h.to_cut.entries ++ h.from_cut.entries
 
     each : length sent ≡ length events
-    each = omega (arith, ap length h.sent_are, ap length h.events_are, length-append h.sent_before_cut h.sent_kept, length-append h.before_cut h.kept, h.to_cut.one_each, h.from_cut.one_each)
+    each = omega (
+      arith,
+      ap length h.sent_are,
+      ap length h.events_are,
+      length-append h.sent_before_cut
+          h.sent_kept,
+      length-append h.before_cut h.kept,
+      h.to_cut.one_each,
+      h.from_cut.one_each,
+    )
 
     pairs : zip events sent ≡ zip h.before_cut h.sent_before_cut ++ zip h.kept h.sent_kept
     pairs = ap (λ (es : List RawEvent). zip es sent) h.events_are ∙ ap (λ (os : List (List RawOut)). zip (h.before_cut ++ h.kept) os) h.sent_are

@@ -71,7 +71,8 @@ fn serve<R: Threads + Wait + Sync, A: Read, B: Read, W: Write>(
 ) -> Result<(), Fault>
     ensures ends { IfSome (A.remaining records.old)
         (λ file. IfSome (B.remaining script.old) (λ lines.
-        Ends options.now file lines (W.contents out.old) (W.contents out.new) (result_err result))) }
+        Ends options.now file lines (W.contents out.old) (W.contents out.new)
+        (result_err result))) }
     ensures served { OnOk result (options.now.workers ≤ 16) }
 {
     if options.workers > MAX_WORKERS {

@@ -183,7 +183,8 @@ impl Ord for Digits {
 impl PartialOrd for Digits {
     ghost partial_cmp = { as_partial_cmp (on (λ d. d) (slice_cmp nat_cmp)) };
 
-    ghost laws = { partial_order_from_own_ties (Prim.search (comparing, rules)) (Prim.search (comparing, rules)) };
+    ghost laws = { partial_order_from_own_ties (Prim.search (comparing, rules))
+        (Prim.search (comparing, rules)) };
 
     fn partial_cmp(&self, other: &Digits) -> Option<Ordering> {
         Some(self.cmp(other))

@@ -125,7 +125,8 @@ impl<const N: usize> Ord for ShortList<N> {
 impl<const N: usize> PartialOrd for ShortList<N> {
     ghost partial_cmp = { as_partial_cmp (on (λ l. l) (slice_cmp nat_cmp)) };
 
-    ghost laws = { partial_order_from_own_ties (Prim.search (comparing, rules)) (Prim.search (comparing, rules)) };
+    ghost laws = { partial_order_from_own_ties (Prim.search (comparing, rules))
+        (Prim.search (comparing, rules)) };
 
     fn partial_cmp(&self, other: &ShortList<N>) -> Option<Ordering> {
         Some(self.cmp(other))

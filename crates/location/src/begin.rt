@@ -60,7 +60,8 @@ pub(crate) fn failed(who: Initiator, code: u8) -> Outcome
 fn route(who: Initiator, subscriber: Option<&Record>) -> Outcome
     ensures leaves { (here : Local) → IfSome subscriber.entry (λ s. s.now.imsi ≡ here.imsi)
         → outcome_of here None [] result ≡ unchanged here
-        (end_of_begin (initiator_of who) (route_component who.invoke (sm_route here.imsi (known subscriber.entry)) ∷ [])) }
+        (end_of_begin (initiator_of who)
+        (route_component who.invoke (sm_route here.imsi (known subscriber.entry)) ∷ [])) }
     ensures writable { (s : Option Subscriber) → CanBeWritten result.after s }
 {
     let component = route_answer(who.invoke, route_sm(subscriber));

@@ -26,7 +26,8 @@ impl Model for Indication {
     ghost use Rattle.frames.specs.Frames.{IsVerdict};
     ghost use Rattle.msgarena.specs.Seen.{seen};
 
-    ghost view = { λ i. record { from = i.from; octets = i.octets.items; verdict = seen i.verdict } };
+    ghost view = { λ i.
+        record { from = i.from; octets = i.octets.items; verdict = seen i.verdict } };
 
     ghost invariant = { λ i. IsVerdict i.octets.items (seen i.verdict) };
 }

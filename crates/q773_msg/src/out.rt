@@ -50,7 +50,8 @@ impl<'a> OutMessage<'a> {
         components: &'a [OwnTree<'a>],
     ) -> Result<OutMessage<'a>, Memory>
         ensures { IfOk result (λ message. message_tree message
-            ≡ continue_tree origin destination (option_map own dialogue.entry) (owns components.now)) }
+            ≡ continue_tree origin destination (option_map own dialogue.entry)
+            (owns components.now)) }
     {
         let mut elements = Vec::with_capacity(bump, 4)?;
         elements.push(OwnTree::primitive(bump, ORIGIN, origin.as_slice())?)?;

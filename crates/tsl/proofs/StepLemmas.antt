@@ -159,7 +159,11 @@ module _ (ids new : LiveIds) (keys : List ℕ) (slab slab' : Slab Entry) (room s
   pub begins : Begins (open_of ids keys slab room) entry.id (transaction_in entry) (open_of new (set keys slot key) slab' (room - 1))
   begins = record {
     was_next = t.was_next;
-    may = record { of_shard = t.may.of_shard; not_open = not_open_if_not_live ids keys slab room a entry.id t.may.not_live; not_freed_last = t.may.not_freed_last };
+    may = record {
+      of_shard = t.may.of_shard;
+      not_open = not_open_if_not_live ids keys slab room a entry.id t.may.not_live;
+      not_freed_last = t.may.not_freed_last;
+    };
     after = λ i. record {
       shard = (t.after i).shard;
       open_ones = open-add ids new keys (set keys slot key) slab slab' room (room - 1) key entry adds a i;
@@ -321,7 +325,11 @@ live_taken ids new id t =
 -- ---- what may be next
 module _ (ids : LiveIds) (keys : List ℕ) (slab : Slab Entry) (room : ℕ) (a : AreEntries ids keys slab room) where
   may_begin : (id : List ℕ) → MayBeTaken ids id → MayBegin (open_of ids keys slab room) id
-  may_begin id may = record { of_shard = may.of_shard; not_open = not_open_if_not_live ids keys slab room a id may.not_live; not_freed_last = may.not_freed_last }
+  may_begin id may = record {
+    of_shard = may.of_shard;
+    not_open = not_open_if_not_live ids keys slab room a id may.not_live;
+    not_freed_last = may.not_freed_last;
+  }
 
   pub may_begin_some : (o : Option (List ℕ)) → IfSome o (MayBeTaken ids) → IfSome o (MayBegin (open_of ids keys slab room))
   may_begin_some None may = may

@@ -148,7 +148,8 @@ abbrev RunOfJobs : List Log → List Job → List Receipt → Type 0
 RunOfJobs shards jobs receipts = (run : IsRunInSomeOrder (whole_base shards) (events_of_jobs jobs) (sent_for receipts) (whole shards))
     × MergesOctets (journals shards) run.entries
 
--- If jobs and receipts, pairwise by their numbers, account for the journals of sixteen shards, the jobs are such a run from the bases, and its entries merge the journals.
+-- If jobs and receipts, pairwise by their numbers, account for the journals of sixteen shards, the jobs are such a run from the bases, and its
+-- entries merge the journals.
 pub run_of_jobs : (directory : DirectoryMap) (shards : List Log) (jobs : List Job) (receipts : List Receipt) → AreShards directory shards
     → Reconciles (journal_list shards) jobs receipts → jobs_of_receipts receipts ≡ numbers_of_jobs jobs → RunOfJobs shards jobs receipts
 run_of_jobs directory shards jobs receipts are account pairs =

@@ -40,7 +40,8 @@ pub stopped : (jobs : List Job) (stops : ℕ) (v w : Hand) (x : Work) (receipts 
     → w ≡ hand v.sends v.shares v.sent (v.taken ++ x ∷ []) → x ≡ Stop → HasTaken jobs (stops + 1) w receipts refused
 stopped jobs stops v w x receipts refused h is stop =
     let now = after v w Stop h.own (is ∙ ap (λ y. hand v.sends v.shares v.sent (v.taken ++ y ∷ [])) stop) in
-    let numbers : numbers_of jobs w.taken ≡ numbers_of jobs v.taken = ap (numbers_of jobs) now.1 ∙ numbers_of-append jobs v.taken (Stop ∷ []) ∙ append-nil (numbers_of jobs v.taken) in
+    let numbers : numbers_of jobs w.taken ≡ numbers_of jobs v.taken = ap (numbers_of jobs) now.1
+    ∙ numbers_of-append jobs v.taken (Stop ∷ []) ∙ append-nil (numbers_of jobs v.taken) in
     record {
       own = now.0;
       stopped = let a = ap stops_in now.1 in let b = stops_in-append v.taken (Stop ∷ []) in let c = h.stopped in omega arith;
@@ -48,9 +49,11 @@ stopped jobs stops v w x receipts refused h is stop =
     }
 
 -- the numbers after a lot was taken
-with_lot : (jobs : List Job) (v w : Hand) (lot : Lot) → w.taken ≡ v.taken ++ Do lot ∷ [] → numbers_of jobs w.taken ≡ numbers_of jobs v.taken ++ map (λ j. j.number) (jobs_at jobs lot)
+with_lot : (jobs : List Job) (v w : Hand) (lot : Lot) → w.taken ≡ v.taken ++ Do lot ∷ []
+    → numbers_of jobs w.taken ≡ numbers_of jobs v.taken ++ map (λ j. j.number) (jobs_at jobs lot)
 with_lot jobs v w lot now =
-    ap (numbers_of jobs) now ∙ numbers_of-append jobs v.taken (Do lot ∷ []) ∙ ap (λ l. numbers_of jobs v.taken ++ l) (append-nil (map (λ j. j.number) (jobs_at jobs lot)))
+    ap (numbers_of jobs) now ∙ numbers_of-append jobs v.taken (Do lot ∷ [])
+    ∙ ap (λ l. numbers_of jobs v.taken ++ l) (append-nil (map (λ j. j.number) (jobs_at jobs lot)))
 
 -- a lot was taken, and there is no memory for its receipts
 pub passed : (jobs : List Job) (stops : ℕ) (v w : Hand) (x : Work) (lot : Lot) (receipts : List ℕ) (refused : Bool) → HasTaken jobs stops v receipts refused

@@ -7,6 +7,7 @@ use Rattle.berwrite.proofs.write.write_tree.Goals as goal
 pub returns-clause-spelling : goal.returns-clause-spelling
 returns-clause-spelling c = λ short tags.
     let tree = own c.args.tree.now in
-    let made = c.in_ok-from_slice.ensures.items ∙ c.deref.ensures.value ∙ c.in_ok-put.ensures ∙ ap (λ (octets : List ℕ). octets ++ enc tree) c.in_ok-octets.ensures.items in
+    let made = c.in_ok-from_slice.ensures.items ∙ c.deref.ensures.value ∙ c.in_ok-put.ensures
+    ∙ ap (λ (octets : List ℕ). octets ++ enc tree) c.in_ok-octets.ensures.items in
     let fits : length (enc tree) < 2 ^ 32 = subst (λ (octets : List ℕ). length octets < 2 ^ 32) made short in
     subst (λ (octets : List ℕ). Spells octets tree) (sym made) (enc_spells tree tags fits)

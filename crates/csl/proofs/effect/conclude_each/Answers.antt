@@ -16,4 +16,5 @@ conclude-requires-clause-rising g c = rw c.loop-component.invariant
 pub loop-component-preserved : goal.loop-component-preserved
 loop-component-preserved g c =
     c.conclude.ensures.after ∙ ap (invocations_after c.args.now (heard c.component-item.result ∷ [])) c.loop-component.invariant
-    ∙ after_one c.args.now c.args.list.now.items c.args.components.now c.loop-component.component-index c.component-item.result c.loop-component-test.true c.component-item.is
+    ∙ after_one c.args.now c.args.list.now.items c.args.components.now
+    c.loop-component.component-index c.component-item.result c.loop-component-test.true c.component-item.is

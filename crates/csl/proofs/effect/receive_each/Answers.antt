@@ -42,7 +42,9 @@ returns-clause-effect g c =
       rejects = all.rejected;
       started = rw (c.deref.ensures.value) at c.started_by-started.ensures;
       conclusion =
-          c.conclusion_of.ensures ∙ ap (conclusion_of c.loop-place.has_failed) (c.any_sent-still_sent.ensures ∙ ap (list_any (λ (own : Invocation). is_sent own.was)) c.deref-2.ensures.value ∙ sym (any_sent_is c.loop-place.list.items) ∙ ap any_sent all.moved)
+          c.conclusion_of.ensures ∙ ap (conclusion_of c.loop-place.has_failed)
+          (c.any_sent-still_sent.ensures ∙ ap (list_any (λ (own : Invocation). is_sent own.was)) c.deref-2.ensures.value
+          ∙ sym (any_sent_is c.loop-place.list.items) ∙ ap any_sent all.moved)
           ∙ ap (λ b. conclusion_of b (any_sent (invocations_after c.args.now
           (map (heard {P = g.row.P.Denot}) c.args.components.now) c.args.list.now.items))) all.has_failed;
     }

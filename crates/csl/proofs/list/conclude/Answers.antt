@@ -53,7 +53,8 @@ returns-clause-after g c =
           ∙ c.in-Some.is) c.args.list.now.items c.in-Some-place_of.place found c.requires.rising c.index.result.now c.index.ensures sent w.in-IsRejected.is
       | in-Fails w ↦ (λ i. (w.list-is i).items) ∙ waits c.args.now (heard c.args.component.now) c.in-Some.ending
           (sym c.ending_of.ensures.exact
-          ∙ c.in-Some.is) c.args.list.now.items c.in-Some-place_of.place found c.requires.rising c.index.result.now c.index.ensures sent w.index_mut.result.now w.index_mut.ensures.value w.wait.new.self w.wait.ensures w.in-Fails.is
+          ∙ c.in-Some.is) c.args.list.now.items c.in-Some-place_of.place found c.requires.rising c.index.result.now
+          c.index.ensures sent w.index_mut.result.now w.index_mut.ensures.value w.wait.new.self w.wait.ensures w.in-Fails.is
     ]
 
 pub returns-clause-failed : goal.returns-clause-failed

@@ -10,6 +10,8 @@ loop-frame-preserved c =
     let is : c.frame-item.result ≡ get_or c.args.sent.now c.loop-frame.frame-index c.frame-item.result = search rules in
     let line : c.push_sent.new.text.items ≡ c.loop-frame.text.items ++ sent_line c.frame-item.result.to c.frame-item.result.octets.items = search rules in
     let id : c.note.new.self ≡ noted c.loop-frame.letters (originating_id c.frame-item.result.octets.items) = search rules in (
-      lines_more c.args.sent.now c.loop-frame.frame-index c.frame-item.result c.loop-frame.text.items c.push_sent.new.text.items lt is c.loop-frame.invariant.0 line,
-      noted_more c.args.letters.now c.loop-frame.letters c.note.new.self c.args.sent.now c.loop-frame.frame-index c.frame-item.result lt is c.loop-frame.invariant.1 id,
+      lines_more c.args.sent.now c.loop-frame.frame-index c.frame-item.result
+          c.loop-frame.text.items c.push_sent.new.text.items lt is c.loop-frame.invariant.0 line,
+      noted_more c.args.letters.now c.loop-frame.letters c.note.new.self c.args.sent.now
+          c.loop-frame.frame-index c.frame-item.result lt is c.loop-frame.invariant.1 id,
     )

@@ -57,7 +57,8 @@ returns-in_err-print-clause-stops g c =
     c.from_residual-in_err-print.ensures.1
     (batch_broken c.args.register.now c.args.script.now (g.W.Write.contents c.args.out.now) (g.W.Write.contents c.batches.out)
     (g.W.Write.contents c.print.new.out) c.batches.letters
-    c.lines_of.new.letters c.batches.register c.handle_batch.new.register c.batches.place.rest.now c.in_ok-place.place.rest.now c.batches.place.before c.in_ok-place.place.before
+    c.lines_of.new.letters c.batches.register c.handle_batch.new.register c.batches.place.rest.now
+    c.in_ok-place.place.rest.now c.batches.place.before c.in_ok-place.place.before
     (map raw_out c.handle_batch.new.sent.items) c.deref-in-batches.result.now c.in_err-print.field-0.0 some c.batches.invariant
     (subst (λ (i : List (List ℕ)). Handles i c.batches.register (batch_of (lines c.batches.place.rest.now))
     (map raw_out c.handle_batch.new.sent.items) c.handle_batch.new.register) ids c.in_ok-place.ensures.handles)
@@ -73,7 +74,8 @@ batches-preserved g c =
     c.deref-in-batches.ensures.value ∙ c.in_ok-text.ensures.lines ∙ ap (λ (frames : List Out). sent_lines (map raw_out frames)) c.deref.ensures.value in
     batch_printed c.args.register.now (lines c.args.script.now) (g.W.Write.contents c.args.out.now) (g.W.Write.contents c.batches.out)
     (g.W.Write.contents c.print.new.out) c.batches.letters
-    c.lines_of.new.letters c.batches.register c.handle_batch.new.register c.batches.place.rest.now c.in_ok-place.place.rest.now c.batches.place.before c.in_ok-place.place.before
+    c.lines_of.new.letters c.batches.register c.handle_batch.new.register c.batches.place.rest.now
+    c.in_ok-place.place.rest.now c.batches.place.before c.in_ok-place.place.before
     (map raw_out c.handle_batch.new.sent.items) c.deref-in-batches.result.now some c.batches.invariant
     (subst (λ (i : List (List ℕ)). Handles i c.batches.register (batch_of (lines c.batches.place.rest.now))
     (map raw_out c.handle_batch.new.sent.items) c.handle_batch.new.register) ids c.in_ok-place.ensures.handles)

@@ -5,7 +5,8 @@ use Rattle.csl.proofs.Replacing.{have_forgotten, have_none}
 use Rattle.csl.proofs.invocations.Invocations.forget.Goals as goal
 
 pub invariant_of-self : goal.invariant_of-self
-invariant_of-self c = have_none c.self.inside.lists c.self.inside.deadlines c.args.id c.self.invariant c.in_default.ensures.none c.remove.new.self c.in_default.ensures.removed
+invariant_of-self c = have_none c.self.inside.lists c.self.inside.deadlines c.args.id
+    c.self.invariant c.in_default.ensures.none c.remove.new.self c.in_default.ensures.removed
 
 pub invariant_of-self-2 : goal.invariant_of-self-2
 invariant_of-self-2 c =

@@ -22,5 +22,6 @@ returns-clause-due c =
     let fits = c.in-Some.ensures.invoke_fits in
     let have = subst (λ l. HaveDeadlines l c.self.inside.deadlines) c.self.view_is c.self.invariant in
     let list = c.at-list.ensures.value ∙ ap (λ (l : InvocationLists). invocations_at l c.in-Some.least.1) c.self.view_is in
-    rw to_z-of_z (is_next c.args.self.now c.self.inside.deadlines c.args.now have c.in-Some.least.0 c.in-Some.least.1 c.in-Some.least.2 c.in-Some.ensures.due c.at-list.result.now list c.unwrap-place.result
+    rw to_z-of_z (is_next c.args.self.now c.self.inside.deadlines c.args.now have c.in-Some.least.0
+    c.in-Some.least.1 c.in-Some.least.2 c.in-Some.ensures.due c.at-list.result.now list c.unwrap-place.result
     (sym (simp to_z-of_z at c.place_of.ensures) ∙ c.unwrap-place.ensures) c.index-list-place.result c.index-list-place.is _ (sym c.was.ensures))

@@ -17,4 +17,5 @@ returns-in-Some-clause-rising c =
 
 pub returns-in-None-clause-value : goal.returns-in-None-clause-value
 returns-in-None-clause-value c =
-    ap (λ o. list_in (items_in o)) c.in-None.ensures.value ∙ sym (ap list_in (get_lists c.self.inside.by_dialogue c.args.id)) ∙ ap (λ (l : InvocationLists). invocations_at l c.args.id) c.self.view_is
+    ap (λ o. list_in (items_in o)) c.in-None.ensures.value ∙ sym (ap list_in (get_lists c.self.inside.by_dialogue c.args.id))
+    ∙ ap (λ (l : InvocationLists). invocations_at l c.args.id) c.self.view_is

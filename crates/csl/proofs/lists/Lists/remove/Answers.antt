@@ -10,7 +10,8 @@ invariant_of-self c =
 
 pub returns-clause-removed : goal.returns-clause-removed
 returns-clause-removed c =
-    is_written c.self.inside.by_dialogue c.remove.new.self c.args.id None [] c.remove.ensures.updates.0 refl ∙ ap (λ (l : InvocationLists). put_list l c.args.id []) c.self.view_is
+    is_written c.self.inside.by_dialogue c.remove.new.self c.args.id None [] c.remove.ensures.updates.0 refl
+    ∙ ap (λ (l : InvocationLists). put_list l c.args.id []) c.self.view_is
 
 pub returns-clause-were : goal.returns-clause-were
 returns-clause-were c = was_removed c.self.inside.by_dialogue c.args.self.now c.args.id c.remove.result c.remove.ensures.value c.self.view_is

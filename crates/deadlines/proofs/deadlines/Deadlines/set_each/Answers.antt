@@ -14,7 +14,8 @@ invariant_of-self c =
 pub returns-clause-ok : goal.returns-clause-ok
 returns-clause-ok c =
     on_ok_then c.put_each.result
-    (λ h. view_all c.self.inside.by_invocation c.put_each.new.by_invocation c.args.timers.now h ∙ ap (λ (m : DeadlineMap). set_all m c.args.timers.now) c.self.view_is)
+    (λ h. view_all c.self.inside.by_invocation c.put_each.new.by_invocation c.args.timers.now h
+    ∙ ap (λ (m : DeadlineMap). set_all m c.args.timers.now) c.self.view_is)
     c.put_each.ensures.map
 
 pub returns-clause-err : goal.returns-clause-err

@@ -9,10 +9,12 @@ close-requires c =
 pub invariant_of-self : goal.invariant_of-self
 invariant_of-self c =
     let i = c.self.inside in
-    tied_closed c.args.id i.transactions c.close.new.transactions i.invocations c.close.new.invocations i.talks.items c.close.ensures.closed c.close.ensures.forgotten c.self.invariant
+    tied_closed c.args.id i.transactions c.close.new.transactions i.invocations
+    c.close.new.invocations i.talks.items c.close.ensures.closed c.close.ensures.forgotten c.self.invariant
     (open_here i.transactions i.invocations i.talks.items c.args.self.now c.args.id c.self.view_is c.requires)
 
 pub returns-clause-closed : goal.returns-clause-closed
 returns-clause-closed c =
     let i = c.self.inside in
-    dialogues_closed c.args.id i.transactions c.close.new.transactions i.invocations c.close.new.invocations i.talks.items c.close.ensures.closed c.close.ensures.forgotten c.args.self.now c.self.view_is
+    dialogues_closed c.args.id i.transactions c.close.new.transactions i.invocations c.close.new.invocations
+    i.talks.items c.close.ensures.closed c.close.ensures.forgotten c.args.self.now c.self.view_is

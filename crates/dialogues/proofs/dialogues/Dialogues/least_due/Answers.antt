@@ -11,7 +11,8 @@ pub returns-clause-expiry : goal.returns-clause-expiry
 returns-clause-expiry c =
     let i = c.self.inside in
     subst (λ (d : OpenDialogues). (S : State) → HasDialogues S d c.args.now → Expiry S d.shard (expiry_turn d c.least_due.result)) c.self.view_is
-    (λ S has. expiry_told i.transactions i.invocations i.talks.items c.self.invariant S c.args.now has c.least_due.result c.least_due.ensures.due c.least_due.ensures.none)
+    (λ S has. expiry_told i.transactions i.invocations i.talks.items c.self.invariant
+    S c.args.now has c.least_due.result c.least_due.ensures.due c.least_due.ensures.none)
 
 pub returns-clause-is_open : goal.returns-clause-is_open
 returns-clause-is_open c =

@@ -9,7 +9,8 @@ use Rattle.dialogues.proofs.dialogues.Dialogues.len.Goals as goal
 pub returns-clause-value : goal.returns-clause-value
 returns-clause-value c =
     let i = c.self.inside in
-    c.len.ensures.value ∙ sym (len-remade (dialogue_at i.invocations i.talks.items) i.transactions.open_ones) ∙ ap (λ (d : OpenDialogues). count d) c.self.view_is
+    c.len.ensures.value ∙ sym (len-remade (dialogue_at i.invocations i.talks.items) i.transactions.open_ones)
+    ∙ ap (λ (d : OpenDialogues). count d) c.self.view_is
 
 pub returns-clause-of_shard : goal.returns-clause-of_shard
 returns-clause-of_shard c =

@@ -10,4 +10,5 @@ pub returns : goal.returns
 returns c =
     let i = c.self.inside in
     subst (λ (ks : List (List ℕ)). IfOk c.list.result (λ ids. ids.items ≡ ks))
-    (sym (keys-remade (dialogue_at i.invocations i.talks.items) i.transactions.open_ones) ∙ ap (λ (d : OpenDialogues). finite.keys d.open_ones) c.self.view_is) c.list.ensures
+    (sym (keys-remade (dialogue_at i.invocations i.talks.items) i.transactions.open_ones)
+    ∙ ap (λ (d : OpenDialogues). finite.keys d.open_ones) c.self.view_is) c.list.ensures

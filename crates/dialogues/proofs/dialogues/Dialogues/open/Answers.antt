@@ -11,14 +11,16 @@ pub returns-in_err-make_room-clause-err : goal.returns-in_err-make_room-clause-e
 returns-in_err-make_room-clause-err c =
     let i = c.self.inside in
     on_err c.from_residual-in_err-make_room.result
-    (still i.transactions c.reserve.new.transactions i.invocations i.talks.items c.make_room.new.talks.items c.args.self.now c.self.invariant c.self.view_is c.reserve.ensures.ok c.make_room.ensures.kept)
+    (still i.transactions c.reserve.new.transactions i.invocations i.talks.items c.make_room.new.talks.items
+    c.args.self.now c.self.invariant c.self.view_is c.reserve.ensures.ok c.make_room.ensures.kept)
 
 pub returns-in_err-invoke_each-clause-err : goal.returns-in_err-invoke_each-clause-err
 returns-in_err-invoke_each-clause-err c =
     let i = c.self.inside in
     on_err c.from_residual-in_err-invoke_each.result
     (rw c.in_err-invoke_each.ensures.err
-    (still i.transactions c.reserve.new.transactions i.invocations i.talks.items c.make_room.new.talks.items c.args.self.now c.self.invariant c.self.view_is c.reserve.ensures.ok c.make_room.ensures.kept))
+    (still i.transactions c.reserve.new.transactions i.invocations i.talks.items c.make_room.new.talks.items
+    c.args.self.now c.self.invariant c.self.view_is c.reserve.ensures.ok c.make_room.ensures.kept))
 
 pub invariant_of-self-2 : goal.invariant_of-self-2
 invariant_of-self-2 c =
@@ -31,7 +33,9 @@ invariant_of-self-2 c =
     let invoked = subst (λ (k : List ℕ). c.invoke_each.new.self ≡ put_list i.invocations k vs) one c.in_ok-invoke_each.ensures.ok in
     let roomy = subst (λ (n : ℕ). n < length c.make_room.new.talks.items) (c.slot_of.ensures ∙ ap slot_of one) c.in_ok-make_room.ensures.room in
     let place = place_for_one i.transactions c.next_id.result c.unwrap-id.result c.unwrap-id.ensures c.next_id.ensures.none c.self.invariant.few in
-    tied_opened id i.transactions c.reserve.new.transactions c.begin.new.transactions i.invocations c.invoke_each.new.self i.talks.items c.make_room.new.talks.items c.begin.new.talks.items x vs (talk_in c.args.dialogue.now) c.reserve.ensures.ok c.begin.ensures.begun c.begin.ensures.own_slots c.begin.ensures.kept
+    tied_opened id i.transactions c.reserve.new.transactions c.begin.new.transactions i.invocations c.invoke_each.new.self
+    i.talks.items c.make_room.new.talks.items c.begin.new.talks.items x vs
+    (talk_in c.args.dialogue.now) c.reserve.ensures.ok c.begin.ensures.begun c.begin.ensures.own_slots c.begin.ensures.kept
     (λ q. ap (λ (l : InvocationLists). invocations_at l q) invoked ∙ invocations-put i.invocations id vs q)
     c.self.invariant place roomy c.make_room.ensures.longer c.make_room.ensures.kept
 
@@ -46,6 +50,8 @@ returns-clause-opened c =
     let invoked = subst (λ (k : List ℕ). c.invoke_each.new.self ≡ put_list i.invocations k vs) one c.in_ok-invoke_each.ensures.ok in
     let roomy = subst (λ (n : ℕ). n < length c.make_room.new.talks.items) (c.slot_of.ensures ∙ ap slot_of one) c.in_ok-make_room.ensures.room in
     let place = place_for_one i.transactions c.next_id.result c.unwrap-id.result c.unwrap-id.ensures c.next_id.ensures.none c.self.invariant.few in
-    dialogues_opened id i.transactions c.reserve.new.transactions c.begin.new.transactions i.invocations c.invoke_each.new.self i.talks.items c.make_room.new.talks.items c.begin.new.talks.items x vs (talk_in c.args.dialogue.now) c.reserve.ensures.ok c.begin.ensures.begun c.begin.ensures.own_slots c.begin.ensures.kept
+    dialogues_opened id i.transactions c.reserve.new.transactions c.begin.new.transactions i.invocations c.invoke_each.new.self
+    i.talks.items c.make_room.new.talks.items c.begin.new.talks.items x vs
+    (talk_in c.args.dialogue.now) c.reserve.ensures.ok c.begin.ensures.begun c.begin.ensures.own_slots c.begin.ensures.kept
     (λ q. ap (λ (l : InvocationLists). invocations_at l q) invoked ∙ invocations-put i.invocations id vs q)
     c.self.invariant place roomy c.make_room.ensures.longer c.make_room.ensures.kept c.args.self.now c.self.view_is

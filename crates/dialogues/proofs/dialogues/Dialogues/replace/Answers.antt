@@ -17,14 +17,16 @@ pub returns-in_err-make_room-clause-err : goal.returns-in_err-make_room-clause-e
 returns-in_err-make_room-clause-err c =
     let i = c.self.inside in
     on_err c.from_residual.result
-    (still i.transactions i.transactions i.invocations i.talks.items c.make_room.new.talks.items c.args.self.now c.self.invariant c.self.view_is refl c.make_room.ensures.kept)
+    (still i.transactions i.transactions i.invocations i.talks.items c.make_room.new.talks.items
+    c.args.self.now c.self.invariant c.self.view_is refl c.make_room.ensures.kept)
 
 pub returns-in_err-invoke_each-clause-err : goal.returns-in_err-invoke_each-clause-err
 returns-in_err-invoke_each-clause-err c =
     let i = c.self.inside in
     on_err c.from_residual-in_err-invoke_each.result
     (rw c.in_err-invoke_each.ensures.err
-    (still i.transactions i.transactions i.invocations i.talks.items c.make_room.new.talks.items c.args.self.now c.self.invariant c.self.view_is refl c.make_room.ensures.kept))
+    (still i.transactions i.transactions i.invocations i.talks.items c.make_room.new.talks.items
+    c.args.self.now c.self.invariant c.self.view_is refl c.make_room.ensures.kept))
 
 pub close-requires : goal.close-requires
 close-requires c =

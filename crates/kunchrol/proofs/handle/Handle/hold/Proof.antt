@@ -1,5 +1,5 @@
 -- The pointer of the parts becomes that of the handle, which owns from then on what they owned.
-use Rattle.std.proofs.Common.{◌≡◌, List, [], ◌∷◌, refl, sym, ap, ◌∙◌}
+use Rattle.std.proofs.Common.{◌≡◌, List, [], ◌∷◌, refl}
 use Rattle.std.proofs.raw_atomic.Walks.{proved}
 use Rattle.std.specs.declared.option.Option.TheVariants.{None, Some}
 use Rattle.core.proofs.alloc.Calls.{Goes-blank}
@@ -58,7 +58,8 @@ hold_spec 𝓤 𝓛 𝓜 𝓡 wired =
     (λ κs. (mut_vals, ((λ p. word p.at ∷ []), tt))) (λ κs. (mut_Tells (named 0) κs.0 R, (told.val_is, tt))) (λ κs qs bounds a _ are.
     let b = a.0.ref_ptr.0 in let o = a.0.ref_ptr.1 in let h = a.0.now in let vs = mut_vals a.0 in let p = a.1.0 in
     let y : W.Ghost = ((κs, qs, bounds, a, (vs, (word p.at ∷ [], tt))), tt) in
-    qed 𝓛 (((‵ (flft κs.0 qs.0) ⊛ ‵ ftrue) ⊛ ‵ ((MutRef (named 0) κs.0 R).own_val a.0 vs) ⊛ ‵ (P.own_val p (word p.at ∷ [])) ⊛ ‵ ftrue) ∷ raw (fact 𝓤 (h.value ≡ None)) ∷ []) ∵
+    qed 𝓛 (((‵ (flft κs.0 qs.0) ⊛ ‵ ftrue) ⊛ ‵ ((MutRef (named 0) κs.0 R).own_val a.0 vs)
+    ⊛ ‵ (P.own_val p (word p.at ∷ [])) ⊛ ‵ ftrue) ∷ raw (fact 𝓤 (h.value ≡ None)) ∷ []) ∵
     split ! $ split ! $ move ! (2 ∷ []) $ split ! $ move ! (1 ∷ []) $ split ! $ keep ! (0 ∷ 2 ∷ 3 ∷ []) $ fsplit ! $ move ! (1 ∷ []) $
     in_a_block ! p.at (λ q. box_owns may_free Register q p.value) (fst∗ 𝓤 (never 𝓤) (sem 𝓛 (may_free (bare (lone Register.mir)) null_ptr))) (λ b' o' e.
     regoal ! (λ (q : Ptr). prop (WpFn 𝓤 𝓛.H 𝓣.C 𝓣.Λ code.function (vptr b o ∷ word q ∷ []) (W.post y))) e refl $

@@ -1,5 +1,5 @@
 -- Null is told from a pointer to a register. The handle keeps null, and the box is made again of what it owned.
-use Rattle.std.proofs.Common.{◌≡◌, ℕ, List, [], ◌∷◌, refl, sym, ap, subst, ◌∙◌, lit<, w64}
+use Rattle.std.proofs.Common.{◌≡◌, ℕ, List, [], ◌∷◌, refl, sym, ap, subst, ◌∙◌, lit<}
 use Rattle.std.proofs.raw_atomic.Walks.{proved}
 use Rattle.std.specs.declared.option.Option.TheVariants.{None, Some}
 use Rattle.core.proofs.mem.Facts.{says_two}
@@ -10,13 +10,12 @@ use base.Logic.{ent, emp, never_e, guard, guard_i, id⊢, via, snd∗}
 use base.Fml.{ftrue, flft}
 use mir.Syntax.{named}
 use mir.Raw.{raw as bare}
-use mir.Val.{Val, vptr, vnull, vint, vstruct, vcons, vnil}
-use prog.Wp.{WpFn}
+use mir.Val.{Val, vptr, vnull, vstruct, vcons, vnil}
 use contract.BorrowLft.{◌⊑◌, ⊑_static}
 use contract.Monad.{fact, fact_i, fact_use}
 use contract.Running.{tables, tables_of}
 use types.Logic.{Logic, sem}
-use types.Kit.{Goal, Item, Seq, ‵, raw, ◌⊛◌, some, given, later, prop, at_ret, ◌$◌, ◌∵◌, !, qed, done, move, keep, drop, use0, use1, split, split3, join, fsplit, fsplit3, fjoin, feq_i, fpack, pick, await, learn, rewrite, suffices, frame, group}
+use types.Kit.{Goal, Item, Seq, ‵, raw, ◌⊛◌, some, given, later, at_ret, ◌$◌, ◌∵◌, !, qed, done, move, keep, drop, use0, use1, split, join, fsplit, fsplit3, fjoin, feq_i, fpack, pick, await, learn, rewrite, suffices, frame, group}
 use types.Run.{enter, of_opd, lit, bin, load, stop, fld, no_more, and_then, assigns, first, blocks, branches, skips, exec, returns, returns_within}
 use types.Part.{agg, whole, sub, look_in, store_in}
 use types.ByLocal.{alloc_all, pass_all, free_all, look_at, get, through, sets, lands_last, env}
@@ -108,11 +107,13 @@ take_spec {M} 𝓤 𝓛 𝓜 𝓡 wired =
     let null : R.Denot = record { at = null_ptr; value = None } in let Back : RattleType = option.the_row B in
     proved 𝓛 f.ended stayed c 𝓜 𝓡 (Goes-ref 𝓛 1 0 tt (plain (λ _. R)), (Goes-dropped 𝓛 1 (plain (λ _. heap_type.the_row)) yes (λ κs x w. refl), tt))
     f.Key.name code.function (code.unfolded 𝓤 𝓛.H 𝓜 𝓡 wired)
-    (λ κs. (mut_vals, ((λ z. heap_laws.lowers.lowered z ∷ []), tt))) (λ κs. (mut_Tells (named 0) κs.0 R, (heap_laws.lowers.val_is, tt))) (λ κs qs bounds a _ are.
+    (λ κs. (mut_vals, ((λ z. heap_laws.lowers.lowered z ∷ []), tt)))
+    (λ κs. (mut_Tells (named 0) κs.0 R, (heap_laws.lowers.val_is, tt))) (λ κs qs bounds a _ are.
     let b = a.0.ref_ptr.0 in let o = a.0.ref_ptr.1 in let h = a.0.now in let vs = mut_vals a.0 in let z = a.1.0 in let zv = heap_laws.lowers.lowered z in
     let good = (((heap_laws.the_row_laws).lawful 𝓛).typed z (zv ∷ []) are.1.0).0 in
     let y : W.Ghost = ((κs, qs, bounds, a, (vs, (zv ∷ [], tt))), tt) in let Cell = λ (ws : List Val). ‵ (cell_at full_share R.mir ws b o) in
-    qed 𝓛 (((‵ (flft κs.0 qs.0) ⊛ ‵ ftrue) ⊛ ‵ ((MutRef (named 0) κs.0 R).own_val a.0 vs) ⊛ ‵ (heap_type.the_row.own_val z (zv ∷ [])) ⊛ ‵ ftrue) ∷ ‵ ftrue ∷ []) ∵
+    qed 𝓛 (((‵ (flft κs.0 qs.0) ⊛ ‵ ftrue) ⊛ ‵ ((MutRef (named 0) κs.0 R).own_val a.0 vs)
+    ⊛ ‵ (heap_type.the_row.own_val z (zv ∷ [])) ⊛ ‵ ftrue) ∷ ‵ ftrue ∷ []) ∵
     split ! $ split ! $ move ! (2 ∷ []) $ split ! $ move ! (1 ∷ []) $ split ! $ keep ! (2 ∷ 3 ∷ 0 ∷ []) $
     enter ! _ _ _ _ _ $ alloc_all ! (λ l. pass_all ! refl ((tt, tt), (good, tt)) $ let En = env code.Mir.locals l in
     fsplit3 ! $ move ! (1 ∷ 2 ∷ 3 ∷ []) $ opens ! tt R b o (λ us. move ! (1 ∷ []) $ peeks ! R _ (shows 𝓛 R) h us (λ is. fsplit ! $ drop ! $
@@ -152,10 +153,12 @@ take_spec {M} 𝓤 𝓛 𝓜 𝓡 wired =
     -- [two tokens; self; its token; what lies at the pointer; the allocator]
     nothing ! $ move ! (1 ∷ 0 ∷ []) $ join ! $ move ! (1 ∷ 0 ∷ []) $ join ! $
     nothing ! $ feq_i ! (List Val) (vptr b' o' ∷ []) (vptr b' o' ∷ []) refl $ fjoin ! $ move ! (5 ∷ 0 ∷ []) $ fjoin ! $ move ! (1 ∷ 0 ∷ []) $ join ! $
-    use0 𝓛 (raw (fact 𝓤 ((β ∷ []) ⊑ alloc.row.lives))) (fact_i 𝓤 ((β ∷ []) ⊑ alloc.row.lives) (emp 𝓤) (⊑_static (β ∷ []))) $ move ! (0 ∷ 4 ∷ []) $ join ! $
+    use0 𝓛 (raw (fact 𝓤 ((β ∷ []) ⊑ alloc.row.lives))) (fact_i 𝓤 ((β ∷ []) ⊑ alloc.row.lives) (emp 𝓤) (⊑_static (β ∷ []))) $
+    move ! (0 ∷ 4 ∷ []) $ join ! $
     use0 𝓛 (raw (fact 𝓤 ((α ∷ []) ⊑ X.lives))) (fact_i 𝓤 ((α ∷ []) ⊑ X.lives) (emp 𝓤) (⊑_static (α ∷ []))) $ join ! $ move ! (1 ∷ 0 ∷ []) $ join ! $
     use1 𝓛 (raw (k.pre x)) (id⊢ 𝓤 _) $
-    calls_at_last ! (framed 𝓤 𝓛.H 𝓜 𝓣) k (met 𝓤 𝓛 𝓜 𝓡 (code.calls-std_alloc::boxed::Box::from_raw at_env wired) X alloc.row E.laws alloc.laws ghosts dict undropped heap undropped_met) x
+    calls_at_last ! (framed 𝓤 𝓛.H 𝓜 𝓣) k
+    (met 𝓤 𝓛 𝓜 𝓡 (code.calls-std_alloc::boxed::Box::from_raw at_env wired) X alloc.row E.laws alloc.laws ghosts dict undropped heap undropped_met) x
     (and_then ! (get ! refl) (and_then ! (get ! refl) (no_more !))) (λ u.
     let Gave = g.ended X alloc.row ghosts dict undropped in
     use1 𝓛 (later (some (λ (r : B.Denot). ((‵ (flft (α ∷ []) full_share) ⊛ ‵ (flft (β ∷ []) full_share) ⊛ ‵ ftrue) ⊛ ‵ ((box.B E).own_val r (u ∷ []))) ⊛
@@ -167,5 +170,6 @@ take_spec {M} 𝓤 𝓛 𝓜 𝓡 wired =
     lands_last ! refl made $ exec ! 𝓣.C 𝓣.Λ En code.Mir.t-7 (at_ret En (W.post y)) $ sets ! (of_opd ! (get ! refl)) refl made $
     sets ! (agg ! (and_then ! (lit ! tt) (and_then ! (get ! refl) (no_more !)))) refl (and_tt _ made.0, (record { fits = lit< tt }, (made.1, tt))) $
     use1 𝓛 (‵ (Back.own_val (Some r) (live 1 (vcons u vnil) ∷ []))) (Some-of 𝓛 B r u) $ returns ! (look_at ! 0 refl) $ free_all ! refl $
-    suffices ! _ (ends_at 𝓛 f.ended stayed c y (live 1 (vcons u vnil)) (Some r) (null, (tt, tt)) (tt, (tt, tt))) $ says_two ! (holds_some ∙ ap Some (sym same), refl) $
+    suffices ! _ (ends_at 𝓛 f.ended stayed c y (live 1 (vcons u vnil)) (Some r) (null, (tt, tt)) (tt, (tt, tt))) $
+    says_two ! (holds_some ∙ ap Some (sym same), refl) $
     nothing ! $ nothing ! $ join ! $ move ! (2 ∷ 0 ∷ []) $ join ! $ nothing ! $ move ! (3 ∷ 0 ∷ []) $ join ! $ frame ! $ frame ! $ done !))))))))))))))

@@ -23,7 +23,8 @@ invariant_of-self c =
     let key = key_is i.ids i.keys.items i.entries i.room c.self.invariant c.args.id c.unwrap-slot.result c.index.result.now there
     (rw c.unwrap-slot.ensures at c.slot.ensures.small) c.index.ensures in
     rw c.give_back.ensures
-    (AreEntries-close i.ids i.keys.items i.entries c.remove-entry.new.self i.room c.index.result.now c.args.id c.self.invariant live key c.remove-entry.ensures.updates c.remove-entry.ensures.len c.remove-entry.ensures.capacity)
+    (AreEntries-close i.ids i.keys.items i.entries c.remove-entry.new.self i.room c.index.result.now c.args.id
+    c.self.invariant live key c.remove-entry.ensures.updates c.remove-entry.ensures.len c.remove-entry.ensures.capacity)
 
 pub returns-clause-was : goal.returns-clause-was
 returns-clause-was c =
@@ -42,5 +43,6 @@ returns-clause-closed c =
     let key = key_is i.ids i.keys.items i.entries i.room c.self.invariant c.args.id c.unwrap-slot.result c.index.result.now there
     (rw c.unwrap-slot.ensures at c.slot.ensures.small) c.index.ensures in
     ap (λ (v : LiveIds). open_of v i.keys.items c.remove-entry.new.self (i.room + 1)) c.give_back.ensures
-    ∙ closes i.ids i.keys.items i.entries c.remove-entry.new.self i.room c.index.result.now c.args.id c.self.invariant live key c.remove-entry.ensures.updates c.remove-entry.ensures.len c.remove-entry.ensures.capacity
+    ∙ closes i.ids i.keys.items i.entries c.remove-entry.new.self i.room c.index.result.now c.args.id
+    c.self.invariant live key c.remove-entry.ensures.updates c.remove-entry.ensures.len c.remove-entry.ensures.capacity
     ∙ ap (λ (t : OpenTransactions). closed t c.args.id) c.self.view_is

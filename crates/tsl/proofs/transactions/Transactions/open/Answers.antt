@@ -20,7 +20,8 @@ invariant_of-self c =
     let i = c.self.inside in
     let entry : Entry = record { id = c.take_reserved-id.result; transaction = record { peer = c.args.peer; remote = c.args.remote } } in
     let there : Some c.unwrap-slot.result ≡ slot_if_live c.take_reserved-id.new.self entry.id = sym c.unwrap-slot.ensures ∙ c.slot.ensures.slot in
-    AreEntries-begin i.ids c.take_reserved-id.new.self i.keys.items i.entries c.insert_reserved.new.self i.room c.unwrap-slot.result c.insert_reserved.result entry
+    AreEntries-begin i.ids c.take_reserved-id.new.self i.keys.items i.entries
+    c.insert_reserved.new.self i.room c.unwrap-slot.result c.insert_reserved.result entry
     c.self.invariant c.take_reserved-id.ensures.taken c.take_reserved-id.ensures.room c.slot.ensures.own there
     (rw c.unwrap-slot.ensures at c.slot.ensures.small)
     c.insert_reserved.ensures.was_vacant c.insert_reserved.ensures.updates c.insert_reserved.ensures.len c.insert_reserved.ensures.capacity

@@ -1,5 +1,5 @@
 -- The box is turned into its pointer, and what it owns is what the parts own.
-use Rattle.std.proofs.Common.{◌≡◌, List, [], ◌∷◌, ◌++◌, refl, sym, ap, ◌∙◌}
+use Rattle.std.proofs.Common.{List, [], ◌∷◌, ◌++◌, refl, ap, ◌∙◌}
 use Rattle.std.proofs.raw_atomic.Walks.{proved_at}
 use Rattle.core.proofs.alloc.Calls.{Goes-blank}
 use base.Fraction.{full_share}
@@ -56,7 +56,8 @@ word p = vstruct (vcons (ptr_val p) vnil)
 pub of_spec : {M : Type 1} → statement M
 unfolding tables_of undrop.code
 of_spec {M} 𝓤 𝓛 𝓜 𝓡 wired T L dx glue =
-    let H = 𝓛.H in let 𝓣 = tables 𝓤 H 𝓜 𝓡 𝓡.env in let E = boxed T L in let R : RattleType = param 0 T in let P = parts.the_row R in let B : RattleType = box_type.the_row R heap_type.the_row ghosts in
+    let H = 𝓛.H in let 𝓣 = tables 𝓤 H 𝓜 𝓡 𝓡.env in let E = boxed T L in let R : RattleType = param 0 T in
+    let P = parts.the_row R in let B : RattleType = box_type.the_row R heap_type.the_row ghosts in
     let T' = f.ended T dx in let c = f.clauses T dx 𝓛 𝓜.mem 𝓡.returns in
     let inst = bounded (a_type ∷ []) (T, tt) (dcons dx dnil) in let fn = inst_fn inst code.function in
     let hs : Stays T'.signature.params T'.kept = (stay_dropped (plain (λ _. B)) no, tt) in
@@ -79,7 +80,8 @@ of_spec {M} 𝓤 𝓛 𝓜 𝓡 wired T L dx glue =
     move ! (0 ∷ 4 ∷ []) $ join ! $ move ! (3 ∷ 0 ∷ []) $ join ! $ move ! (1 ∷ 2 ∷ []) $ fjoin ! $ move ! (1 ∷ 0 ∷ []) $ join ! $
     move ! (1 ∷ []) $ split ! $ use0 𝓛 (raw (fact 𝓤 ((α ∷ []) ⊑ alloc.row.lives))) (fact_i 𝓤 ((α ∷ []) ⊑ alloc.row.lives) (emp 𝓤) (⊑_static (α ∷ []))) $
     move ! (0 ∷ 2 ∷ []) $ join ! $ move ! (1 ∷ 0 ∷ []) $ join ! $ move ! (1 ∷ 0 ∷ []) $ join ! $ use1 𝓛 (raw (k.pre y)) (id⊢ 𝓤 _) $
-    calls_at ! (framed 𝓤 H 𝓜 𝓣) k (met 𝓤 𝓛 𝓜 𝓡 (code.calls-std_alloc::boxed::Box::into_raw env wired) T alloc.row L alloc.laws ghosts dict undropped dx heap undropped_met glue) y
+    calls_at ! (framed 𝓤 H 𝓜 𝓣) k
+    (met 𝓤 𝓛 𝓜 𝓡 (code.calls-std_alloc::boxed::Box::into_raw env wired) T alloc.row L alloc.laws ghosts dict undropped dx heap undropped_met glue) y
     (and_then ! (get ! refl) (no_more !)) (λ u.
     let G = g.ended T alloc.row ghosts dict undropped dx in
     use1 𝓛 (later (some (λ (r : Ptr). ((‵ (flft κ q) ⊛ ‵ (flft (α ∷ []) full_share) ⊛ ‵ ftrue) ⊛ ‵ (RawPtr.own_val r (u ∷ []))) ⊛
