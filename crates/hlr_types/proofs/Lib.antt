@@ -4,6 +4,7 @@ pub mod PlaceLemmas
 pub mod PrintLemmas
 pub mod TbcdLemmas
 pub mod TbcdLaws
+pub mod ReadLemmas
 pub mod IdentityLaws
 pub mod TextLemmas
 pub mod IdLemmas

@@ -9,7 +9,7 @@ use Rattle.std.proofs.lemmas.Bool.Decides.{nat_tests}
 use Rattle.hlr_types.specs.Tbcd.{tbcd}
 use Rattle.hlr_types.specs.Digits.{AreSomeDigits}
 use Rattle.hlr_types.specs.Words.{packed, word_of, in_word, IsWord}
-use Rattle.hlr_types.proofs.WordLemmas.{place_pos, packed_lt, above}
+use Rattle.hlr_types.proofs.WordLemmas.{place_pos, packed_lt, above, is_word, in_word-word_of}
 
 pub take_each : (n : ℕ) (ds : List ℕ) → AllByRecursion (λ d. d < 10) ds → AllByRecursion (λ d. d < 10) (take n ds)
 take_each zero ds h = tt
@@ -30,7 +30,7 @@ packed_more (suc i) (d ∷ ds) len =
     let p : (d + 1) * 16 ^ suc i ≡ ((d + 1) * 16 ^ i) * 16 = ap (λ p. (d + 1) * p) (pow-suc 16 i) ∙ sym (mul_assoc (d + 1) (16 ^ i) 16) in
     omega (arith, e, p)
 
--- The same of a list that grows, as TBCD is read: for a reader that makes the number without a list between.
+-- The same of a list that grows, as TBCD is read.
 pub packed_snoc : (ds : List ℕ) (d : ℕ) → packed (suc (length ds)) (ds ++ d ∷ []) ≡ packed (length ds) ds * 16 + (d + 1)
 packed_snoc [] d = omega arith
 packed_snoc (x ∷ ds) d =
@@ -72,16 +72,22 @@ packed_wider (suc k) n ds len =
         let e : 4 * suc k ≡ suc (suc (suc (suc (4 * k)))) = omega arith in
         ap (λ m. 2 ^ m) e ∙ omega (arith, pow-suc 2 (4 * k), pow-suc 2 (suc (4 * k)), pow-suc 2 (suc (suc (4 * k))), pow-suc 2 (suc (suc (suc (4 * k)))))
 
--- The number made of the digits, shifted up to the high end, is their word.
-pub shifted : (ds : List ℕ) → AreSomeDigits ds → packed (length ds) ds * 2 ^ (64 - 4 * length ds) % 2 ^ 64 ≡ word_of ds
+-- The number made of the digits in so many half octets, shifted up to the high end, is their word.
+pub shifted_at : (n : ℕ) (ds : List ℕ) → AreSomeDigits ds → length ds ≤ n → n ≤ 16 → packed n ds * 2 ^ (64 - 4 * n) % 2 ^ 64 ≡ word_of ds
 unfolding word_of
-shifted ds some =
-    let n = length ds in
-    let k : 4 * (16 - n) ≡ 64 - 4 * n = omega (arith, some.most) in
-    let m : (16 - n) + n ≡ 16 = omega (arith, some.most) in
+shifted_at n ds some len most =
+    let k : 4 * (16 - n) ≡ 64 - 4 * n = omega (arith, most) in
+    let m : (16 - n) + n ≡ 16 = omega (arith, most) in
     let e : packed 16 ds ≡ packed n ds * 2 ^ (64 - 4 * n) =
-    ap (λ j. packed j ds) (sym m) ∙ packed_wider (16 - n) n ds (omega arith) ∙ ap (λ j. packed n ds * 2 ^ j) k in
+    ap (λ j. packed j ds) (sym m) ∙ packed_wider (16 - n) n ds len ∙ ap (λ j. packed n ds * 2 ^ j) k in
     ap (λ w. w % 2 ^ 64) (sym e) ∙ omega (arith, packed_lt 16 ds some.each)
+
+pub record IsWordOf (w : ℕ) (digits : List ℕ) : Type 0 where
+  pub value : in_word w ≡ digits
+  pub word : IsWord w
+
+pub is_word_of : (w : ℕ) (ds : List ℕ) → AreSomeDigits ds → w ≡ word_of ds → IsWordOf w ds
+is_word_of w ds are e = record { value = ap in_word e ∙ in_word-word_of ds are; word = subst IsWord (sym e) (is_word ds are) }
 
 -- ---- from the high end
 
@@ -162,11 +168,9 @@ pub shifted_whole : (i number : ℕ) (ds : List ℕ) → AreSomeDigits ds → nu
 shifted_whole i number ds some e le ge =
     let same : i ≡ length ds = omega (arith, le, ge) in
     let all : packed i (take i ds) ≡ packed (length ds) ds = ap (packed i) (take_all i ds ge) ∙ ap (λ j. packed j ds) same in
-    ap (λ n. n * 2 ^ (64 - 4 * length ds) % 2 ^ 64) (e ∙ all) ∙ shifted ds some
+    ap (λ n. n * 2 ^ (64 - 4 * length ds) % 2 ^ 64) (e ∙ all) ∙ shifted_at (length ds) ds some (omega arith) some.most
 
 pub ruleset unpack_laws = (next, none_left, all_left)
-
-pub ruleset pack_laws = (packed_more, packed_snoc, number_small, index_each, shifted)
 
 -- ---- written as TBCD
 

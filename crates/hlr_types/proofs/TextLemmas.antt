@@ -1,11 +1,13 @@
 -- A text of digits is digits.
-use Rattle.std.proofs.Common.{◌≡◌, ℕ, zero, suc, ◌+◌, ◌-◌, ◌<◌, ◌≤◌, Bool, true, false, List, [], ◌∷◌, length, map, refl, sym, ap, ◌∙◌, arith, leb, cond, subst}
+use Rattle.std.proofs.Common.{◌≡◌, ℕ, zero, suc, ◌+◌, ◌-◌, ◌*◌, ◌%◌, ◌^◌, ◌<◌, ◌≤◌, Bool, true, false, List, [], ◌∷◌, length, map, take, slice_index, refl, sym, ap, ◌∙◌, arith, leb, cond, subst}
 use Rattle.std.specs.Prelude.{◌&&◌, nat_le, Some, None}
 use Rattle.std.specs.Str.{IsAscii}
 use Rattle.std.specs.List.{AllByRecursion, list_all}
 use Rattle.std.proofs.lemmas.Bool.{and_parts, leb-true, le-leb}
 use Rattle.std.proofs.lemmas.List.{length-map}
 use Rattle.hlr_types.specs.Digits.{AreSomeDigits}
+use Rattle.hlr_types.specs.Words.{packed, word_of}
+use Rattle.hlr_types.proofs.PackLemmas.{packed_more, number_small, shifted_whole, IsWordOf, is_word_of}
 use Rattle.hlr_types.specs.DigitTexts.{is_digit, digits_in, text_of, AreTextForms, IsText}
 
 pub is_digit_bounds : (b : ℕ) → is_digit b ≡ true → (48 ≤ b) × (b ≤ 57)
@@ -25,6 +27,52 @@ are_some_digits text some most e = record {
       (arith, length-map text (λ b. b - 48));
   each = decimal text e;
 }
+
+-- A character of a text of digits, and the digit that it is.
+pub character_bounds : (i : ℕ) (text : List ℕ) → i < length text → list_all is_digit text ≡ true → (48 ≤ slice_index text i) × (slice_index text i ≤ 57)
+character_bounds i [] len e = absurd (omega arith)
+character_bounds zero (b ∷ bs) len e = is_digit_bounds b (and_parts (is_digit b) (list_all is_digit bs) e).0
+character_bounds (suc i) (b ∷ bs) len e = character_bounds i bs (omega (arith, len)) (and_parts (is_digit b) (list_all is_digit bs) e).1
+
+pub digit_at : (i : ℕ) (text : List ℕ) → i < length text → slice_index (map (λ b. b - 48) text) i ≡ slice_index text i - 48
+digit_at i [] len = absurd (omega arith)
+digit_at zero (b ∷ bs) len = refl
+digit_at (suc i) (b ∷ bs) len = digit_at i bs (omega (arith, len))
+
+pub record IsCharacter (i number : ℕ) (text : List ℕ) : Type 0 where
+  pub least : 48 ≤ slice_index text i
+  pub most : slice_index text i ≤ 57
+  pub small : number < 16 ^ 15
+  pub next : number * 16 + (slice_index text i - 47) ≡ packed (suc i) (take (suc i) (map (λ b. b - 48) text))
+
+pub character : (i number : ℕ) (text : List ℕ) → 0 < length text → length text ≤ 16 → list_all is_digit text ≡ true
+    → number ≡ packed i (take i (map (λ b. b - 48) text)) → i < length text → IsCharacter i number text
+character i number text some most e is len =
+    let ds = map (λ b. b - 48) text in
+    let are = are_some_digits text some most e in
+    let same : length ds ≡ length text = length-map text (λ b. b - 48) in
+    let within : i < length ds = omega (arith, same, len) in
+    let bounds = character_bounds i text len e in
+    let more = packed_more i ds within in
+    record {
+      least = bounds.0;
+      most = bounds.1;
+      small = number_small i number ds are is within;
+      next = omega (arith, more, is, digit_at i text len, bounds.0);
+    }
+
+pub word_of_text : (i number : ℕ) (text : List ℕ) → 0 < length text → length text ≤ 16 → list_all is_digit text ≡ true
+    → number ≡ packed i (take i (map (λ b. b - 48) text)) → i ≤ length text → length text ≤ i
+    → IsWordOf (number * 2 ^ (64 - 4 * length text) % 2 ^ 64) (map (λ b. b - 48) text)
+word_of_text i number text some most e is le ge =
+    let ds = map (λ b. b - 48) text in
+    let are = are_some_digits text some most e in
+    let same : length ds ≡ length text = length-map text (λ b. b - 48) in
+    let whole : number * 2 ^ (64 - 4 * length text) % 2 ^ 64 ≡ word_of ds =
+    ap (λ n. number * 2 ^ (64 - 4 * n) % 2 ^ 64) (sym same) ∙ shifted_whole i number ds are is (omega (arith, same, le)) (omega (arith, same, ge)) in
+    is_word_of _ ds are whole
+
+pub ruleset text_steps = (character, word_of_text)
 
 minus-plus : (ds : List ℕ) → map (λ octet. octet - 48) (map (λ d. d + 48) ds) ≡ ds
 minus-plus [] = refl

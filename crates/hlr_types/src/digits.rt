@@ -6,11 +6,11 @@ ghost use Rattle.std.specs.Cmp.Rules.{comparing};
 ghost use Rattle.std.specs.Cmp.{partial_order_from_own_ties};
 ghost use Rattle.std.specs.Fmt.{padded};
 ghost use Rattle.std.specs.Ordering.{nat_cmp, on, as_partial_cmp};
-ghost use Rattle.std.specs.Prelude.{◌≡◌, ◌<◌, ◌≤◌, ◌+◌, ◌-◌, ◌*◌, ◌&&◌, nat_le, slice_index, List, ℕ, length, IfSome, Some, nat_eq};
+ghost use Rattle.std.specs.Prelude.{◌≡◌, ◌<◌, ◌≤◌, ◌+◌, ◌-◌, ◌*◌, ◌&&◌, nat_le, slice_index, List, ℕ, length, map, IfSome, Some, true, nat_eq};
 ghost use Rattle.std.specs.Str.{IsAscii};
 ghost use Rattle.std.specs.List.{list_all, starts_with};
 ghost use Rattle.hlr_types.specs.Digits.{AreSomeDigits};
-ghost use Rattle.hlr_types.specs.Words.{IsWord, in_word, packed, word_of};
+ghost use Rattle.hlr_types.specs.Words.{IsWord, in_word, packed};
 ghost use Rattle.hlr_types.specs.DigitTexts.{digits_in, is_digit, text_of, AreTextForms, IsText};
 
 use crate::short_list::ShortList;
@@ -56,12 +56,12 @@ impl Digits {
         from_text(text)
     }
 
-    /// The digits of a list.
-    pub(crate) fn of_list(list: &[u8]) -> Digits
-        requires { AreSomeDigits list.now }
-        ensures { result ≡ list.now }
+    /// The digits of a word.
+    pub(crate) fn of_word(word: u64) -> Digits
+        requires { IsWord word }
+        ensures { result ≡ in_word word }
     {
-        Digits { word: packed(list) }
+        Digits { word }
     }
 
     /// The word of the digits.
@@ -206,18 +206,13 @@ impl fmt::Display for Digits {
     }
 }
 
-#[tactic(auto, using(crate::proofs::TextLemmas::are_some_digits))]
 fn from_text(text: &[u8]) -> Option<Digits>
     ensures { result ≡ digits_in text.now }
 {
     if text.is_empty() || text.len() > 16 || !are_digits(text) {
         return None;
     }
-    let mut digits = ShortList::<16>::new();
-    for octet in text {
-        digits.push(*octet - b'0');
-    }
-    Some(Digits::of_list(digits.as_slice()))
+    Some(Digits::of_word(packed_text(text)))
 }
 
 fn are_digits(text: &[u8]) -> bool
@@ -226,17 +221,20 @@ fn are_digits(text: &[u8]) -> bool
     text.iter().all(|octet| b'0' <= *octet && *octet <= b'9')
 }
 
-/// The word of a list of digits: the number that they make, a half octet for each, moved up to the high end.
-#[tactic(auto, using(crate::proofs::PackLemmas::pack_laws))]
-fn packed(list: &[u8]) -> u64
-    requires { AreSomeDigits list.now }
-    ensures { result ≡ word_of list.now }
+/// The word of a text of digits. It is made from the characters at once, as this is called for each line of a script.
+#[tactic(auto, using(crate::proofs::TextLemmas::text_steps))]
+fn packed_text(text: &[u8]) -> u64
+    requires some { 0 < length text.now }
+    requires most { length text.now ≤ 16 }
+    requires digits { list_all is_digit text.now ≡ true }
+    ensures value { in_word result ≡ map (λ octet. octet - 48) text.now }
+    ensures word { IsWord result }
 {
     let mut number: u64 = 0;
-    for digit in list {
-        number = number * 16 + (u64::from(*digit) + 1);
+    for octet in text {
+        number = number * 16 + u64::from(*octet - (b'0' - 1));
     }
-    number << (64 - 4 * list.len())
+    number << (64 - 4 * text.len())
 }
 
 /// The digits of a word, the highest first.

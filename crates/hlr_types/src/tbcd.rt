@@ -1,9 +1,10 @@
 //! Telephony binary coded decimal (TS 29.002 17.7.8, TBCD-STRING): two digits to an octet, the first in the low half;
 //! 1111 in the last high half fills an odd count.
 
-ghost use Rattle.std.specs.Prelude.{◌≡◌, ◌<◌, ◌≤◌, ◌*◌, ◌-◌, ◌/◌, ◌^◌, ◌==◌, if◌then◌else◌, ℕ, List, [], ◌∷◌, ◌++◌, length, IfOk, Ok, Err};
-ghost use Rattle.hlr_types.specs.Tbcd.{IsTbcd, tbcd, digits_of, halves, unfilled, are_digits, AreTwoForms, AreInverse};
-ghost use Rattle.hlr_types.specs.Words.{IsWord, in_word};
+ghost use Rattle.std.specs.Prelude.{◌≡◌, ◌<◌, ◌≤◌, ◌*◌, ◌-◌, ◌/◌, ◌^◌, ◌==◌, if◌then◌else◌, ℕ, List, [], ◌∷◌, ◌++◌, length, IfOk, Ok, Err, Some, None, true};
+ghost use Rattle.hlr_types.specs.declared.tbcd.TbcdFault.TheVariants.{BadDigit};
+ghost use Rattle.hlr_types.specs.Tbcd.{IsTbcd, tbcd, digits_of, halves, last_halves, are_digits, AreTwoForms, AreInverse};
+ghost use Rattle.hlr_types.specs.Words.{IsWord, in_word, packed};
 
 use crate::digits::Digits;
 use crate::short_list::ShortList;
@@ -56,7 +57,7 @@ pub fn law_two_forms()
     ensures inverse { AreInverse }
 {}
 
-#[tactic(auto, using(crate::proofs::TbcdLemmas::tbcd_steps))]
+#[tactic(auto, using(crate::proofs::ReadLemmas::read_laws))]
 fn digits_of(octets: &[u8]) -> Result<Digits, TbcdFault>
     ensures { result ≡ digits_of octets.now }
 {
@@ -66,46 +67,46 @@ fn digits_of(octets: &[u8]) -> Result<Digits, TbcdFault>
     if front.len() >= 8 {
         return Err(TbcdFault::BadCount);
     }
-    let digits = unfilled(front, *last);
-    if are_digits(digits.as_slice()) {
-        Ok(Digits::of_list(digits.as_slice()))
-    } else {
-        Err(TbcdFault::BadDigit)
+    match number_of(front) {
+        Some(number) => with_last(number, front, *last),
+        None => Err(TbcdFault::BadDigit),
     }
 }
 
-/// The half octets of these octets, without a filler at the end.
-#[tactic(auto, using(crate::proofs::TbcdLemmas::tbcd_steps))]
-fn unfilled(front: &[u8], last: u8) -> ShortList<16>
-    requires { length front.now < 8 }
-    ensures value { result ≡ unfilled (front.now ++ last ∷ []) }
-    ensures some { 0 < length result }
+/// The number that the half octets make, if each is a digit: a half octet for each, its digit plus one. No list of them is
+/// made, as this is called for each address of a frame.
+#[tactic(auto, using(crate::proofs::ReadLemmas::number_laws))]
+fn number_of(octets: &[u8]) -> Option<u64>
+    requires { length octets.now < 8 }
+    ensures { result ≡ (if are_digits (halves octets.now)
+        then Some (packed (length (halves octets.now)) (halves octets.now)) else None) }
 {
-    let mut found = halves(front);
-    found.push(last % 16);
-    if last / 16 != 15 {
-        found.push(last / 16);
-    }
-    found
-}
-
-fn halves(octets: &[u8]) -> ShortList<16>
-    requires { length octets.now ≤ 8 }
-    ensures value { result ≡ halves octets.now }
-    ensures len { length result ≡ 2 * length octets.now }
-{
-    let mut found = ShortList::new();
+    let mut number: u64 = 0;
     for octet in octets {
-        found.push(*octet % 16);
-        found.push(*octet / 16);
+        if *octet % 16 >= 10 || *octet / 16 >= 10 {
+            return None;
+        }
+        number = number * 256 + u64::from(*octet % 16 * 16 + *octet / 16 + 17);
     }
-    found
+    Some(number)
 }
 
-fn are_digits(numbers: &[u8]) -> bool
-    ensures { result ≡ are_digits numbers.now }
+/// The digits of the front, which make this number, and of the last octet. Its high half is kept plus one, so the filler
+/// becomes the 0 of no digit.
+#[tactic(auto, using(crate::proofs::ReadLemmas::last_laws))]
+fn with_last(number: u64, front: &[u8], last: u8) -> Result<Digits, TbcdFault>
+    requires few { length front.now < 8 }
+    requires digits { are_digits (halves front.now) ≡ true }
+    requires value { number ≡ packed (length (halves front.now)) (halves front.now) }
+    ensures { result ≡ (if are_digits (last_halves last)
+        then Ok (halves front.now ++ last_halves last) else Err BadDigit) }
 {
-    numbers.iter().all(|number| *number < 10)
+    let end = (last / 16 + 1) % 16;
+    if last % 16 >= 10 || end > 10 {
+        return Err(TbcdFault::BadDigit);
+    }
+    let whole = number * 256 + u64::from(last % 16 * 16 + 16 + end);
+    Ok(Digits::of_word(whole << (56 - 8 * front.len())))
 }
 
 /// The octets of a word's digits, two from the high end at a time.
