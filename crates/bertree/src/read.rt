@@ -12,6 +12,7 @@ use crate::head::{Head, next, read_head};
 use crate::node::Node;
 use bumpalo::Bump;
 use bumpalo::collections::into_bump_slice;
+use std::alloc::AllocError;
 use x690::Tag;
 use x690::limits::{MAX_LEVELS, MAX_OCTETS};
 
@@ -23,17 +24,31 @@ struct Open<'a> {
     after: Option<&'a [u8]>,
 }
 
+/// Children for which room is made at once, as many as the first push would make room for: most elements have no more.
+const USUAL_CHILDREN: usize = 4;
+
+/// The children for which room is made at once in these contents: each takes at least two octets (X.690, 8.1.1.1), and empty
+/// contents take no room.
+fn room_in(contents: &[u8]) -> usize {
+    USUAL_CHILDREN.min(contents.len() / 2)
+}
+
 impl<'a> Open<'a> {
-    fn new(bump: &'a Bump, tag: Tag, after: Option<&'a [u8]>) -> Open<'a>
-        ensures tag { result.tag ≡ tag }
-        ensures after { result.after ≡ after.entry }
-        ensures children { result.children.items ≡ [] }
+    fn new(
+        bump: &'a Bump,
+        tag: Tag,
+        contents: &[u8],
+        after: Option<&'a [u8]>,
+    ) -> Result<Open<'a>, AllocError>
+        ensures tag { IfOk result (λ begun. begun.tag ≡ tag) }
+        ensures after { IfOk result (λ begun. begun.after ≡ after.entry) }
+        ensures children { IfOk result (λ begun. begun.children.items ≡ []) }
     {
-        Open {
+        Ok(Open {
             tag,
-            children: Vec::new(bump),
+            children: Vec::with_capacity(bump, room_in(contents))?,
             after,
-        }
+        })
     }
 }
 
@@ -89,7 +104,9 @@ fn read_levels<'a>(bump: &'a Bump, octets: &'a [u8]) -> Result<(Node<'a>, usize)
         Head::Primitive(tag, contents, after) => {
             return Ok((alone(Node::Primitive(tag, contents), after)?, 1));
         }
-        Head::Constructed(tag, contents, after) => (Open::new(bump, tag, after), contents),
+        Head::Constructed(tag, contents, after) => {
+            (Open::new(bump, tag, contents, after)?, contents)
+        }
     };
     let mut outer: Vec<Open<'a>, &'a Bump> = Vec::with_capacity(bump, USUAL_LEVELS)?;
     let mut deepest = 1;
@@ -115,7 +132,7 @@ fn read_levels<'a>(bump: &'a Bump, octets: &'a [u8]) -> Result<(Node<'a>, usize)
             }
             Head::Constructed(tag, contents, after) => {
                 outer.push(inner)?;
-                inner = Open::new(bump, tag, after);
+                inner = Open::new(bump, tag, contents, after)?;
                 rest = contents;
             }
         }

@@ -2,7 +2,7 @@
 ghost use Rattle.std.specs.Prelude.{◌≡◌, ◌*◌, ◌<◌, ◌++◌, OnOk};
 ghost use Rattle.x690.specs.Identifier.{class_bits, leading, number_octets, identifier};
 
-use std::alloc::AllocError;
+use std::alloc::{AllocError, Allocator};
 use x690::{Class, Tag};
 
 /// The class in bits 8 and 7 (8.1.2.2).
@@ -27,7 +27,7 @@ fn leading_octet(tag: Tag, low: u8) -> u8
 
 /// Appends a tag number, seven bits an octet (8.1.2.4.2).
 #[tactic(auto, using(std::proofs::lemmas::Bool::Decides::nat_tests), unfolding(x690::specs::Identifier::number_octets))]
-fn put_number(out: &mut Vec<u8>, number: u32) -> Result<(), AllocError>
+fn put_number<A: Allocator>(out: &mut Vec<u8, A>, number: u32) -> Result<(), AllocError>
     ensures { OnOk result (out.new.items ≡ out.old.items ++ number_octets number) }
 {
     if number >= 1 << 28 {
@@ -48,7 +48,7 @@ fn put_number(out: &mut Vec<u8>, number: u32) -> Result<(), AllocError>
 
 /// Appends the identifier octets of a tag.
 #[tactic(auto, using(std::proofs::lemmas::Bool::Decides::nat_tests), unfolding(x690::specs::Identifier::identifier))]
-pub(crate) fn put_identifier(out: &mut Vec<u8>, tag: Tag) -> Result<(), AllocError>
+pub(crate) fn put_identifier<A: Allocator>(out: &mut Vec<u8, A>, tag: Tag) -> Result<(), AllocError>
     ensures { OnOk result (out.new.items ≡ out.old.items ++ identifier tag) }
 {
     if tag.number < 31 {

@@ -2,11 +2,14 @@
 ghost use Rattle.std.specs.Prelude.{◌≡◌, ◌+◌, ◌-◌, ◌/◌, ◌%◌, ◌<◌, ◌++◌, length as list_length, take, drop, OnOk};
 ghost use Rattle.x690.specs.Length.{length_octets};
 
-use std::alloc::AllocError;
+use std::alloc::{AllocError, Allocator};
 
 /// Appends a length.
 #[tactic(auto, using(std::proofs::lemmas::Bool::Decides::nat_tests), unfolding(x690::specs::Length::length_octets))]
-pub(crate) fn put_length(out: &mut Vec<u8>, length: usize) -> Result<(), AllocError>
+pub(crate) fn put_length<A: Allocator>(
+    out: &mut Vec<u8, A>,
+    length: usize,
+) -> Result<(), AllocError>
     ensures { OnOk result (out.new.items ≡ out.old.items ++ length_octets length) }
 {
     if length < 1 << 7 {
@@ -36,7 +39,7 @@ pub(crate) fn put_length(out: &mut Vec<u8>, length: usize) -> Result<(), AllocEr
 }
 
 /// Replaces the octet at a place by these.
-fn widen(out: &mut Vec<u8>, place: usize, octets: &[u8]) -> Result<(), AllocError>
+fn widen<A: Allocator>(out: &mut Vec<u8, A>, place: usize, octets: &[u8]) -> Result<(), AllocError>
     requires { place < list_length out.old.items }
     ensures { OnOk result (out.new.items
         ≡ take place out.old.items ++ (octets.now ++ drop (place + 1) out.old.items)) }
@@ -49,7 +52,7 @@ fn widen(out: &mut Vec<u8>, place: usize, octets: &[u8]) -> Result<(), AllocErro
 
 /// Replaces the octet at a place by the length of all that follows it.
 #[tactic(auto, using(std::proofs::lemmas::Bool::Decides::nat_tests), unfolding(x690::specs::Length::length_octets))]
-pub(crate) fn set_length(out: &mut Vec<u8>, place: usize) -> Result<(), AllocError>
+pub(crate) fn set_length<A: Allocator>(out: &mut Vec<u8, A>, place: usize) -> Result<(), AllocError>
     requires { place < list_length out.old.items }
     ensures { OnOk result (out.new.items ≡ take place out.old.items
         ++ (length_octets (list_length out.old.items - place - 1)

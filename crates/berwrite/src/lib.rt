@@ -12,5 +12,5 @@ mod write;
 
 pub use memory::Memory;
 pub use own_tree::OwnTree;
-pub use write::write_tree;
+pub use write::{write_tree, write_tree_in};
 pub use x690::{Class, Tag};

@@ -8,10 +8,11 @@ use crate::identifier::put_identifier;
 use crate::length::{put_length, set_length};
 use crate::memory::Memory;
 use crate::own_tree::OwnTree;
-use std::alloc::{AllocError, Global};
+use bumpalo::Bump;
+use std::alloc::{AllocError, Allocator, Global};
 
 /// Appends the octets of a tree. One octet holds the place of a length until the contents after it are written.
-fn put(tree: &OwnTree, out: &mut Vec<u8>) -> Result<(), AllocError>
+fn put<A: Allocator>(tree: &OwnTree, out: &mut Vec<u8, A>) -> Result<(), AllocError>
     ensures { OnOk result (out.new.items ≡ out.old.items ++ enc (own tree.now)) }
 {
     put_identifier(out, tree.tag())?;
@@ -36,6 +37,17 @@ fn put(tree: &OwnTree, out: &mut Vec<u8>) -> Result<(), AllocError>
 /// longer.
 const ROOM: usize = 256;
 
+/// The octets of a tree, in a list of their size, with the room to write them from another allocator.
+fn written<A: Allocator>(alloc: Global, room: A, tree: &OwnTree) -> Result<Vec<u8>, Memory>
+    ensures octets { IfOk result (λ octets. octets.items ≡ enc (own tree.now)) }
+    ensures spelling { IfOk result (λ octets. length octets.items < 2 ^ 32 → HasTags (own tree.now)
+        → Spells octets.items (own tree.now)) }
+{
+    let mut octets = Vec::with_capacity(room, ROOM)?;
+    put(tree, &mut octets)?;
+    Ok(Vec::from_slice(alloc, &octets)?)
+}
+
 /// The octets that are sent for a tree, in a list of their size.
 ///
 /// There is no precondition. With 2^32 octets or more a length may not fit in four octets; then they are no spelling that is
@@ -45,7 +57,14 @@ pub fn write_tree(alloc: Global, tree: &OwnTree) -> Result<Vec<u8>, Memory>
     ensures spelling { IfOk result (λ octets. length octets.items < 2 ^ 32 → HasTags (own tree.now)
         → Spells octets.items (own tree.now)) }
 {
-    let mut octets = Vec::with_capacity(alloc, ROOM)?;
-    put(tree, &mut octets)?;
-    Ok(Vec::from_slice(alloc, &octets)?)
+    written(alloc, alloc, tree)
+}
+
+/// The same, for a caller with an arena: they are written there before they are copied, which takes one allocation less.
+pub fn write_tree_in(alloc: Global, bump: &Bump, tree: &OwnTree) -> Result<Vec<u8>, Memory>
+    ensures octets { IfOk result (λ octets. octets.items ≡ enc (own tree.now)) }
+    ensures spelling { IfOk result (λ octets. length octets.items < 2 ^ 32 → HasTags (own tree.now)
+        → Spells octets.items (own tree.now)) }
+{
+    written(alloc, bump, tree)
 }

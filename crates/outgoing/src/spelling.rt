@@ -18,7 +18,7 @@ use bumpalo::collections::into_bump_slice;
 use mapctx::Context;
 use mapdlg::{first_answer, first_request, refuse};
 use q773_comp::Rejection;
-use q773_msg::{OutMessage, write_message};
+use q773_msg::{OutMessage, write_message_in};
 use std::alloc::Global;
 
 /// The octets of an arena's first chunk, which are enough for the tree of most messages.
@@ -96,5 +96,5 @@ pub fn octets_of(alloc: Global, sent: &SentMessage) -> Result<Vec<u8>, Memory>
 {
     let bump = Bump::try_with_capacity(alloc, ARENA)?;
     let out = out_message(&bump, sent)?;
-    write_message(alloc, &out)
+    write_message_in(alloc, &bump, &out)
 }

@@ -177,12 +177,12 @@ pub(crate) fn push_components<'a>(
     }
 }
 
-/// The Rejects, one by one.
+/// The Rejects, one by one, with room for one more component: a procedure mostly sends one of its own.
 pub(crate) fn reject_trees<'a>(bump: &'a Bump, rejects: &[Rejection]) -> Result<Trees<'a>, Memory>
     ensures { IfOk result (λ trees. owns trees.items
         ≡ map reject_tree (map rejection rejects.now)) }
 {
-    let mut trees = Vec::with_capacity(bump, rejects.len())?;
+    let mut trees = Vec::with_capacity(bump, rejects.len() + 1)?;
     for reject in rejects {
         trees.push(component_tree(bump, &OutComponent::Reject(*reject))?)?;
     }

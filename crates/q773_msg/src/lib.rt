@@ -10,5 +10,5 @@ mod portions;
 mod read;
 
 pub use message::{Message, Portions, Unread};
-pub use out::{OutMessage, abort_cause, write_message};
+pub use out::{OutMessage, abort_cause, write_message, write_message_in};
 pub use read::read_message;

@@ -7,7 +7,7 @@ ghost use Rattle.frames.specs.SentTrees.{begin_tree, continue_tree, end_tree, ab
 ghost use Rattle.q773_msg.specs.Sent.{message_tree};
 
 use crate::portions::{push_portions, push_some};
-use berwrite::{Memory, OwnTree, write_tree};
+use berwrite::{Memory, OwnTree, write_tree, write_tree_in};
 use bumpalo::Bump;
 use bumpalo::collections::into_bump_slice;
 use frames::tags::{ABORT, ABORT_CAUSE, BEGIN, CONTINUE, DESTINATION, END, ORIGIN};
@@ -107,4 +107,11 @@ pub fn write_message(alloc: Global, message: &OutMessage) -> Result<Vec<u8>, Mem
     ensures { IfOk result (λ octets. octets.items ≡ enc (message_tree message.now)) }
 {
     write_tree(alloc, &message.tree)
+}
+
+/// The same, for a caller with an arena: they are written there before they are copied, which takes one allocation less.
+pub fn write_message_in(alloc: Global, bump: &Bump, message: &OutMessage) -> Result<Vec<u8>, Memory>
+    ensures { IfOk result (λ octets. octets.items ≡ enc (message_tree message.now)) }
+{
+    write_tree_in(alloc, bump, &message.tree)
 }

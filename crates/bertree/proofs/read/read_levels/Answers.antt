@@ -20,7 +20,7 @@ returns-in-Primitive-clause-ok c =
 
 pub loop-after-init : goal.loop-after-init
 loop-after-init c =
-    let o = c.new.ensures in
+    let o = c.in_ok-new-in-Constructed.ensures in
     reading-first _ _ _ _ _ _ c.in_ok-outer.ensures.items o.tag o.after o.children (rw c.in-Constructed.is at c.in-Some.ensures.found)
 
 -- an element has ended
@@ -61,12 +61,12 @@ loop-after-preserved-in-Primitive-head c =
 
 pub loop-after-smaller : goal.loop-after-smaller
 loop-after-smaller c =
-    let l = c.loop-after in let h = c.in-Constructed-head in
-    opened-smaller l.inner c.new-inner.result _ _ _ _ h.tag h.after c.in_ok-push-in-Constructed-head.ensures.items c.new-inner.ensures.after
+    let l = c.loop-after in let h = c.in-Constructed-head in let o = c.in_ok-inner-in-Constructed-head in
+    opened-smaller l.inner o.inner _ _ _ _ h.tag h.after c.in_ok-push-in-Constructed-head.ensures.items o.ensures.after
     (rw h.is at c.in-Some-read_head.ensures.found)
 
 pub loop-after-preserved : goal.loop-after-preserved
 loop-after-preserved c =
-    let l = c.loop-after in let h = c.in-Constructed-head in let o = c.new-inner.ensures in
+    let l = c.loop-after in let h = c.in-Constructed-head in let o = c.in_ok-inner-in-Constructed-head.ensures in
     reading-opened _ l.inner _ _ _ _ _ h.tag h.after _ _ l.invariant c.in_ok-push-in-Constructed-head.ensures.items o.tag o.after o.children
     (rw h.is at c.in-Some-read_head.ensures.found) (omega (arith, l.outer.ok.0))

@@ -6,7 +6,7 @@ use Rattle.berwrite.proofs.Own.{contents-primitive, contents-constructed, all-wr
 use Rattle.berwrite.proofs.write.+put.Goals as goal
 
 pub returns-in_ok-extend_from_slice-in-Primitive : goal.returns-in_ok-extend_from_slice-in-Primitive
-returns-in_ok-extend_from_slice-in-Primitive t c =
+returns-in_ok-extend_from_slice-in-Primitive g t c =
     let same = contents-primitive c.args.tree.now _ _ c.in-Primitive.is in
     let tag = ap (λ x. c.args.out.now.items ++ identifier x) c.tag.ensures in
     written (own c.args.tree.now) _ _ _ _ _ (c.in_ok-put_identifier.ensures ∙ tag) c.in_ok-put_length-in-Primitive.ensures
@@ -14,7 +14,7 @@ returns-in_ok-extend_from_slice-in-Primitive t c =
     (c.in_ok-extend_from_slice-in-Primitive.ensures.items ∙ ap (λ xs. c.put_length.new.out.items ++ xs) (sym same))
 
 pub returns-after-loop-child : goal.returns-after-loop-child
-returns-after-loop-child t c =
+returns-after-loop-child g t c =
     let same = contents-constructed c.args.tree.now _ _ c.in-Constructed.is in
     let tag = ap (λ x. c.args.out.now.items ++ identifier x) c.tag.ensures in
     let children = all-written _ _ _ _ c.loop-child-test.false c.loop-child.invariant in
