@@ -247,11 +247,7 @@ pub levels-opened : (f : Frame) (gs : List Frame) (tag : Tag) (after : Option (L
     → levels (closed (opened tag after) (f ∷ gs)) ≡ max (levels (closed f gs)) (length gs + 2)
 levels-opened f gs tag after = omega (arith, levels-grown f gs (element tag []))
 
--- the number of steps left for the open elements
+-- the number of steps left for an open element, by what follows it
 abbrev pub weight : Option (List ℕ) → ℕ
 weight None = 1
 weight (Some after) = 1 + length after
-
-abbrev pub waiting : List Frame → ℕ
-waiting [] = 0
-waiting (g ∷ gs) = weight g.after + waiting gs

@@ -88,6 +88,7 @@ fn leading_of(octet: u8) -> (Class, bool, u8)
 }
 
 /// The tag, and what follows its identifier. The octet 00 begins no element: it only ends contents (X.690, 8.1.5).
+#[inline(always)]
 fn read_identifier(octets: &[u8]) -> Option<(Tag, &[u8])>
     ensures found { IfSome result
         (λ r. IsTag r.0.constructed r.0 × (octets.now ≡ identifier r.0 ++ r.1.now)) }
@@ -126,6 +127,7 @@ fn read_identifier(octets: &[u8]) -> Option<(Tag, &[u8])>
 }
 
 /// The length (X.690, 8.1.3), of at most four octets after the first (profile), and what follows it.
+#[inline(always)]
 fn read_length(octets: &[u8]) -> Option<(Length, &[u8])>
     ensures found { IfSome result (λ r. IsLengthThen r.0 octets.now r.1.now) }
     ensures none { IfNone result (HasNoLength octets.now) }
@@ -160,6 +162,7 @@ fn read_length(octets: &[u8]) -> Option<(Length, &[u8])>
 }
 
 /// The element, or the head of a constructed one, that the octets begin with.
+#[inline(always)]
 pub(crate) fn read_head(octets: &[u8]) -> Option<Head<'_>>
     ensures found { IfSome result (λ head. IsHead head octets.now) }
     ensures none { IfNone result (BeginsNoElement octets.now) }

@@ -1,54 +1,45 @@
 //! The reader: one pass over the octets, without recursion at any depth.
 ghost use Rattle.std.specs.Prelude.{◌≡◌, ℕ, ◌+◌, ◌<◌, ◌≤◌, ◌↔◌, List, [], length, IfSome, IfNone, IfOk, IfErr, MatchResult};
-ghost use Rattle.x690.specs.Tree.{Tree, levels};
+ghost use Rattle.x690.specs.Tree.{Tree, element, levels};
 ghost use Rattle.x690.specs.Spelling.{Spells};
 ghost use Rattle.bertree.specs.Contents.{Closes};
 ghost use Rattle.bertree.specs.Faults.{SpellsNone, SpellsTooDeep, IsRefused};
 ghost use Rattle.bertree.specs.Head.{followed_by};
-ghost use Rattle.bertree.specs.Nodes.{tree};
+ghost use Rattle.bertree.specs.Nodes.{tree, elements};
 
 use crate::fault::TreeFault;
 use crate::head::{Head, next, read_head};
 use crate::node::Node;
 use bumpalo::Bump;
-use bumpalo::collections::into_bump_slice;
 use std::alloc::AllocError;
 use x690::Tag;
 use x690::limits::{MAX_LEVELS, MAX_OCTETS};
 
-/// A constructed element that has begun: its children so far and, if its length is definite, what follows it.
-#[derive(Drop)]
+/// A constructed element that has begun: how many nodes stand before its children and, if its length is definite, what
+/// follows it.
+#[derive(Clone, Copy)]
 struct Open<'a> {
     tag: Tag,
-    children: Vec<Node<'a>, &'a Bump>,
+    before: usize,
     after: Option<&'a [u8]>,
 }
 
-/// Children for which room is made at once, as many as the first push would make room for: most elements have no more.
-const USUAL_CHILDREN: usize = 4;
-
-/// The children for which room is made at once in these contents: each takes at least two octets (X.690, 8.1.1.1), and empty
-/// contents take no room.
-fn room_in(contents: &[u8]) -> usize {
-    USUAL_CHILDREN.min(contents.len() / 2)
-}
-
 impl<'a> Open<'a> {
-    fn new(
-        bump: &'a Bump,
-        tag: Tag,
-        contents: &[u8],
-        after: Option<&'a [u8]>,
-    ) -> Result<Open<'a>, AllocError>
-        ensures tag { IfOk result (λ begun. begun.tag ≡ tag) }
-        ensures after { IfOk result (λ begun. begun.after ≡ after.entry) }
-        ensures children { IfOk result (λ begun. begun.children.items ≡ []) }
+    #[inline(always)]
+    fn new(tag: Tag, before: usize, after: Option<&'a [u8]>) -> Open<'a>
+        ensures tag { result.tag ≡ tag }
+        ensures before { result.before ≡ before }
+        ensures after { result.after ≡ after.entry }
     {
-        Ok(Open {
-            tag,
-            children: Vec::with_capacity(bump, room_in(contents))?,
-            after,
-        })
+        Open { tag, before, after }
+    }
+
+    /// The element, with a copy of these nodes as its children.
+    #[inline(always)]
+    fn around(self, bump: &'a Bump, nodes: &[Node<'a>]) -> Result<Node<'a>, AllocError>
+        ensures { IfOk result (λ node. tree node ≡ element self.entry.tag (elements nodes.now)) }
+    {
+        Ok(Node::Constructed(self.tag, bump.try_alloc_slice_copy(nodes)?))
     }
 }
 
@@ -89,8 +80,12 @@ fn alone<'a>(node: Node<'a>, after: &[u8]) -> Result<Node<'a>, TreeFault>
 /// Levels for which room is made at once; messages of TCAP and MAP have hardly more.
 const USUAL_LEVELS: usize = 8;
 
+/// Nodes for which room is made at once: hardly more wait at a time for the end of the element that they are in.
+const USUAL_NODES: usize = 16;
+
 /// The tree that the octets spell, and its levels. The elements that have begun are in `outer`, outermost first, and in
-/// `inner`; `rest` is what is left of the contents of `inner`.
+/// `inner`; `rest` is what is left of the contents of `inner`. Their children so far are in `nodes`, those of each element
+/// behind those of the elements around it. They are copied to the arena when the element ends, so that one list grows.
 fn read_levels<'a>(bump: &'a Bump, octets: &'a [u8]) -> Result<(Node<'a>, usize), TreeFault>
     ensures ok { IfOk result (λ found. Spells octets.now (tree found.0)
         × (levels (tree found.0) ≡ found.1)) }
@@ -104,20 +99,20 @@ fn read_levels<'a>(bump: &'a Bump, octets: &'a [u8]) -> Result<(Node<'a>, usize)
         Head::Primitive(tag, contents, after) => {
             return Ok((alone(Node::Primitive(tag, contents), after)?, 1));
         }
-        Head::Constructed(tag, contents, after) => {
-            (Open::new(bump, tag, contents, after)?, contents)
-        }
+        Head::Constructed(tag, contents, after) => (Open::new(tag, 0, after), contents),
     };
     let mut outer: Vec<Open<'a>, &'a Bump> = Vec::with_capacity(bump, USUAL_LEVELS)?;
+    let mut nodes: Vec<Node<'a>, &'a Bump> = Vec::with_capacity(bump, USUAL_NODES)?;
     let mut deepest = 1;
     loop {
         if let Some(after) = end(inner.after, rest) {
-            let node = Node::Constructed(inner.tag, into_bump_slice(inner.children));
+            let node = inner.around(bump, &nodes[inner.before..])?;
+            nodes.truncate(inner.before);
             let Some(parent) = outer.pop() else {
                 return Ok((alone(node, after)?, deepest));
             };
             inner = parent;
-            inner.children.push(node)?;
+            nodes.push(node)?;
             rest = after;
             continue;
         }
@@ -127,12 +122,12 @@ fn read_levels<'a>(bump: &'a Bump, octets: &'a [u8]) -> Result<(Node<'a>, usize)
         deepest = deepest.max(outer.len() + 2);
         match head {
             Head::Primitive(tag, contents, after) => {
-                inner.children.push(Node::Primitive(tag, contents))?;
+                nodes.push(Node::Primitive(tag, contents))?;
                 rest = after;
             }
             Head::Constructed(tag, contents, after) => {
                 outer.push(inner)?;
-                inner = Open::new(bump, tag, contents, after)?;
+                inner = Open::new(tag, nodes.len(), after);
                 rest = contents;
             }
         }

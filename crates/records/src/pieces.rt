@@ -7,6 +7,7 @@ ghost use Rattle.records.specs.Reading.{parts_left};
 use memchr::memchr;
 
 /// The text before the first separator, and the text after it if there is one.
+#[inline(always)]
 pub fn cut(text: &[u8], separator: u8) -> (&[u8], Option<&[u8]>)
     ensures parts { parts separator text.now
         ≡ result.0.now ∷ parts_left separator (option_map (λ rest. rest.now) result.1) }

@@ -1,5 +1,5 @@
-use Rattle.std.proofs.Common.{[], refl, sym, arith, append-nil}
-use Rattle.bertree.proofs.Frames.{reading-first, reading-opened, reading-grown, reading-closed, reading-last, reading-more, reading-stuck, primitive-whole, primitive-more, no-items, opened-smaller, closed-smaller}
+use Rattle.std.proofs.Common.{[], sym, arith, append-nil}
+use Rattle.bertree.proofs.Frames.{reading-first, reading-opened, reading-grown, reading-closed, reading-last, reading-more, reading-stuck, node-ended, primitive-whole, primitive-more, no-items, opened-smaller, closed-smaller}
 use Rattle.bertree.proofs.read.read_levels.Goals as goal
 
 -- the first element
@@ -20,53 +20,57 @@ returns-in-Primitive-clause-ok c =
 
 pub loop-after-init : goal.loop-after-init
 loop-after-init c =
-    let o = c.in_ok-new-in-Constructed.ensures in
-    reading-first _ _ _ _ _ _ c.in_ok-outer.ensures.items o.tag o.after o.children (rw c.in-Constructed.is at c.in-Some.ensures.found)
+    let o = c.new.ensures in
+    reading-first _ _ _ _ _ _ _ c.in_ok-outer.ensures.items c.in_ok-nodes.ensures.items o.tag o.before o.after
+    (rw c.in-Constructed.is at c.in-Some.ensures.found)
 
 -- an element has ended
 
 pub returns-in_err-alone-clause-not_ber : goal.returns-in_err-alone-clause-not_ber
 returns-in_err-alone-clause-not_ber c = λ _.
     let l = c.loop-after in
-    reading-more _ _ _ _ _ _ l.invariant (no-items _ (omega (arith, c.in_default-pop.ensures.cases, l.outer.ok.0)))
+    reading-more _ _ _ _ _ _ _ l.invariant (no-items _ (omega (arith, c.in_default-pop.ensures.cases, l.outer.ok.0)))
     c.in-Some-end.ensures.found c.in_err-alone.ensures.not_ber.1
 
 pub returns-in_default-pop-clause-ok : goal.returns-in_default-pop-clause-ok
 returns-in_default-pop-clause-ok c =
     let l = c.loop-after in
     let whole = c.in_ok-alone.ensures.ok in
-    rw whole.0 (reading-last _ _ _ _ _ c.into_bump_slice.result _ l.invariant (no-items _ (omega (arith, c.in_default-pop.ensures.cases, l.outer.ok.0)))
-    c.in-Some-end.ensures.found whole.1 c.into_bump_slice.ensures)
+    rw whole.0 (reading-last _ _ _ _ _ _ _ _ l.invariant (no-items _ (omega (arith, c.in_default-pop.ensures.cases, l.outer.ok.0)))
+    c.in-Some-end.ensures.found whole.1 (node-ended l.inner _ _ _ c.deref.ensures.value c.in_ok-node.ensures))
 
 pub loop-after-smaller-in-Some-end : goal.loop-after-smaller-in-Some-end
 loop-after-smaller-in-Some-end c =
-    closed-smaller c.loop-after.inner c.in-Some-pop.parent c.in-Some-pop.parent _ _ _ _ c.in-Some-pop.ensures.items c.in-Some-end.ensures.found refl
+    closed-smaller c.loop-after.inner c.in-Some-pop.parent _ _ _ _ c.in-Some-pop.ensures.items c.in-Some-end.ensures.found
 
 pub loop-after-preserved-in-Some-end : goal.loop-after-preserved-in-Some-end
 loop-after-preserved-in-Some-end c =
-    reading-closed _ _ c.in-Some-pop.parent _ _ _ _ _ c.into_bump_slice.result _ c.loop-after.invariant c.in-Some-pop.ensures.items
-    c.in-Some-end.ensures.found c.into_bump_slice.ensures refl refl c.in_ok-push.ensures.items
+    let l = c.loop-after in
+    reading-closed _ l.inner c.in-Some-pop.parent _ _ _ _ _ _ _ _ _ l.invariant c.in-Some-pop.ensures.items
+    c.in-Some-end.ensures.found (node-ended l.inner _ _ _ c.deref.ensures.value c.in_ok-node.ensures)
+    c.truncate.ensures.items c.in_ok-push.ensures.items
 
 -- an element has begun
 
 pub returns-in_default-read_head-clause-not_ber : goal.returns-in_default-read_head-clause-not_ber
 returns-in_default-read_head-clause-not_ber c = λ _.
-    reading-stuck _ _ _ _ _ c.loop-after.invariant c.in_default-end.ensures.none c.in_default-read_head.ensures.none
+    reading-stuck _ _ _ _ _ _ c.loop-after.invariant c.in_default-end.ensures.none c.in_default-read_head.ensures.none
 
 pub loop-after-preserved-in-Primitive-head : goal.loop-after-preserved-in-Primitive-head
 loop-after-preserved-in-Primitive-head c =
     let l = c.loop-after in let h = c.in-Primitive-head in
-    reading-grown _ l.inner _ _ _ h.tag h.contents h.after _ _ l.invariant refl refl c.in_ok-push-in-Primitive-head.ensures.items
+    reading-grown _ l.inner _ _ _ _ h.tag h.contents h.after _ _ l.invariant c.in_ok-push-in-Primitive-head.ensures.items
     (rw h.is at c.in-Some-read_head.ensures.found) (omega (arith, l.outer.ok.0))
 
 pub loop-after-smaller : goal.loop-after-smaller
 loop-after-smaller c =
-    let l = c.loop-after in let h = c.in-Constructed-head in let o = c.in_ok-inner-in-Constructed-head in
-    opened-smaller l.inner o.inner _ _ _ _ h.tag h.after c.in_ok-push-in-Constructed-head.ensures.items o.ensures.after
+    let l = c.loop-after in let h = c.in-Constructed-head in
+    opened-smaller l.inner c.new-inner.result _ _ _ _ h.tag h.after c.in_ok-push-in-Constructed-head.ensures.items c.new-inner.ensures.after
     (rw h.is at c.in-Some-read_head.ensures.found)
 
 pub loop-after-preserved : goal.loop-after-preserved
 loop-after-preserved c =
-    let l = c.loop-after in let h = c.in-Constructed-head in let o = c.in_ok-inner-in-Constructed-head.ensures in
-    reading-opened _ l.inner _ _ _ _ _ h.tag h.after _ _ l.invariant c.in_ok-push-in-Constructed-head.ensures.items o.tag o.after o.children
+    let l = c.loop-after in let h = c.in-Constructed-head in let o = c.new-inner.ensures in
+    reading-opened _ l.inner _ _ _ _ _ _ h.tag h.after _ _ l.invariant c.in_ok-push-in-Constructed-head.ensures.items
+    o.tag (omega (arith, o.before, l.nodes.ok.0)) o.after
     (rw h.is at c.in-Some-read_head.ensures.found) (omega (arith, l.outer.ok.0))
