@@ -4,6 +4,7 @@
 
 pub mod dialogue_examples;
 pub mod examples;
+pub mod update_examples;
 
 ghost use Rattle.std.specs.Prelude.{◌≡◌, ℕ, ℤ, Option, None, Some, ◌<◌, ◌≤◌, List, [], ◌∷◌, ◌++◌, ◌&&◌, ◌||◌, ◌⊎◌, true, false, length};
 ghost use Rattle.machine.specs.Received.{Abort, Begin, Component, ComponentOf, Continue, End, Purge, Read, Register, Response};
