@@ -3,6 +3,7 @@ with edited texts. The gate (`rt ci`) is run by `rt` itself; this only calls the
 import copy
 import importlib.machinery
 import importlib.util
+import json
 import os
 import pathlib
 import re
@@ -58,11 +59,29 @@ def is_as_left_by_ci(crate):
     return max(map(os.path.getmtime, [f"{TOP}/crates.txt", *files])) < os.path.getmtime(made)
 
 
+def are_kept_by_ci(crates):
+    """Whether these libraries, lowest first, are those that `rt ci` keeps, on this machine, of the files as they stand: it finds
+    them by the sum of all that was read for them, and leaves them older than the files of a fresh clone."""
+    rt.Crate.allowed = rt.handles_of(str(TOP))
+    kept = rt.Kept(crates)
+    for crate in crates:
+        key = kept.key(crate)
+        try:
+            with open(f"{kept.place(crate, False, key)}/made.json", encoding="utf-8") as it:
+                made = json.load(it)
+            if made["key"] != key or any(rtlib.sum_of(f"{crate.folder}/out/{path}") != sum for path, sum in made["files"]):
+                return False
+        except (OSError, ValueError, KeyError):
+            return False
+        kept.is_built(crate)
+    return True
+
+
 def lacking_libraries(above):
     """Makes the libraries below these crates ready, and returns the names of those that are not proved. Those that `rt ci` has
-    just proved are used as they are; on a tree with kept work each that changed is built over that, side by side."""
+    just proved, or kept, are used as they are; on a tree with kept work each that changed is built over that, side by side."""
     below = sorted({it for crate in above for it in crate.below()}, key=lambda it: len(it.below()))
-    if all(map(is_as_left_by_ci, below)):
+    if all(map(is_as_left_by_ci, below)) or are_kept_by_ci(below):
         return []
 
     def build(crate, given, jobs):
