@@ -71,27 +71,27 @@ impl Alone {
         ensures stops { IfErr result (EventsStop (Some (whole self.old.shards))
             (map raw_event part.items)) }
     {
-        let done = self.run_part(&part)?;
+        let done = self.run_part(part)?;
         push_outs(sent, done)?;
         Ok(())
     }
 
     /// Handles a part of a batch, of at most 65,536 events. If a journal has no room for that many more entries, all journals are
     /// cut first, so no journal is ever full.
-    fn run_part(&mut self, part: &[RawEvent]) -> Result<Vec<Handled>, Fault>
-        requires { length part.now ≤ MAX_ENTRIES }
+    fn run_part(&mut self, part: Vec<RawEvent>) -> Result<Vec<Handled>, Fault>
+        requires { length part.items ≤ MAX_ENTRIES }
         ensures runs { IfOk result (λ done. RunsPart self.old
-            (map raw_event part.now) done.items self.new) }
+            (map raw_event part.items) done.items self.new) }
         // For the whole state they are a run of the machine, and the journals have its last entries.
-        ensures run { IfOk result (λ done. IsRun (whole self.old.shards) (map raw_event part.now)
+        ensures run { IfOk result (λ done. IsRun (whole self.old.shards) (map raw_event part.items)
             (map sent_of done.items) (whole self.new.shards)) }
-        ensures continues { IfOk result (λ done. Continues self.old (map raw_event part.now)
+        ensures continues { IfOk result (λ done. Continues self.old (map raw_event part.items)
             (map sent_of done.items) self.new) }
         ensures stops { IfErr result (EventsStop (Some (whole self.old.shards))
-            (map raw_event part.now)) }
+            (map raw_event part.items)) }
     {
         self.make_room(part.len())?;
-        let fault = match self.node.run(&mut self.bump, part) {
+        let fault = match self.node.run_owned(&mut self.bump, part) {
             Ok(done) => return Ok(done),
             Err(fault) => fault,
         };

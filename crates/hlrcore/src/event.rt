@@ -85,17 +85,34 @@ impl Event {
         ensures same { IfRead result (λ event. raw_of event ≡ raw_event raw.now) }
         ensures read { IfRead result (λ event. IsEvent (raw_event raw.now) (event_of event)) }
     {
+        Event::of_owned(alloc, bump, raw.try_copy(alloc)?)
+    }
+
+    /// The same for an event that is handed over, so that its octets are not copied. On error it is dropped.
+    pub fn of_owned(alloc: Global, bump: &mut Bump, raw: RawEvent) -> Result<Event, EventFault>
+        ensures same { IfRead result (λ event. raw_of event ≡ raw_event raw) }
+        ensures read { IfRead result (λ event. IsEvent (raw_event raw) (event_of event)) }
+    {
         match raw {
-            RawEvent::Frame { from, octets } => read_frame(alloc, bump, *from, octets),
-            RawEvent::Clock { shard, now } => Ok(Event::Clock {
-                shard: *shard,
-                now: *now,
-            }),
-            RawEvent::Expire { shard } => Ok(Event::Expire { shard: *shard }),
-            RawEvent::Change { imsi, change } => Ok(Event::Change {
-                imsi: *imsi,
-                change: *change,
-            }),
+            RawEvent::Frame { from, octets } => read_frame(alloc, bump, from, octets),
+            RawEvent::Clock { shard, now } => Ok(Event::Clock { shard, now }),
+            RawEvent::Expire { shard } => Ok(Event::Expire { shard }),
+            RawEvent::Change { imsi, change } => Ok(Event::Change { imsi, change }),
+        }
+    }
+
+    /// The event as received, which is handed over.
+    pub fn into_raw(self) -> RawEvent
+        ensures { raw_event result ≡ raw_of self }
+    {
+        match self {
+            Event::Frame(indication) => RawEvent::Frame {
+                from: indication.from(),
+                octets: indication.into_octets(),
+            },
+            Event::Clock { shard, now } => RawEvent::Clock { shard, now },
+            Event::Expire { shard } => RawEvent::Expire { shard },
+            Event::Change { imsi, change } => RawEvent::Change { imsi, change },
         }
     }
 
@@ -144,13 +161,13 @@ fn read_frame(
     alloc: Global,
     bump: &mut Bump,
     from: Peer,
-    octets: &[u8],
+    octets: Vec<u8>,
 ) -> Result<Event, EventFault>
-    ensures same { IfRead result (λ event. raw_of event ≡ frames.RawFrame from octets.now) }
-    ensures read { IfRead result (λ event. IsEvent (frames.RawFrame from octets.now)
+    ensures same { IfRead result (λ event. raw_of event ≡ frames.RawFrame from octets.items) }
+    ensures read { IfRead result (λ event. IsEvent (frames.RawFrame from octets.items)
         (event_of event)) }
 {
-    match Round::take(alloc, bump, from, octets) {
+    match Round::take_owned(alloc, bump, from, octets) {
         Ok(indication) => Ok(Event::Frame(indication)),
         Err(RoundFault::Memory) => Err(EventFault::Memory),
         Err(RoundFault::ResetRefused(indication)) => {

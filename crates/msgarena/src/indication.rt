@@ -59,6 +59,14 @@ impl Indication {
         self.octets.as_slice()
     }
 
+    /// The octets of the frame, which are handed over.
+    pub fn into_octets(self) -> Vec<u8>
+        ensures { result.items ≡ self.octets }
+    {
+        let Indication { octets, .. } = self;
+        octets
+    }
+
     /// The verdict on the frame.
     pub fn verdict(&self) -> &Verdict
         ensures value { seen result.now ≡ self.now.verdict }

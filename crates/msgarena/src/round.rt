@@ -37,6 +37,22 @@ impl Round {
         ensures only { (v : Verdict) → IsVerdict octets.now v
             → IfTaken result (λ taken. taken.verdict ≡ v) }
     {
+        Round::take_owned(alloc, bump, from, octets.to_vec(alloc)?)
+    }
+
+    /// The same for octets that are handed over, so that they are not copied. On error they are dropped.
+    pub fn take_owned(
+        alloc: Global,
+        bump: &mut Bump,
+        from: Peer,
+        octets: Vec<u8>,
+    ) -> Result<Indication, RoundFault>
+        ensures frame { IfTaken result (λ taken. (taken.from ≡ from)
+            × (taken.octets ≡ octets.items)) }
+        ensures judged { IfTaken result (λ taken. IsVerdict octets.items taken.verdict) }
+        ensures only { (v : Verdict) → IsVerdict octets.items v
+            → IfTaken result (λ taken. taken.verdict ≡ v) }
+    {
         let taken = decoded(alloc, bump, from, octets)?;
         match bump.reset() {
             Ok(()) => Ok(taken),
@@ -46,14 +62,19 @@ impl Round {
 }
 
 /// The indication of octets that are decoded in the arena.
-fn decoded(alloc: Global, bump: &Bump, from: Peer, octets: &[u8]) -> Result<Indication, AllocError>
-    ensures frame { IfOk result (λ found. (found.from ≡ from) × (found.octets ≡ octets.now)) }
-    ensures judged { IfOk result (λ found. IsVerdict octets.now found.verdict) }
-    ensures only { (v : Verdict) → IsVerdict octets.now v
+fn decoded(
+    alloc: Global,
+    bump: &Bump,
+    from: Peer,
+    octets: Vec<u8>,
+) -> Result<Indication, AllocError>
+    ensures frame { IfOk result (λ found. (found.from ≡ from) × (found.octets ≡ octets.items)) }
+    ensures judged { IfOk result (λ found. IsVerdict octets.items found.verdict) }
+    ensures only { (v : Verdict) → IsVerdict octets.items v
         → IfOk result (λ found. found.verdict ≡ v) }
 {
-    let verdict = verdict_on(alloc, bump, octets)?;
-    Ok(Indication::new(from, octets.to_vec(alloc)?, verdict))
+    let verdict = verdict_on(alloc, bump, &octets)?;
+    Ok(Indication::new(from, octets, verdict))
 }
 
 /// The verdict on octets: discarded if they spell no tree within the limits.

@@ -1,6 +1,7 @@
 -- The invariant of a journal, how it begins, and how it grows.
 use Rattle.std.proofs.Common.{◌≡◌, ◌<◌, ℕ, List, [], ◌∷◌, ◌++◌, length, length-append, map, Vec, Global, refl, sym, ap, ◌∙◌, subst, arith}
 use Rattle.std.proofs.lemmas.List.{length-map, map-append}
+use Rattle.std.specs.Prelude.{Result, Ok, Err, IsErrAnd}
 use Rattle.machine.specs.declared.numbers.TheConstants.{MAX_ENTRIES}
 use Rattle.machine.specs.Holders.{IsNamed, holders}
 use Rattle.machine.specs.State.{State}
@@ -18,6 +19,11 @@ use Rattle.hlrcore.specs.declared.event.RawEvent as code
 use Rattle.hlrcore.specs.Events.{raw_event}
 use Rattle.shardlog.specs.declared.entry.Entry.{Entry}
 use Rattle.shardlog.specs.declared.entry.Handled.{Handled}
+use Rattle.hlrcore.specs.declared.fault.StepFault.{StepFault}
+use Rattle.hlrcore.specs.declared.fault.StepFault.TheVariants as step
+use Rattle.shardlog.specs.declared.fault.ShardFault.{ShardFault}
+use Rattle.shardlog.specs.declared.fault.ShardFault.TheVariants.{NoRoom}
+use Rattle.shardlog.specs.Faults.{fault_of}
 use Rattle.shardlog.specs.Chains.{JoinedKeep, LeadTo}
 use Rattle.shardlog.specs.Entries.{raw_entries, raw_entry}
 use Rattle.shardlog.specs.Handling.{Handles, LeavesUnnamed}
@@ -126,3 +132,10 @@ cut_leads l m base entries is based put next epochs leads =
     subst (λ (e : RawEpoch). ChainOctets l.base.shard (epochs ++ e ∷ []) (state_of l.state)) (λ i. record { base = state_of (based i); entries = put i }) cut in
     subst (λ (k : ℕ). ChainOctets k (epochs ++ record { base = state_of base; entries = entries } ∷ []) (state_of m.base)) (sym n)
     (subst (λ (S : State). ChainOctets l.base.shard (epochs ++ record { base = state_of base; entries = entries } ∷ []) S) (sym ends) here)
+
+-- a step that the fault of a call comes from
+pub step_had_no_room : {A : Type 0} (r : Result A ShardFault) (e : StepFault) → IsErrAnd r (λ f. f ≡ fault_of e) → r ≡ Err NoRoom → e ≡ step.NoRoom
+step_had_no_room (Ok x) e h q = absurd h
+step_had_no_room (Err f) step.NotMine h q = absurd cc
+step_had_no_room (Err f) step.NoRoom h q = refl
+step_had_no_room (Err f) step.Memory h q = absurd cc

@@ -86,16 +86,43 @@ impl Shard {
         ensures no_step { HasNoRoom (state_of self.old.state) (event_of event.now) → OnOk result ⊥ }
         ensures err { OnErr result (self.new ≡ self.old) }
     {
+        let event = event.try_copy(self.alloc)?;
+        self.handle_owned(event)
+    }
+
+    /// The same for an event that is handed over, so that the journal takes its octets and they are not copied. On error it is dropped.
+    pub fn handle_owned(&mut self, event: Event) -> Result<Handled, ShardFault>
+        // A step of the machine over octets, which leaves each open dialogue as it is that the event does not name.
+        ensures handles { IfOk result (λ handled. Handles self.old
+            (raw_of event) handled self.new) }
+        // The invariant of every journal.
+        ensures keeps { LogKeeps self.new }
+        ensures not_mine { result ≡ Err ShardFault.NotMine
+            → route (directory_of self.old.state.directory)
+            (event_of event) ≢ self.old.state.shard }
+        ensures mine { route (directory_of self.old.state.directory)
+            (event_of event) ≢ self.old.state.shard
+            → MatchResult result (λ _. ⊥)
+            (λ fault. (fault ≡ ShardFault.NotMine) ⊎ (fault ≡ ShardFault.Memory)) }
+        ensures full { result ≡ Err ShardFault.JournalFull
+            → (route (directory_of self.old.state.directory) (event_of event)
+            ≡ self.old.state.shard)
+            × (length self.old.entries ≡ MAX_ENTRIES) }
+        ensures room { length self.old.entries ≡ MAX_ENTRIES → OnOk result ⊥ }
+        ensures no_room { result ≡ Err ShardFault.NoRoom
+            → HasNoRoom (state_of self.old.state) (event_of event) }
+        ensures no_step { HasNoRoom (state_of self.old.state) (event_of event) → OnOk result ⊥ }
+        ensures err { OnErr result (self.new ≡ self.old) }
+    {
         if self.entries.len() >= MAX_ENTRIES {
-            return Err(self.refusal(event));
+            return Err(self.refusal(&event));
         }
-        let raw = event.try_raw(self.alloc)?;
         self.entries.reserve(1)?;
-        let answer = self.state.step(event)?;
+        let answer = self.state.step(&event)?;
         let (outs, kept) = answer.outs.into_both();
         let position = self.entries.len();
         self.entries.push_reserved(Entry {
-            event: raw,
+            event: event.into_raw(),
             id: answer.id,
             subject: answer.subject,
             outs: kept,

@@ -103,24 +103,28 @@ handled_more before so_far after events i event done handled lt is runs more =
     (runs_more before so_far after (map raw_event (take i events)) done (raw_event event) handled runs more)
 
 split : (events : List code.RawEvent) (i : ℕ) (event : code.RawEvent) → i < length events → event ≡ get_or events i event
-    → map raw_event events ≡ map raw_event (take i events) ++ raw_event event ∷ map raw_event (drop (suc i) events)
-split events i event lt is =
-    ap (map raw_event) (split_at events i event lt ∙ ap (λ (e : code.RawEvent). take i events ++ e ∷ drop (suc i) events) (sym is))
-    ∙ map-append raw_event (take i events) (event ∷ drop (suc i) events)
+    → events ≡ take i events ++ event ∷ drop (suc i) events
+split events i event lt is = split_at events i event lt ∙ ap (λ (e : code.RawEvent). take i events ++ e ∷ drop (suc i) events) (sym is)
+
+pub stops_at : (before after : NodeState) (events front back : List code.RawEvent) (event : code.RawEvent) (done : List Handled) (cause : Cause)
+    → front ++ event ∷ back ≡ events → Runs before (map raw_event front) done after → Refuses after (raw_event event) cause
+    → Stops before (map raw_event events) done cause after
+stops_at before after events front back event done cause is runs refused = record {
+  handled = map raw_event front;
+  next = raw_event event;
+  rest = map raw_event back;
+  raws_are = ap (map raw_event) (sym is) ∙ map-append raw_event front (event ∷ back);
+  runs = runs;
+  run = is_run before after (map raw_event front) done runs;
+  refuses = refused;
+}
 
 pub stops : (before after : NodeState) (events : List code.RawEvent) (i : ℕ) (event : code.RawEvent) (done : List Handled) (cause : Cause)
     → i < length events
     → event ≡ get_or events i event → Runs before (map raw_event (take i events)) done after → Refuses after (raw_event event) cause
     → Stops before (map raw_event events) done cause after
-stops before after events i event done cause lt is runs refused = record {
-  handled = map raw_event (take i events);
-  next = raw_event event;
-  rest = map raw_event (drop (suc i) events);
-  raws_are = split events i event lt is;
-  runs = runs;
-  run = is_run before after (map raw_event (take i events)) done runs;
-  refuses = refused;
-}
+stops before after events i event done cause lt is runs refused =
+    stops_at before after events (take i events) (drop (suc i) events) event done cause (sym (split events i event lt is)) runs refused
 
 pub all_handled : (before after : NodeState) (events : List code.RawEvent) (i : ℕ) (done : List Handled) → i ≡ length events
     → Runs before (map raw_event (take i events)) done after
@@ -128,3 +132,12 @@ pub all_handled : (before after : NodeState) (events : List code.RawEvent) (i : 
 all_handled before after events i done all runs =
     subst (λ (es : List code.RawEvent). Runs before (map raw_event es) done after)
     (ap (λ (n : ℕ). take n events) all ∙ take-length events) runs
+
+-- ---- a list of events, each taken off it
+
+pub handled_next : (before so_far after : NodeState) (front : List code.RawEvent) (event : code.RawEvent) (done : List Handled) (handled : Handled)
+    → Runs before (map raw_event front) done so_far → Takes so_far (raw_event event) handled after
+    → Runs before (map raw_event (front ++ event ∷ [])) (done ++ handled ∷ []) after
+handled_next before so_far after front event done handled runs more =
+    subst (λ (raws : List RawEvent). Runs before raws (done ++ handled ∷ []) after) (sym (map-append raw_event front (event ∷ [])))
+    (runs_more before so_far after (map raw_event front) done (raw_event event) handled runs more)

@@ -110,6 +110,36 @@ impl Node {
         Ok(done)
     }
 
+    /// The same for events that are handed over, so that their octets are not copied. Those that are not handled are dropped.
+    pub fn run_owned(
+        &mut self,
+        bump: &mut Bump,
+        events: Vec<RawEvent>,
+    ) -> Result<Vec<Handled>, NodeFault>
+        ensures handled { IfOk result (λ done. Runs self.old
+            (map raw_event events.items) done.items self.new) }
+        ensures run { IfOk result (λ done. IsRun (whole self.old.shards)
+            (map raw_event events.items) (map sent_of done.items) (whole self.new.shards)) }
+        ensures stops { IfErr result (λ fault. Stops self.old
+            (map raw_event events.items) fault.done.items fault.cause self.new) }
+        ensures keeps { NodeKeeps self.new }
+    {
+        let mut done = Vec::new(self.alloc);
+        for raw in events {
+            if done.reserve(1).is_err() {
+                return Err(NodeFault {
+                    done,
+                    cause: Cause::Memory,
+                });
+            }
+            match self.handle_owned(bump, raw) {
+                Ok(handled) => done.push_reserved(handled),
+                Err(why) => return Err(NodeFault { done, cause: why }),
+            }
+        }
+        Ok(done)
+    }
+
     /// Handles one event. On error nothing changes.
     pub fn handle(&mut self, bump: &mut Bump, raw: &RawEvent) -> Result<Handled, Cause>
         ensures takes { IfOk result (λ handled. Takes self.old
@@ -118,10 +148,21 @@ impl Node {
         ensures err { OnErr result (self.new ≡ self.old) }
         ensures keeps { NodeKeeps self.new }
     {
-        let event = Event::of(self.alloc, bump, raw)?;
+        let event = raw.try_copy(self.alloc)?;
+        self.handle_owned(bump, event)
+    }
+
+    /// The same for an event that is handed over, so that its octets are not copied. On error it is dropped.
+    pub fn handle_owned(&mut self, bump: &mut Bump, raw: RawEvent) -> Result<Handled, Cause>
+        ensures takes { IfOk result (λ handled. Takes self.old (raw_event raw) handled self.new) }
+        ensures refused { IfErr result (λ cause. Refuses self.old (raw_event raw) cause) }
+        ensures err { OnErr result (self.new ≡ self.old) }
+        ensures keeps { NodeKeeps self.new }
+    {
+        let event = Event::of_owned(self.alloc, bump, raw)?;
         let place = usize::from(route(&self.directory, &event));
         let shard = &mut self.shards[place];
-        match shard.handle(&event) {
+        match shard.handle_owned(event) {
             Ok(handled) => Ok(handled),
             Err(fault) => Err(refusal(fault)),
         }

@@ -1,55 +1,23 @@
-use Rattle.std.proofs.Common.{◌≡◌, List, [], ◌∷◌, ◌++◌, rules, sym, ap, subst}
-use Rattle.machine.specs.Step.{HasNoRoom}
-use Rattle.shard_state.specs.Answers.{entry_of}
-use Rattle.shard_state.specs.Shards.{ShardState, state_of}
-use Rattle.hlrcore.specs.Events.{event_of, raw_of}
-use Rattle.shardlog.specs.declared.entry.Entry.{Entry}
-use Rattle.shardlog.specs.Entries.{raw_entries}
-use Rattle.shardlog.specs.Log.{LogKeeps, log}
-use Rattle.shardlog.proofs.LogLemmas.{entries_after, entry_is, handled_log, handles, keeps_seen, log_keeps}
+use Rattle.shardlog.proofs.LogLemmas.{keeps_seen}
 use Rattle.shardlog.proofs.shard.Shard.handle.Goals as goal
 
-pub returns-then-len-ge-MAX_ENTRIES-clause-keeps : goal.returns-then-len-ge-MAX_ENTRIES-clause-keeps
-returns-then-len-ge-MAX_ENTRIES-clause-keeps c = keeps_seen _ _ c.self.view_is c.self.invariant
-
-pub returns-in_err-raw-clause-keeps : goal.returns-in_err-raw-clause-keeps
-returns-in_err-raw-clause-keeps c = keeps_seen _ _ c.self.view_is c.self.invariant
-
-pub returns-in_err-reserve-clause-keeps : goal.returns-in_err-reserve-clause-keeps
-returns-in_err-reserve-clause-keeps c =
-    subst (λ (es : List Entry). LogKeeps (log c.self.inside.base (raw_entries es) c.self.inside.state)) (sym c.in_err-reserve.ensures.items)
-    (log_keeps _ c.self.invariant)
-
-pub returns-in_err-answer-clause-keeps : goal.returns-in_err-answer-clause-keeps
-returns-in_err-answer-clause-keeps c =
-    subst (λ (s : ShardState). LogKeeps (log c.self.inside.base (raw_entries c.reserve.new.self.items) s)) (sym c.in_err-answer.ensures.err)
-    (subst (λ (es : List Entry). LogKeeps (log c.self.inside.base (raw_entries es) c.self.inside.state)) (sym c.in_ok-reserve.ensures.items)
-    (log_keeps _ c.self.invariant))
-
-put : (c : goal.After-push_reserved)
-    → raw_entries c.push_reserved.new.self.items ≡ raw_entries c.self.inside.entries.items ++ entry_of (raw_of c.args.event.now) c.in_ok-answer.answer ∷ []
-put c =
-    entries_after c.self.inside.entries.items c.push_reserved.new.self.items
-    (record { event = c.in_ok-raw.raw; id = c.in_ok-answer.answer.id; subject = c.in_ok-answer.answer.subject; outs = c.into_both-outs.result.1 })
-    (entry_of (raw_of c.args.event.now) c.in_ok-answer.answer) (search rules)
-    (entry_is c.in_ok-raw.raw (raw_of c.args.event.now) c.in_ok-answer.answer c.into_both-outs.result.1 c.in_ok-raw.ensures c.into_both-outs.ensures.kept)
-
-pub invariant_of-self-2 : goal.invariant_of-self-2
-invariant_of-self-2 c =
-    handled_log c.self.inside.base c.self.inside.state c.step.new.self c.self.inside.entries.items c.push_reserved.new.self.items
-    (raw_of c.args.event.now) c.in_ok-answer.answer
-    c.self.invariant (put c) c.in_ok-answer.ensures.routed c.in_ok-answer.ensures.stepped c.in_ok-answer.ensures.same_shard (search rules)
+pub returns-in_err-event-clause-keeps : goal.returns-in_err-event-clause-keeps
+returns-in_err-event-clause-keeps c = keeps_seen _ _ c.self.view_is c.self.invariant
 
 pub returns-clause-handles : goal.returns-clause-handles
-returns-clause-handles c =
-    handles c.args.self.now c.self.inside.base c.self.inside.state c.step.new.self c.self.inside.entries.items c.push_reserved.new.self.items
-    (raw_of c.args.event.now)
-    c.in_ok-answer.answer _ c.self.view_is (put c) c.in_ok-answer.ensures.stepped c.into_both-outs.ensures.sent (search rules)
+returns-clause-handles c = rw c.in_ok-event.ensures.same at c.handle_owned.ensures.handles
 
-pub returns-clause-keeps : goal.returns-clause-keeps
-returns-clause-keeps c = log_keeps _ (invariant_of-self-2 c)
+pub returns-clause-not_mine : goal.returns-clause-not_mine
+returns-clause-not_mine c = rw c.in_ok-event.ensures.read at c.handle_owned.ensures.not_mine
+
+pub returns-clause-mine : goal.returns-clause-mine
+returns-clause-mine c = rw c.in_ok-event.ensures.read at c.handle_owned.ensures.mine
+
+pub returns-clause-full : goal.returns-clause-full
+returns-clause-full c = rw c.in_ok-event.ensures.read at c.handle_owned.ensures.full
+
+pub returns-clause-no_room : goal.returns-clause-no_room
+returns-clause-no_room c = rw c.in_ok-event.ensures.read at c.handle_owned.ensures.no_room
 
 pub returns-clause-no_step : goal.returns-clause-no_step
-returns-clause-no_step c = λ none.
-    c.in_ok-answer.ensures.room
-    (subst (λ (s : ShardState). HasNoRoom (state_of s) (event_of c.args.event.now)) (sym (ap (λ l. l.state) c.self.view_is)) none)
+returns-clause-no_step c = rw c.in_ok-event.ensures.read at c.handle_owned.ensures.no_step
