@@ -62,6 +62,8 @@ def is_as_left_by_ci(crate):
 def are_kept_by_ci(crates):
     """Whether these libraries, lowest first, are those that `rt ci` keeps, on this machine, of the files as they stand: it finds
     them by the sum of all that was read for them, and leaves them older than the files of a fresh clone."""
+    if not hasattr(rt, "Kept"):  # a toolchain whose `rt ci` keeps none
+        return False
     rt.Crate.allowed = rt.handles_of(str(TOP))
     kept = rt.Kept(crates)
     for crate in crates:

@@ -2,6 +2,8 @@ pub mod InputLaws
 pub mod OctetLaws
 pub mod DigitLaws
 pub mod LineLaws
+pub mod SpaceLaws
+pub mod LetteredLaws
 pub mod TickLaws
 pub mod LetterLemmas
 pub mod CommandRows

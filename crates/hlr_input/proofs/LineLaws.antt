@@ -1,5 +1,5 @@
 -- What a line says.
-use Rattle.std.proofs.Common.{◌≡◌, ℕ, List, ◌∷◌, refl, sym, ap, subst, ◌∙◌}
+use Rattle.std.proofs.Common.{◌≡◌, ℕ, List, [], ◌∷◌, refl, sym, ap, subst, ◌∙◌}
 use Rattle.std.proofs.lemmas.Bool.{false≢true}
 use Rattle.std.specs.Prelude.{Option, Some, None, IfSome, Result, Ok, Err, IfOk, MatchResult, codes}
 use Rattle.records.specs.File.{parts}
@@ -38,6 +38,15 @@ four a b c d more Batch h = h
 four a b c d more (Codes imsi codes) h = h
 four a b c d more (Withdraw imsi) h = h
 
+-- the fields of a frame's line
+pub frame_fields : (fields : List (List ℕ)) (from field : List ℕ) → Say fields (Frame from field)
+    → (kind number : List ℕ) × (fields ≡ kind ∷ number ∷ field ∷ [])
+frame_fields [] from field h = absurd h
+frame_fields (kind ∷ []) from field h = absurd h
+frame_fields (kind ∷ number ∷ []) from field h = absurd h
+frame_fields (kind ∷ number ∷ octets ∷ []) from field h = (kind, number, ap (λ (last : List ℕ). kind ∷ number ∷ last ∷ []) h.2)
+frame_fields (kind ∷ number ∷ octets ∷ more ∷ further) from field h = absurd h
+
 -- more fields than a line may have
 pub too_many : (a b c text : List ℕ) (said : Line) → Say (a ∷ b ∷ c ∷ parts 32 text) said → ⊥
 too_many a b c text said h = let p = parts_cons 32 text in four a b c p.0 p.1 said (subst (λ (ps : List (List ℕ)). Say (a ∷ b ∷ c ∷ ps) said) p.2 h)
@@ -53,7 +62,7 @@ imsi_only text r digits e is = e ∙ imsi_again text digits is
 
 -- ---- new codes
 
-o_is_not_f : codes "O" ≡ codes "F" → ⊥
+pub o_is_not_f : codes "O" ≡ codes "F" → ⊥
 o_is_not_f e = false≢true (ap (λ (t : List ℕ). is_text t (codes "F")) e)
 
 -- what is read from a field that stands for codes

@@ -5,3 +5,4 @@ pub mod Reading
 pub mod CommandLine
 pub mod Command
 pub mod Seen
+pub mod Lettered

@@ -1,5 +1,6 @@
 -- What the lines of a script and their octets read to. Private functions cite these; the forms are in `Script` and `Octets`.
-use Rattle.std.specs.Prelude.{◌≡◌, ℕ, ◌-◌, ◌==◌, ◌&&◌, nat_le, Bool, true, false, List, [], ◌∷◌, ◌++◌, length, Result, Ok, Err, Option, Some, None, option_map, if◌then◌else◌, codes as text}
+use Rattle.std.specs.Prelude.{◌≡◌, ℕ, ◌-◌, ◌==◌, ◌&&◌, nat_le, not, Bool, true, false, List, [], ◌∷◌, ◌++◌, length, Result, Ok, Err, Option, Some, None, option_map, if◌then◌else◌, codes as text}
+use Rattle.std.specs.List.{list_any}
 use Rattle.records.specs.Reading.{◌>>=◌, is_text, octet_in}
 use Rattle.hlr_input.specs.declared.group.Group.{Group}
 use Rattle.hlr_input.specs.declared.group.Group.TheVariants.{Octet, Letter}
@@ -7,7 +8,7 @@ use Rattle.hlr_input.specs.declared.item.Item.{Item}
 use Rattle.hlr_input.specs.declared.item.LineFault.{LineFault}
 use Rattle.hlr_input.specs.declared.item.LineFault.TheVariants.{Bad, Memory}
 use Rattle.hlr_input.specs.Octets.{octets_of_group, is_known}
-use Rattle.hlr_input.specs.Script.{Line, Say, line_of}
+use Rattle.hlr_input.specs.Script.{Line, Frame, Say, line_of}
 
 -- ---- octets
 
@@ -62,3 +63,11 @@ says_two kind field said = Say (kind ∷ field ∷ []) said
 
 abbrev pub says_three : List ℕ → List ℕ → List ℕ → Line → Type 0
 says_three kind first second said = Say (kind ∷ first ∷ second ∷ []) said
+
+abbrev pub has_space : List ℕ → Bool
+has_space written = list_any (λ character. character == 32) written
+
+-- No field follows a frame's octets.
+abbrev pub is_closed : Line → Bool
+is_closed (Frame from field) = not (has_space field)
+is_closed _ = true

@@ -20,7 +20,7 @@ pub use group::Group;
 pub use input::{InputFault, MAX_FILE_OCTETS, read_all};
 pub use item::{Item, LineFault};
 pub use letters::Letters;
-pub use line::{check_line, read_line};
+pub use line::{check_line, read_checked, read_line};
 pub use options::{Options, WordsFault};
 pub use place::{Numbered, Place};
 pub use words::read_words;

@@ -1,11 +1,11 @@
 //! One line of a script.
 
-ghost use Rattle.std.specs.Prelude.{◌≡◌, IfOk, MatchResult, OnOk, OnErr, Err, ℕ, List, Some, IfSome};
+ghost use Rattle.std.specs.Prelude.{◌≡◌, IfOk, IfErr, MatchResult, OnOk, OnErr, Err, true, ℕ, List, Some, IfSome};
 ghost use Rattle.records.specs.Spelling.{IsImsiNumber};
 ghost use Rattle.hlr_input.specs.declared.group.Group.{Group};
 ghost use Rattle.hlr_input.specs.Octets.{IsOctets};
 ghost use Rattle.hlr_input.specs.Script.{Line, IsLine, IsGoodLine, line_of};
-ghost use Rattle.hlr_input.specs.Reading.{Reads, says_word, says_two, says_three};
+ghost use Rattle.hlr_input.specs.Reading.{Reads, is_closed, says_word, says_two, says_three};
 ghost use Rattle.records.specs.Reading.{imsi_in};
 ghost use Rattle.hlr_input.specs.declared.item.LineFault.TheVariants.{Bad, Memory};
 
@@ -24,22 +24,41 @@ use std::alloc::Global;
 /// - `W`: the end of a batch;
 /// - `O <imsi> <codes>`: new teleservice codes, in the form of the records file;
 /// - `X <imsi>`: the end of a subscription.
-#[tactic(auto, using(crate::proofs::LineLaws::reads_found, crate::proofs::LineLaws::reads_only))]
+#[tactic(auto, using(crate::proofs::SpaceLaws::closed_line))]
 pub fn read_line<'a>(_alloc: Global, line: &'a [u8]) -> Result<Item<'a>, LineFault>
     // The result is exactly what the line says, unless memory runs out.
     ensures found { IfOk result (λ item. IsLine line.now (line_of item)) }
     ensures only { (said : Line) → IsLine line.now said
         → MatchResult result (λ item. line_of item ≡ said) (λ fault. fault ≡ Memory) }
 {
-    read_fields(line)
+    match read_open(line) {
+        Ok(item) => {
+            if is_closed(&item) {
+                return Ok(item);
+            }
+            Err(LineFault::Bad)
+        }
+        Err(fault) => Err(fault),
+    }
+}
+
+/// Reads a line of which it is known that it has one of the forms, its octets too.
+pub fn read_checked<'a>(line: &'a [u8]) -> Item<'a>
+    requires { (said : Line) × IsGoodLine line.now said }
+    ensures { (said : Line) → IsLine line.now said → line_of result ≡ said }
+{
+    match read_open(line) {
+        Ok(item) => item,
+        Err(_) => unreachable!(),
+    }
 }
 
 /// Checks that a line has one of the forms, its octets too.
-pub fn check_line(alloc: Global, line: &[u8]) -> Result<(), LineFault>
+pub fn check_line(_alloc: Global, line: &[u8]) -> Result<(), LineFault>
     ensures good { OnOk result ((said : Line) × IsGoodLine line.now said) }
     ensures bad { result ≡ Err LineFault.Bad → (said : Line) → IsGoodLine line.now said → ⊥ }
 {
-    match read_line(alloc, line) {
+    match read_open(line) {
         Ok(Item::Frame { octets, .. }) => check_octets(octets),
         Ok(_) => Ok(()),
         Err(fault) => Err(fault),
@@ -57,20 +76,34 @@ fn check_octets(octets: &[u8]) -> Result<(), LineFault>
     }
 }
 
-#[tactic(auto, using(crate::proofs::LineLaws::too_many))]
-fn read_fields<'a>(line: &'a [u8]) -> Result<Item<'a>, LineFault>
-    ensures { Reads (IsLine line.now) result }
+/// Whether the item has no further field: whether a frame's octets have no space.
+fn is_closed(item: &Item<'_>) -> bool
+    ensures { result ≡ is_closed (line_of item.now) }
+{
+    match item {
+        Item::Frame { octets, .. } => !octets.contains(&b' '),
+        _ => true,
+    }
+}
+
+/// Reads a line, but for a look for spaces in a frame's octets, which are long: the octets that follow the address are those up to
+/// the end of the line. Who looks at the octets anyway need not look for spaces before.
+#[tactic(auto, using(crate::proofs::SpaceLaws::few_found, crate::proofs::SpaceLaws::few_only, crate::proofs::SpaceLaws::three_only, crate::proofs::SpaceLaws::spaced))]
+fn read_open<'a>(line: &'a [u8]) -> Result<Item<'a>, LineFault>
+    ensures found { IfOk result (λ item. is_closed (line_of item) ≡ true
+        → IsLine line.now (line_of item)) }
+    ensures only { (said : Line) → IsLine line.now said
+        → MatchResult result (λ item. line_of item ≡ said) (λ _. ⊥) }
 {
     let (kind, rest) = cut(line, b' ');
     let Some(rest) = rest else {
         return read_word(kind);
     };
     let (first, rest) = cut(rest, b' ');
-    let Some(rest) = rest else {
+    let Some(second) = rest else {
         return read_two(kind, first);
     };
-    let (second, rest) = cut(rest, b' ');
-    if let Some(_further) = rest {
+    if kind != b"F".as_slice() && second.contains(&b' ') {
         return Err(LineFault::Bad);
     }
     read_three(kind, first, second)
@@ -78,7 +111,8 @@ fn read_fields<'a>(line: &'a [u8]) -> Result<Item<'a>, LineFault>
 
 /// A line of one field.
 fn read_word<'a>(kind: &[u8]) -> Result<Item<'a>, LineFault>
-    ensures { Reads (says_word kind.now) result }
+    ensures reads { Reads (says_word kind.now) result }
+    ensures bad { IfErr result (λ fault. fault ≡ Bad) }
 {
     if kind == b"E".as_slice() {
         return Ok(Item::Expire);
@@ -91,7 +125,8 @@ fn read_word<'a>(kind: &[u8]) -> Result<Item<'a>, LineFault>
 
 /// A line of two fields.
 fn read_two<'a>(kind: &[u8], field: &[u8]) -> Result<Item<'a>, LineFault>
-    ensures { Reads (says_two kind.now field.now) result }
+    ensures reads { Reads (says_two kind.now field.now) result }
+    ensures bad { IfErr result (λ fault. fault ≡ Bad) }
 {
     if kind == b"C".as_slice() {
         let ticks = ticks(field).ok_or(LineFault::Bad)?;
@@ -106,7 +141,8 @@ fn read_two<'a>(kind: &[u8], field: &[u8]) -> Result<Item<'a>, LineFault>
 
 /// A line of three fields.
 fn read_three<'a>(kind: &[u8], first: &[u8], second: &'a [u8]) -> Result<Item<'a>, LineFault>
-    ensures { Reads (says_three kind.now first.now second.now) result }
+    ensures reads { Reads (says_three kind.now first.now second.now) result }
+    ensures bad { IfErr result (λ fault. fault ≡ Bad) }
 {
     if kind == b"F".as_slice() {
         let from = Digits::from_text(first).ok_or(LineFault::Bad)?;

@@ -1,11 +1,13 @@
 -- What is checked line by line.
-use Rattle.std.proofs.Common.{◌≡◌, ℕ, ◌+◌, Bool, true, false, List, [], ◌∷◌, ◌++◌, sym, ap, subst, ◌∙◌, inl, inr}
+use Rattle.std.proofs.Common.{◌≡◌, ℕ, ◌+◌, Bool, true, false, List, [], ◌∷◌, ◌++◌, sym, ap, subst, ◌∙◌, inl, inr, refl}
 use Rattle.std.specs.List.{AllByRecursion, list_any, join_with_byte}
-use Rattle.std.proofs.lemmas.Bool.{or_parts, cond-true, cond-false}
+use Rattle.std.proofs.lemmas.Bool.{cases_Bool, or_parts, cond-true, cond-false}
 use Rattle.std.specs.Prelude.{◌==◌, codes}
 use Rattle.records.specs.Reading.{is_text}
 use Rattle.hlr_program.specs.Batches.{HasIds, IsFirst, batch_of, behind_batch}
+use Rattle.hlr_input.specs.Lettered.{has_letter, have_letters}
 use Rattle.hlr_input.specs.Script.{Say, Frame, IsLine}
+use Rattle.hlr_input.proofs.LineLaws.{frame_fields}
 use Rattle.hlr_input.proofs.OctetLaws.{known_without}
 use Rattle.records.specs.File.{parts}
 use Rattle.records.proofs.FieldLaws.{joined_again}
@@ -56,19 +58,9 @@ behind_ends rest line more is end = ap behind_batch is ∙ cond-true (is_text li
 
 -- ---- lines without a letter
 
-abbrev pub has_letter : List ℕ → Bool
-has_letter written = list_any (λ character. character == 36) written
-
 none_behind : (front rest : List ℕ) → has_letter (front ++ rest) ≡ false → has_letter rest ≡ false
 none_behind [] rest e = e
 none_behind (x ∷ front) rest e = none_behind front rest (or_parts (x == 36) (has_letter (front ++ rest)) e).1
-
-frame_fields : (fields : List (List ℕ)) (from field : List ℕ) → Say fields (Frame from field) → (kind number : List ℕ) × (fields ≡ kind ∷ number ∷ field ∷ [])
-frame_fields [] from field h = absurd h
-frame_fields (kind ∷ []) from field h = absurd h
-frame_fields (kind ∷ number ∷ []) from field h = absurd h
-frame_fields (kind ∷ number ∷ octets ∷ []) from field h = (kind, number, ap (λ (last : List ℕ). kind ∷ number ∷ last ∷ []) h.2)
-frame_fields (kind ∷ number ∷ octets ∷ more ∷ further) from field h = absurd h
 
 none_in_field : (line from field : List ℕ) → has_letter line ≡ false → IsLine line (Frame from field) → has_letter field ≡ false
 none_in_field line from field none is =
@@ -79,3 +71,14 @@ none_in_field line from field none is =
 
 pub no_letter : (known : ℕ) (line : List ℕ) → list_any (λ character. character == 36) line ≡ false → HasIds known line
 no_letter known line none = λ from field groups is octets. sym (known_without known field groups (none_in_field line from field none is) octets)
+
+-- no line of the batch has one
+pub no_letters : (known : ℕ) (rest : List (List ℕ)) → have_letters rest ≡ false → AllByRecursion (HasIds known) (batch_of rest)
+no_letters known [] none = tt
+no_letters known (line ∷ more) none =
+    let parts_none = or_parts (has_letter line) (have_letters more) none in
+    elim (cases_Bool (is_text line (codes "W"))) [
+      | inl end ↦ subst (AllByRecursion (HasIds known)) (sym (batch_ends (line ∷ more) line more refl end)) tt
+      | inr on ↦ subst (AllByRecursion (HasIds known)) (sym (batch_goes_on (line ∷ more) line more refl on))
+          (no_letter known line parts_none.0, no_letters known more parts_none.1)
+    ]

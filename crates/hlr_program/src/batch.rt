@@ -19,7 +19,7 @@ ghost use Rattle.hlr_program.specs.Stopping.{BatchStops};
 use crate::check::{check_letters, is_end};
 use crate::fault::Fault;
 use crate::register::Register;
-use hlr_input::{Item, LineFault, Place, read_line, read_octets};
+use hlr_input::{Item, Place, read_checked, read_octets};
 use hlr_types::{Peer, Tid};
 use hlrcore::{Change, Out, RawEvent, ShardNumber};
 use machine::numbers::{MAX_ENTRIES, SHARDS};
@@ -170,11 +170,8 @@ fn add_line<R: Threads + Wait + Sync>(
     ensures few { OnOk result (length batch.new.part.items ≤ MAX_ENTRIES) }
     ensures stops { IfErr result (LineStops ids.now (progress register.old batch.old) line.now) }
 {
-    match read_line(alloc, line) {
-        Ok(item) => add_item(rt, alloc, register, batch, item, ids),
-        Err(LineFault::Memory) => Err(Fault::Memory),
-        Err(LineFault::Bad) => unreachable!(),
-    }
+    let item = read_checked(line);
+    add_item(rt, alloc, register, batch, item, ids)
 }
 
 /// Adds the events of what a line says.

@@ -37,6 +37,9 @@ pub fn check_letters(alloc: Global, from: Place, known: usize) -> Result<(), Fau
         (batch_of (lines from.entry.rest.now)) from.entry.before n }
     ensures of_script { IfErr result IsScriptFault }
 {
+    if !from.lettered {
+        return Ok(());
+    }
     let mut place = from;
     'lines: while let Some((line, behind)) = place.next() {
         if is_end(line.text) {

@@ -206,7 +206,7 @@ fn run<R: Threads + Wait + Sync, W: Write>(
         × Appends (W.contents out.old) (W.contents out.new) printed) }
 {
     let mut letters = Letters::new(alloc);
-    let mut place = Place::new(script);
+    let mut place = Place::searched(script);
     'batches: while !place.rest.is_empty() {
         let mut sent = Vec::new(alloc);
         place = handle_batch(rt, alloc, register, place, letters.ids(), &mut sent)?;

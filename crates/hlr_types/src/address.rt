@@ -4,6 +4,7 @@ ghost use Rattle.std.specs.Prelude.{◌≡◌, List, ℕ, IfSome, Some};
 ghost use Rattle.std.specs.Fmt.{padded};
 ghost use Rattle.hlr_types.specs.Digits.{AreSomeDigits};
 ghost use Rattle.hlr_types.specs.DigitTexts.{text_of};
+ghost use Rattle.hlr_types.specs.Words.{IsWord, in_word};
 ghost use Rattle.hlr_types.specs.Identities.{address_of, address_octets, IsAddress, AreAddressForms};
 
 use crate::digits::Digits;
@@ -64,6 +65,14 @@ impl IsdnAddress {
         ensures { result.now ≡ self.now }
     {
         &self.digits
+    }
+
+    /// The word of its digits, in which each has a half octet, from the highest on. The order of words is that of addresses.
+    pub fn word(&self) -> u64
+        ensures value { in_word result ≡ self.now }
+        ensures word { IsWord result }
+    {
+        self.digits.word()
     }
 
     /// The octets that are sent: 91, and the digits in TBCD.

@@ -10,6 +10,8 @@ mod identities;
 #[cfg(test)]
 mod keys;
 #[cfg(test)]
+mod many_msisdns;
+#[cfg(test)]
 mod records_faults;
 #[cfg(test)]
 mod records_files;

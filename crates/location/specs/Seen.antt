@@ -1,5 +1,5 @@
 -- Values of the code as values of the definitions.
-use Rattle.std.specs.Prelude.{ℕ, ◌-◌, List, [], ◌∷◌, ◌++◌, map, Option, Some, None, option_map, true, false}
+use Rattle.std.specs.Prelude.{ℕ, ◌-◌, List, [], ◌∷◌, ◌++◌, map, Option, Some, None, option_map, pos, true, false}
 use Rattle.std.specs.Borrow.{Bor}
 use Rattle.machine.specs.State as machine
 use Rattle.machine.specs.State.{Local, Invocation}
@@ -7,6 +7,7 @@ use Rattle.machine.specs.Sent as sent
 use Rattle.machine.specs.Outcome as left
 use Rattle.machine.specs.Expiries.{without}
 use Rattle.machine.specs.Effect as effects
+use Rattle.mapargs_loc.specs.Seen.{cancellation}
 use Rattle.q773_comp.specs.Seen.{rejection}
 use Rattle.csl.specs.declared.offer.Effect.{Effect}
 use Rattle.csl.specs.Effects.{concluded}
@@ -18,6 +19,7 @@ pub use Rattle.outgoing.specs.Seen.{out, message as said}
 use Rattle.outgoing.specs.declared.message.Addressed.{Addressed}
 use Rattle.location.specs.declared.outcome.After.{After}
 use Rattle.location.specs.declared.outcome.After.TheVariants.{Same, Purged, Location, NewCodes, Withdrawn}
+use Rattle.location.specs.declared.outcome.CancelBegin.{CancelBegin}
 use Rattle.location.specs.declared.outcome.DialogueChange.{DialogueChange}
 use Rattle.location.specs.declared.outcome.DialogueChange.TheVariants.{Closes, Opens, GoesOn, Forgets}
 use Rattle.location.specs.declared.outcome.Opening.{Opening}
@@ -60,10 +62,19 @@ abbrev pub one : Option Addressed → List sent.Out
 one None = []
 one (Some o) = out o ∷ []
 
+-- the Begin of a cancel
+abbrev pub cancel_out : CancelBegin → sent.Out
+cancel_out c = record { to = c.to; message = sent.SentBegin c.origin sent.LocationCancellation (sent.Cancel (pos 1) c.imsi (cancellation c.why) ∷ []) }
+
+-- the Begin of a cancel, if any
+abbrev pub one_cancel : Option CancelBegin → List sent.Out
+one_cancel None = []
+one_cancel (Some c) = cancel_out c ∷ []
+
 -- the messages, in order
-abbrev pub sent_of : (message cancel : Option Addressed) → List sent.Out
+abbrev pub sent_of : (message : Option Addressed) (cancel : Option CancelBegin) → List sent.Out
 sent_of message None = one message
-sent_of message (Some o) = one message ++ out o ∷ []
+sent_of message (Some c) = one message ++ cancel_out c ∷ []
 
 -- The outcome as the definitions have it: `named` is the dialogue that the event names, as the received message leaves it, and
 -- `codes` are those of an operator's change.

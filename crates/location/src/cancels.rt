@@ -5,17 +5,15 @@ ghost use Rattle.machine.specs.State as machine;
 ghost use Rattle.machine.specs.State.{Local};
 ghost use Rattle.machine.specs.Outcome.{cancel, cancel_begin};
 ghost use Rattle.mapargs_loc.specs.Seen.{cancellation};
-ghost use Rattle.outgoing.specs.Seen.{out};
-ghost use Rattle.location.specs.Seen.{after_of, one, opening_of, outcome_of};
+ghost use Rattle.location.specs.Seen.{after_of, cancel_out, one, opening_of, outcome_of};
 ghost use Rattle.location.specs.Cancelling.{then_cancel};
 ghost use Rattle.location.specs.Staying.{ForgetsNothing};
 
-use crate::outcome::{After, DialogueChange, Opening, Outcome};
+use crate::outcome::{After, CancelBegin, DialogueChange, Opening, Outcome};
 use dialogues::{Dialogue, Kind};
 use hlr_types::{Imsi, Peer, Tid};
 use mapargs_loc::CancellationType;
-use mapctx::Context;
-use outgoing::{Addressed, Components, SentComponent, SentMessage};
+use outgoing::Addressed;
 use tsl::Transaction;
 
 /// A cancel to be sent: the VLR digits, the attempt, and the cancellationType.
@@ -45,18 +43,15 @@ fn cancel(imsi: Imsi, vlr: Peer, attempt: u8, why: CancellationType) -> Opening
 }
 
 /// Its Begin.
-fn cancel_begin(imsi: Imsi, vlr: Peer, why: CancellationType, new: Tid) -> Addressed
+fn cancel_begin(imsi: Imsi, vlr: Peer, why: CancellationType, new: Tid) -> CancelBegin
     ensures { (here : Local) → imsi ≡ here.imsi
-        → out result ∷ [] ≡ cancel_begin here vlr (cancellation why) new }
+        → cancel_out result ∷ [] ≡ cancel_begin here vlr (cancellation why) new }
 {
-    let cancel = SentComponent::Cancel { id: 1, imsi, why };
-    Addressed {
+    CancelBegin {
         to: vlr,
-        message: SentMessage::Begin {
-            origin: new,
-            context: Context::LocationCancellation,
-            components: Components::One(cancel),
-        },
+        origin: new,
+        imsi,
+        why,
     }
 }
 

@@ -27,5 +27,5 @@ pub use change::{new_codes, withdraws};
 pub use closing::closes;
 pub use continuing::{continues, offer_to};
 pub use expiry::{expires, register_of};
-pub use outcome::{After, DialogueChange, Opening, Outcome};
+pub use outcome::{After, CancelBegin, DialogueChange, Opening, Outcome};
 pub use outgoing::{Addressed, SentMessage, Why, octets_of};

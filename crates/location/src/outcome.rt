@@ -3,8 +3,10 @@
 ghost use Rattle.std.specs.Prelude.{◌<◌, ◌≤◌};
 
 use dialogues::{Dialogue, InvokeId};
-use hlr_types::{Register, Tid};
-use outgoing::Addressed;
+use hlr_types::{Imsi, Peer, Register, Tid};
+use mapargs_loc::CancellationType;
+use mapctx::Context;
+use outgoing::{Addressed, Components, SentComponent, SentMessage};
 
 /// How the subscriber's record changes (TS 23.012): only what is written, so that the rest of the record is not copied.
 #[derive(Clone, Copy, PartialEq, Eq)]
@@ -48,6 +50,41 @@ pub enum DialogueChange {
     Forgets(InvokeId),
 }
 
+/// The Begin of a cancel, which invokes cancelLocation with the id 1 (TS 29.002, 8.1.3).
+#[derive(Clone, Copy)]
+pub struct CancelBegin {
+    pub to: Peer,
+    /// The local id of the dialogue that it opens.
+    pub origin: Tid,
+    pub imsi: Imsi,
+    pub why: CancellationType,
+}
+
+impl CancelBegin {
+    ghost use Rattle.std.specs.Prelude.{◌≡◌};
+    ghost use Rattle.outgoing.specs.Seen.{out};
+    ghost use Rattle.location.specs.Seen.{cancel_out};
+
+    /// The message.
+    pub fn message(&self) -> Addressed
+        ensures { out result ≡ cancel_out self.now }
+    {
+        let cancel = SentComponent::Cancel {
+            id: 1,
+            imsi: self.imsi,
+            why: self.why,
+        };
+        Addressed {
+            to: self.to,
+            message: SentMessage::Begin {
+                origin: self.origin,
+                context: Context::LocationCancellation,
+                components: Components::One(cancel),
+            },
+        }
+    }
+}
+
 /// The outcome of a procedure: the change of the record, what happens to the dialogues, a message, and the Begin of a cancel
 /// that follows it. Building it does not allocate.
 #[derive(Drop)]
@@ -55,5 +92,5 @@ pub struct Outcome {
     pub after: After,
     pub dialogue: DialogueChange,
     pub message: Option<Addressed>,
-    pub cancel: Option<Addressed>,
+    pub cancel: Option<CancelBegin>,
 }

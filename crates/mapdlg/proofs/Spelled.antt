@@ -52,8 +52,6 @@ unfolding identifier number_octets length_octets
 answer_spelled a b c d e f g = refl
 
 pub answered : (context : Context) (a b c d e f g : ℕ) → a ∷ b ∷ c ∷ d ∷ e ∷ f ∷ g ∷ [] ≡ name_of context
-    → (r : Result OwnTree Memory) → IfOk r (λ portion. own portion ≡ Primitive DIALOGUE_PORTION (answering a b c d e f g))
-    → IfOk r (λ portion. enc (own portion) ≡ enc (accepting context))
+    → enc (Primitive DIALOGUE_PORTION (answering a b c d e f g)) ≡ enc (accepting context)
 answered context a b c d e f g named =
-    sent_alike (answering a b c d e f g) (accepting context)
-    (answer_spelled a b c d e f g ∙ ap (λ name. enc (portion_tree (aare_tree name ACCEPTED (OfUser NO_DIAGNOSTIC)))) named)
+    answer_spelled a b c d e f g ∙ ap (λ name. enc (portion_tree (aare_tree name ACCEPTED (OfUser NO_DIAGNOSTIC)))) named

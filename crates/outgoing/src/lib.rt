@@ -6,6 +6,7 @@
 
 mod component;
 mod message;
+mod route;
 mod spelling;
 mod trees;
 

@@ -9,8 +9,9 @@ ghost use Rattle.berwrite.specs.OwnTrees.{own, owns};
 ghost use Rattle.q773_msg.specs.Sent.{message_tree};
 ghost use Rattle.outgoing.specs.Seen.{components, message};
 
-use crate::component::Components;
+use crate::component::{Components, SentComponent};
 use crate::message::SentMessage;
+use crate::route::route_end;
 use crate::trees::{push_components, reject_trees};
 use berwrite::{Memory, OwnTree};
 use bumpalo::Bump;
@@ -89,12 +90,36 @@ fn out_message<'a>(bump: &'a Bump, sent: &'a SentMessage) -> Result<OutMessage<'
     }
 }
 
-/// The octets of a message: definite lengths, in the fewest octets (X.690, 8.1.3).
+/// The octets of a message, by way of its tree.
 #[tactic(auto, unfolding(frames::specs::SentTrees::octets_of_sent))]
-pub fn octets_of(alloc: Global, sent: &SentMessage) -> Result<Vec<u8>, Memory>
+fn octets_by_tree(alloc: Global, sent: &SentMessage) -> Result<Vec<u8>, Memory>
     ensures { IfOk result (λ octets. octets.items ≡ octets_of_sent (message sent.now)) }
 {
     let bump = Bump::try_with_capacity(alloc, ARENA)?;
     let out = out_message(&bump, sent)?;
     write_message_in(alloc, &bump, &out)
+}
+
+/// The octets of a message: definite lengths, in the fewest octets (X.690, 8.1.3).
+pub fn octets_of(alloc: Global, sent: &SentMessage) -> Result<Vec<u8>, Memory>
+    ensures { IfOk result (λ octets. octets.items ≡ octets_of_sent (message sent.now)) }
+{
+    match sent {
+        SentMessage::End {
+            destination,
+            context: Some(of),
+            rejects,
+            components: Components::One(
+                SentComponent::RouteResult {
+                    id,
+                    imsi,
+                    msc,
+                    lmsi,
+                },
+            ),
+        } if rejects.is_empty() => {
+            Ok(route_end(alloc, destination, *of, *id, imsi, msc, lmsi.as_ref())?)
+        }
+        _ => octets_by_tree(alloc, sent),
+    }
 }

@@ -1,8 +1,8 @@
 -- What a search by halves finds among things in the order of their keys.
 use Rattle.std.proofs.Common.{◌≡◌, ℕ, zero, suc, ◌<◌, ◌≤◌, ◌+◌, ◌⊎◌, Bool, true, false, List, [], ◌∷◌, map as each, length, get_or, refl, sym, ap, subst, ◌∙◌, arith, inl, inr}
-use Rattle.std.specs.Prelude.{Some, None, Result, Ok, Err, MatchResult, All}
+use Rattle.std.specs.Prelude.{Option, Some, None, Result, Ok, Err, IfSome, MatchResult, All}
 use Rattle.std.specs.Bool.{OnTrue}
-use Rattle.std.specs.List.{IsAllAdjacentAnswer}
+use Rattle.std.specs.List.{Contains, IsAllAdjacentAnswer}
 use Rattle.std.specs.List.Sorted.{IsStrictlySortedBy, IsNonDecreasingBy, IsSortedBy, IsBinarySearchResult, IsSearchInRange}
 use Rattle.std.specs.Ordering.{ordering_index, eq_by_cmp, is_eq, is_lt, ordering_reverse}
 use Rattle.std.specs.declared.cmp.Ordering.{Ordering}
@@ -13,9 +13,10 @@ use Rattle.std.specs.BTreeMap.{is_at}
 use Rattle.std.proofs.lemmas.Bool.{false≢true}
 use Rattle.std.proofs.lemmas.List.{get_or-map, length-map}
 use Rattle.std.proofs.lemmas.List.Sorted.{searchable_from_sorted}
-use Rattle.std.proofs.lemmas.List.Elements.{recursion_from_All}
+use Rattle.std.proofs.lemmas.List.Elements.{recursion_from_All, Contains-get_or}
 use Rattle.std.proofs.lemmas.Map.{lookup-none}
 use Rattle.std.proofs.lemmas.Map.Entries.{lookup_from_place}
+use Rattle.std.proofs.lemmas.Map.Views.{lookup-from_Contains}
 use Rattle.std.proofs.lemmas.Map.Keys.{Less-from_sorted, IsDistinct-from_sorted, sorted_from_all_adjacent}
 use Rattle.std.proofs.lemmas.Option.{slice_get-get_or}
 use Rattle.records.specs.Maps.{digits_cmp}
@@ -71,6 +72,20 @@ hit es k at d ordered lt is =
 -- no value where no key is the one that is sought
 pub missed : {X : Type 0} (es : List (List ℕ × X)) (k : List ℕ) → All (λ e. eq_by_cmp digits_cmp k e.0 ≡ false) es → lookup (is_at (digits_cmp k)) es ≡ None
 missed es k none = lookup-none (is_at (digits_cmp k)) es (recursion_from_All (λ e. eq_by_cmp digits_cmp k e.0 ≡ false) es none)
+
+-- the entry that a search ends at, whatever their order
+pub found_at_its_key : {X : Type 0} (es : List (List ℕ × X)) (k : List ℕ) (at : ℕ) (d : List ℕ × X) → at < length es
+    → IsBinarySearchResult (λ e. digits_cmp e.0 k) es (Ok at) → Contains es (k, (get_or es at d).1)
+found_at_its_key es k at d lt found =
+    subst (λ e. Contains es e) (ap (λ key. (key, (get_or es at d).1)) (digits_exact (get_or es at d).0 k (found d))) (Contains-get_or es at d lt)
+
+-- What is found in a part is what there is in the whole.
+pub found_in_a_part : {X : Type 0} (es part : List (List ℕ × X)) (k : List ℕ) (r : Option X) → IsStrictlySortedBy digits_cmp (keys_of es)
+    → ((e : List ℕ × X) → Contains part e → Contains es e) → IfSome r (λ v. Contains part (k, v))
+    → IfSome r (λ v. lookup (is_at (digits_cmp k)) es ≡ Some v)
+found_in_a_part es part k None ordered within found = tt
+found_in_a_part es part k (Some v) ordered within found =
+    lookup-from_Contains (eq_by_cmp_equiv digits_total) k v es (IsDistinct-from_sorted digits_cmp (keys_of es) ordered) (within (k, v) found)
 
 -- ---- what comes before the next one
 

@@ -1,10 +1,13 @@
 //! The subscribers by MSISDN.
 
-ghost use Rattle.std.specs.Prelude.{◌≡◌, ◌↔◌, IfOk, IfSome, IsTrue, List, ℕ};
+ghost use Rattle.std.specs.Prelude.{◌≡◌, ◌↔◌, IfOk, IfSome, IsTrue, List, ℕ, Some};
 ghost use Rattle.std.specs.Bool.{OnTrue};
 ghost use Rattle.std.specs.FinMap as map;
+ghost use Rattle.std.specs.List.{Contains};
+ghost use Rattle.records.specs.Maps.{digits_cmp};
 ghost use Rattle.records.specs.Ordered.{AreDistinct, AreOrderedBy};
 
+use crate::starts::Starts;
 use hlr_types::{Imsi, IsdnAddress};
 use std::alloc::{AllocError, Global};
 use std::collections::BTreeMap;
@@ -15,6 +18,8 @@ use std::marker::Model;
 pub struct Directory {
     /// Each MSISDN and its IMSI, in the order of the MSISDNs.
     entries: Vec<(IsdnAddress, Imsi)>,
+    /// Where to look for an MSISDN among them.
+    starts: Starts,
 }
 
 impl Model for Directory {
@@ -34,6 +39,15 @@ impl Model for Directory {
 }
 
 impl Directory {
+    /// The directory of these entries.
+    fn over(entries: Vec<(IsdnAddress, Imsi)>) -> Directory
+        requires { AreOrderedBy (λ (e : List ℕ × List ℕ). e.0) entries.items }
+        ensures { result ≡ map.from_entries entries.items }
+    {
+        let starts = Starts::of(*entries.allocator(), &entries);
+        Directory { entries, starts }
+    }
+
     /// The directory of these IMSIs by MSISDN.
     pub(crate) fn of_tree(
         alloc: Global,
@@ -43,7 +57,7 @@ impl Directory {
     {
         let _ordered = imsis.len();
         let entries = imsis.into_iter().collect(alloc)?;
-        Ok(Directory { entries })
+        Ok(Directory::over(entries))
     }
 
     /// The directory of these entries, in whatever order. `None` if two have one MSISDN.
@@ -56,17 +70,24 @@ impl Directory {
         if !ascend(&entries) {
             return None;
         }
-        Some(Directory { entries })
+        Some(Directory::over(entries))
     }
 
     /// The IMSI of the subscriber with this MSISDN.
     pub fn find(&self, msisdn: &IsdnAddress) -> Option<Imsi>
         ensures { result ≡ map.get self.now msisdn.now }
     {
-        let Ok(at) = self.entries.binary_search_by_key(msisdn, |entry| entry.0) else {
-            return None;
-        };
-        Some(self.entries[at].1)
+        if let Some(imsi) = self.find_near(msisdn) {
+            return Some(imsi);
+        }
+        find_in(&self.entries, msisdn)
+    }
+
+    /// The same where the table points to the entry. Otherwise `None`, also where there is one.
+    fn find_near(&self, msisdn: &IsdnAddress) -> Option<Imsi>
+        ensures { IfSome result (λ imsi. map.get self.now msisdn.now ≡ Some imsi) }
+    {
+        find_in(self.starts.near(&self.entries, msisdn)?, msisdn)
     }
 
     /// Whether the directories are equal.
@@ -80,9 +101,7 @@ impl Directory {
     pub fn try_copy(&self) -> Result<Directory, AllocError>
         ensures { IfOk result (λ copy. copy ≡ self.now) }
     {
-        Ok(Directory {
-            entries: self.entries.clone()?,
-        })
+        Ok(Directory::over(self.entries.clone()?))
     }
 }
 
@@ -91,4 +110,16 @@ fn ascend(entries: &[(IsdnAddress, Imsi)]) -> bool
     ensures { OnTrue result (AreOrderedBy (λ (e : List ℕ × List ℕ). e.0) entries.now) }
 {
     entries.is_sorted_by(|entry, next| entry.0 < next.0)
+}
+
+/// The IMSI of the entry with this MSISDN, which is sought by halves.
+fn find_in(entries: &[(IsdnAddress, Imsi)], msisdn: &IsdnAddress) -> Option<Imsi>
+    ensures found { IfSome result (λ imsi. Contains entries.now (msisdn.now, imsi)) }
+    ensures value { AreOrderedBy (λ (e : List ℕ × List ℕ). e.0) entries.now
+        → result ≡ map.get (map.from_entries {R = digits_cmp} entries.now) msisdn.now }
+{
+    let Ok(at) = entries.binary_search_by_key(msisdn, |entry| entry.0) else {
+        return None;
+    };
+    Some(entries[at].1)
 }

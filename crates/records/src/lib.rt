@@ -22,6 +22,7 @@ mod records;
 mod roam;
 mod same;
 mod shard;
+mod starts;
 mod unordered;
 mod version;
 mod write;

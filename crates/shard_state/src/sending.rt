@@ -2,12 +2,12 @@
 
 ghost use Rattle.std.specs.Prelude.{◌≡◌, ◌++◌, IfOk, OnOk, map};
 ghost use Rattle.frames.specs.Octets.{spelled_out};
-ghost use Rattle.location.specs.Seen.{one, out, sent_of};
+ghost use Rattle.location.specs.Seen.{one, one_cancel, out, sent_of};
 ghost use Rattle.shard_state.specs.Frames.{raw_out};
 
 use crate::answer::Out;
 use crate::sent_frames::Frames;
-use location::{Addressed, octets_of};
+use location::{Addressed, CancelBegin, octets_of};
 use std::alloc::{AllocError, Global};
 
 /// A message as a frame.
@@ -34,17 +34,32 @@ fn push(outs: &mut Vec<Out>, alloc: Global, sent: &Option<Addressed>) -> Result<
     Ok(())
 }
 
+/// Appends the frame of a cancel's Begin, if there is one.
+fn push_cancel(
+    outs: &mut Vec<Out>,
+    alloc: Global,
+    cancel: &Option<CancelBegin>,
+) -> Result<(), AllocError>
+    ensures { OnOk result (map raw_out outs.new.items
+        ≡ map raw_out outs.old.items ++ map spelled_out (one_cancel cancel.now)) }
+{
+    if let Some(cancel) = cancel {
+        outs.push(spelled(alloc, &cancel.message())?)?;
+    }
+    Ok(())
+}
+
 /// The messages as frames, in order.
 pub(crate) fn outs_of(
     alloc: Global,
     message: &Option<Addressed>,
-    cancel: &Option<Addressed>,
+    cancel: &Option<CancelBegin>,
 ) -> Result<Frames, AllocError>
     ensures { IfOk result (λ outs. outs ≡ map spelled_out (sent_of message.now cancel.now)) }
 {
     let room = usize::from(message.is_some()) + usize::from(cancel.is_some());
     let mut outs = Vec::with_capacity(alloc, room)?;
     push(&mut outs, alloc, message)?;
-    push(&mut outs, alloc, cancel)?;
+    push_cancel(&mut outs, alloc, cancel)?;
     Frames::of(alloc, outs)
 }

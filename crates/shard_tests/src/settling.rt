@@ -6,7 +6,7 @@ use crate::given::{self, FIRST, octets_at, shard};
 use crate::samples::RECORDS;
 use dialogues::{Dialogue, Kind};
 use hlr_types::{Imsi, Peer, RemoteId, ShortList, Tid};
-use location::{After, DialogueChange, Opening, Outcome};
+use location::{After, CancelBegin, DialogueChange, Opening, Outcome};
 use mapargs_loc::CancellationType;
 use outgoing::{Addressed, Components, SentMessage};
 use shard_state::{Named, Plan, ShardParts, StepAnswer};
@@ -41,6 +41,25 @@ fn cancel() -> Option<Dialogue> {
     })
 }
 
+/// The Begin of the cancel, whose local id is the first one: AARQ, Invoke 1 of cancelLocation, updateProcedure.
+const CANCEL: [u8; 65] = [
+    0x62, 0x3F, 0x48, 0x04, 0x01, 0x00, 0x10, 0x00, 0x6B, 0x1E, 0x28, 0x1C, 0x06, 0x07, 0x00, 0x11,
+    0x86, 0x05, 0x01, 0x01, 0x01, 0xA0, 0x11, 0x60, 0x0F, 0x80, 0x02, 0x07, 0x80, 0xA1, 0x09, 0x06,
+    0x07, 0x04, 0x00, 0x00, 0x01, 0x00, 0x02, 0x03, 0x6C, 0x17, 0xA1, 0x15, 0x02, 0x01, 0x01, 0x02,
+    0x01, 0x03, 0xA3, 0x0D, 0x04, 0x08, 0x32, 0x14, 0x05, 0x00, 0x00, 0x00, 0x00, 0xF1, 0x0A, 0x01,
+    0x00,
+];
+
+/// What the cancel's Begin is made from.
+fn cancel_begin() -> Option<CancelBegin> {
+    Some(CancelBegin {
+        to: peer()?,
+        origin: FIRST,
+        imsi: imsi()?,
+        why: CancellationType::UpdateProcedure,
+    })
+}
+
 /// The End.
 fn end(alloc: Global) -> Option<Addressed> {
     Some(Addressed {
@@ -54,7 +73,7 @@ fn end(alloc: Global) -> Option<Addressed> {
     })
 }
 
-/// The outcome that leaves the record unchanged and sends an End twice.
+/// The outcome that leaves the record unchanged, and sends an End and the Begin of a cancel.
 fn only(alloc: Global, stays: DialogueChange) -> Option<Outcome>
     ensures { IfSome result (λ outcome. (outcome.after ≡ After.Same) × (outcome.dialogue ≡ stays)) }
 {
@@ -62,7 +81,7 @@ fn only(alloc: Global, stays: DialogueChange) -> Option<Outcome>
         after: After::Same,
         dialogue: stays,
         message: Some(end(alloc)?),
-        cancel: Some(end(alloc)?),
+        cancel: Some(cancel_begin()?),
     })
 }
 
@@ -128,13 +147,14 @@ fn withdraws(alloc: Global, shard: &mut ShardParts) -> Option<StepAnswer> {
     shard.settle(plan, &[]).ok()
 }
 
-/// Whether the answer has the first id, the subscriber and both Ends.
+/// Whether the answer has the first id, the subscriber, the End and then the Begin.
 fn is_opened(answer: &StepAnswer) -> bool {
     let outs = answer.outs.as_slice();
     answer.id == Some(FIRST)
         && answer.subject == imsi()
         && outs.len() == 2
-        && octets_at(outs, 1) == END.as_slice()
+        && octets_at(outs, 0) == END.as_slice()
+        && octets_at(outs, 1) == CANCEL.as_slice()
 }
 
 /// Whether a cancel is open after it opened, and is not after it closed.

@@ -4,4 +4,4 @@ use Rattle.hlr_program.proofs.batch.add_line.Goals as goal
 
 pub add_item-requires-clause-known : goal.add_item-requires-clause-known
 add_item-requires-clause-known g c = λ lifetimes lives. item_events c.args.ids.now c.args.line.now
-    (line_of c.in-Ok.item) c.requires.good c.requires.known c.in-Ok.ensures.only
+    (line_of c.read_checked-item.result) c.requires.good c.requires.known c.read_checked-item.ensures

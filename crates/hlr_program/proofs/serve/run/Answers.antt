@@ -14,9 +14,9 @@ use Rattle.hlr_program.proofs.serve.run.Goals as goal
 
 pub batches-init : goal.batches-init
 batches-init g c =
-    script_begins c.args.register.now c.args.script.now c.new-place.result.rest.now
-    (g.W.Write.contents c.args.out.now) c.new-letters.result c.new-place.result.before c.new-letters.ensures
-    c.new-place.ensures.whole c.new-place.ensures.first c.requires
+    script_begins c.args.register.now c.args.script.now c.searched-place.result.rest.now
+    (g.W.Write.contents c.args.out.now) c.new-letters.result c.searched-place.result.before c.new-letters.ensures
+    c.searched-place.ensures.whole c.searched-place.ensures.first c.requires
 
 pub handle_batch-requires : goal.handle_batch-requires
 handle_batch-requires g c = (c.type_bounds.sync-R, good_batch (lines c.batches.place.rest.now) c.batches.invariant.at.good)

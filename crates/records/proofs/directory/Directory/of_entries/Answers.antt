@@ -1,3 +1,4 @@
+use Rattle.std.proofs.Common.{◌∙◌}
 use Rattle.records.proofs.LoadLemmas.{on_true}
 use Rattle.records.proofs.MovedLemmas.{distinct_before, entries_moved}
 use Rattle.records.proofs.directory.Directory.of_entries.Goals as goal
@@ -9,4 +10,5 @@ returns-clause-distinct c =
 
 pub returns-clause-value : goal.returns-clause-value
 returns-clause-value c =
-    entries_moved c.args.entries.items c.sort_unstable_by_key.new.self.items c.sort_unstable_by_key.ensures.permutation (returns-clause-distinct c)
+    c.over.ensures
+    ∙ entries_moved c.args.entries.items c.sort_unstable_by_key.new.self.items c.sort_unstable_by_key.ensures.permutation (returns-clause-distinct c)
