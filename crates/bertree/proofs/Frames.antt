@@ -43,7 +43,7 @@ length-frames : (os : List Open) (nodes : List Node) → length (frames os nodes
 length-frames [] nodes = refl
 length-frames (o ∷ os) nodes = ap suc (length-frames os (take o.before nodes))
 
-map-push : (xs : List Node) (x : Node) → elements (xs ++ x ∷ []) ≡ elements xs ++ tree x ∷ []
+pub map-push : (xs : List Node) (x : Node) → elements (xs ++ x ∷ []) ≡ elements xs ++ tree x ∷ []
 map-push [] x = refl
 map-push (y ∷ ys) x = ap (λ z. tree y ∷ z) (map-push ys x)
 

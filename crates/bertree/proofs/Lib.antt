@@ -1,5 +1,6 @@
 pub mod Contents
 pub mod Frames
 pub mod Heads
+pub mod Shorts
 pub mod States
 pub mod Trees

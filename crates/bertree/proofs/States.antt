@@ -231,7 +231,7 @@ abbrev pub closed : Frame → List Frame → Tree
 closed f [] = ended f
 closed f (g ∷ gs) = closed (grown g (ended f)) gs
 
-levels_of_all-push : (ts : List Tree) (u : Tree) → levels_of_all (trees (ts ++ u ∷ [])) ≡ max (levels_of_all (trees ts)) (levels u)
+pub levels_of_all-push : (ts : List Tree) (u : Tree) → levels_of_all (trees (ts ++ u ∷ [])) ≡ max (levels_of_all (trees ts)) (levels u)
 levels_of_all-push [] u = omega arith
 levels_of_all-push (t ∷ ts) u = omega (arith, levels_of_all-push ts u)
 

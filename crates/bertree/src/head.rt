@@ -1,7 +1,7 @@
 //! What precedes an element's contents: its identifier octets (X.690, 8.1.2) and length octets (8.1.3).
 ghost use Rattle.std.specs.Prelude.{◌≡◌, ℕ, ◌+◌, ◌*◌, ◌/◌, ◌^◌, ◌<◌, ◌++◌, List, [], ◌∷◌, length, Bool, IfSome, IfNone};
 ghost use Rattle.x690.specs.Identifier.{IsTag, class_bits, constructed_bit, number_octets, identifier};
-ghost use Rattle.bertree.specs.Head.{IsLengthThen, HasNoLength, IsHead, BeginsNoElement};
+ghost use Rattle.bertree.specs.Head.{IsLengthThen, HasNoLength, IsElement, IsHead, BeginsNoElement};
 ghost use Rattle.x690.specs.declared.Tag.{Tag};
 
 use x690::{Class, Tag};
@@ -22,6 +22,14 @@ enum Length {
 pub(crate) enum Head<'a> {
     Primitive(Tag, &'a [u8], &'a [u8]),
     Constructed(Tag, &'a [u8], Option<&'a [u8]>),
+}
+
+/// A short element: its tag is in one octet (X.690, 8.1.2.3) and its length in another (8.1.3.4).
+#[derive(Clone, Copy)]
+pub(crate) struct ShortElement<'a> {
+    pub(crate) tag: Tag,
+    pub(crate) contents: &'a [u8],
+    pub(crate) after: &'a [u8],
 }
 
 /// The class in bits 8 and 7 (X.690, 8.1.2.2).
@@ -184,4 +192,31 @@ pub(crate) fn read_head(octets: &[u8]) -> Option<Head<'_>>
         Length::Open if tag.constructed => Some(Head::Constructed(tag, rest, None)),
         Length::Open => None,
     }
+}
+
+/// The short element that the octets begin with, if they do.
+#[inline(always)]
+pub(crate) fn read_short_element(octets: &[u8]) -> Option<ShortElement<'_>>
+    ensures { IfSome result (λ element. IsTag element.tag.constructed element.tag
+        × IsElement octets.now element.tag element.contents.now element.after.now) }
+{
+    let (first, rest) = next(octets)?;
+    let (length, rest) = next(rest)?;
+    let (class, constructed, low) = leading_of(first);
+    let length = usize::from(length);
+    if first == 0 || low == 31 || length > 127 || rest.len() < length {
+        return None;
+    }
+    let (contents, after) = rest.split_at(length);
+    let number = u32::from(low);
+    let tag = Tag {
+        class,
+        constructed,
+        number,
+    };
+    Some(ShortElement {
+        tag,
+        contents,
+        after,
+    })
 }

@@ -9,6 +9,7 @@ mod fault;
 mod head;
 mod node;
 mod read;
+mod short;
 
 pub use fault::TreeFault;
 pub use node::Node;

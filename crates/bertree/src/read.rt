@@ -1,4 +1,5 @@
-//! The reader: one pass over the octets, without recursion at any depth.
+//! The reader: trees of short elements alone are read by recursion, as they have too few octets to be deep; all others in one pass
+//! over the octets, without recursion at any depth.
 ghost use Rattle.std.specs.Prelude.{◌≡◌, ℕ, ◌+◌, ◌<◌, ◌≤◌, ◌↔◌, List, [], length, IfSome, IfNone, IfOk, IfErr, MatchResult};
 ghost use Rattle.x690.specs.Tree.{Tree, element, levels};
 ghost use Rattle.x690.specs.Spelling.{Spells};
@@ -10,6 +11,7 @@ ghost use Rattle.bertree.specs.Nodes.{tree, elements};
 use crate::fault::TreeFault;
 use crate::head::{Head, next, read_head};
 use crate::node::Node;
+use crate::short::read_short_tree;
 use bumpalo::Bump;
 use std::alloc::AllocError;
 use x690::Tag;
@@ -156,6 +158,9 @@ pub fn read_tree<'a>(bump: &'a Bump, octets: &'a [u8]) -> Result<Node<'a>, TreeF
 {
     if octets.len() > MAX_OCTETS {
         return Err(TreeFault::TooLong);
+    }
+    if let Some(node) = read_short_tree(bump, octets) {
+        return Ok(node);
     }
     let (node, levels) = read_levels(bump, octets)?;
     if levels > MAX_LEVELS {

@@ -1,32 +1,17 @@
 -- What a line says.
-use Rattle.std.proofs.Common.{◌≡◌, ℕ, List, [], ◌∷◌, refl, sym, ap, subst, ◌∙◌}
+use Rattle.std.proofs.Common.{◌≡◌, ℕ, List, [], ◌∷◌, sym, ap, subst, ◌∙◌}
 use Rattle.std.proofs.lemmas.Bool.{false≢true}
-use Rattle.std.specs.Prelude.{Option, Some, None, IfSome, Result, Ok, Err, IfOk, MatchResult, codes}
+use Rattle.std.specs.Prelude.{Option, Some, None, IfSome, codes}
 use Rattle.records.specs.File.{parts}
 use Rattle.records.proofs.PartsLemmas.{parts_cons}
-use Rattle.hlr_input.specs.declared.item.Item.{Item}
-use Rattle.hlr_input.specs.declared.item.LineFault.{LineFault}
-use Rattle.hlr_input.specs.declared.item.LineFault.TheVariants.{Bad, Memory}
 use Rattle.records.specs.Spelling.{IsImsiNumber, IsCodes}
 use Rattle.records.specs.Reading.{imsi_in, is_text}
 use Rattle.records.proofs.LineLaws as records
 use Rattle.records.proofs.AgainFields.{imsi_again}
 use Rattle.hlr_input.specs.declared.group.Group.{Group}
 use Rattle.hlr_input.specs.Octets.{IsOctets}
-use Rattle.hlr_input.specs.Script.{HasOctets, IsGoodLine, Line, Frame, Clock, Expire, Batch, Codes, Withdraw, Say, IsLine, line_of}
-use Rattle.hlr_input.specs.Reading.{Reads, says_three}
-
--- ---- what a call answers
-
-pub reads_found : (Says : Line → Type 0) (r : Result Item LineFault) → Reads Says r → IfOk r (λ item. Says (line_of item))
-reads_found Says (Ok item) h = h.0
-reads_found Says (Err e) h = tt
-
-pub reads_only : (Says : Line → Type 0) (r : Result Item LineFault) (said : Line) → Reads Says r → Says said
-    → MatchResult r (λ item. line_of item ≡ said) (λ fault. fault ≡ Memory)
-reads_only Says (Ok item) said h is = h.1 said is
-reads_only Says (Err Bad) said h is = absurd (h said is)
-reads_only Says (Err Memory) said h is = refl
+use Rattle.hlr_input.specs.Script.{HasOctets, IsGoodLine, Line, Frame, Clock, Expire, Batch, Codes, Withdraw, Say, IsLine}
+use Rattle.hlr_input.specs.Reading.{says_three}
 
 -- ---- fields
 

@@ -1,14 +1,13 @@
 -- Lines that are read without a look for spaces in a frame's octets.
 use Rattle.std.proofs.Common.{◌≡◌, ℕ, ◌+◌, Bool, true, false, List, [], ◌∷◌, refl, sym, ap, subst, ◌∙◌, arith, inl, inr}
 use Rattle.std.specs.Prelude.{◌==◌, ◌⊎◌, not, Result, Ok, Err, IfOk, IfErr, OnOk, MatchResult, codes}
-use Rattle.std.specs.List.{AllByRecursion, list_any, onto_first}
+use Rattle.std.specs.List.{AllByRecursion, onto_first}
 use Rattle.std.proofs.lemmas.Bool.{cases_Bool, false≢true, or_parts}
 use Rattle.std.proofs.lemmas.List.Elements.{recursion_from_All}
 use Rattle.std.proofs.lemmas.List.Splits.{slice_split-cons_yes, slice_split-cons_no}
 use Rattle.hex.specs.Hex.{is_hex_digit}
 use Rattle.hex.proofs.HexLemmas.{decode_of-ok}
 use Rattle.records.specs.File.{parts}
-use Rattle.records.proofs.PartsLemmas.{parts_cons}
 use Rattle.hlr_input.specs.declared.group.Group.{Group}
 use Rattle.hlr_input.specs.declared.group.Group.TheVariants.{Octet, Letter}
 use Rattle.hlr_input.specs.declared.item.Item.{Item}

@@ -1,4 +1,4 @@
-use Rattle.std.proofs.Common.{◌≡◌, false, ◌∷◌, sym, ◌∙◌, inl, inr, rules}
+use Rattle.std.proofs.Common.{◌≡◌, false, ◌∷◌, inl, inr, rules}
 use Rattle.std.specs.Prelude.{◌⊎◌, codes}
 use Rattle.records.specs.File.{parts}
 use Rattle.hlr_input.specs.Reading.{has_space}
