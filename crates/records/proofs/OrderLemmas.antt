@@ -1,8 +1,8 @@
 -- What a search by halves finds among things in the order of their keys.
-use Rattle.std.proofs.Common.{◌≡◌, ℕ, zero, suc, ◌<◌, ◌≤◌, ◌+◌, ◌⊎◌, Bool, true, false, List, [], ◌∷◌, map as each, length, get_or, refl, sym, ap, subst, ◌∙◌, arith, inl, inr}
+use Rattle.std.proofs.Common.{◌≡◌, ℕ, zero, suc, ◌<◌, ◌≤◌, ◌+◌, ◌-◌, ◌⊎◌, Bool, true, false, List, [], ◌∷◌, map as each, length, get_or, drop, refl, sym, ap, subst, ◌∙◌, arith, inl, inr}
 use Rattle.std.specs.Prelude.{Option, Some, None, Result, Ok, Err, IfSome, MatchResult, All}
 use Rattle.std.specs.Bool.{OnTrue}
-use Rattle.std.specs.List.{Contains, IsAllAdjacentAnswer}
+use Rattle.std.specs.List.{Contains, IsAllAdjacentAnswer, slice_range}
 use Rattle.std.specs.List.Sorted.{IsStrictlySortedBy, IsNonDecreasingBy, IsSortedBy, IsBinarySearchResult, IsSearchInRange}
 use Rattle.std.specs.Ordering.{ordering_index, eq_by_cmp, is_eq, is_lt, ordering_reverse}
 use Rattle.std.specs.declared.cmp.Ordering.{Ordering}
@@ -11,7 +11,7 @@ use Rattle.std.specs.Cmp.{eq_by_cmp_equiv}
 use Rattle.std.specs.Map.{lookup, keys_of}
 use Rattle.std.specs.BTreeMap.{is_at}
 use Rattle.std.proofs.lemmas.Bool.{false≢true}
-use Rattle.std.proofs.lemmas.List.{get_or-map, length-map}
+use Rattle.std.proofs.lemmas.List.{get_or-map, get_or-take, get_or-drop, length-map}
 use Rattle.std.proofs.lemmas.List.Sorted.{searchable_from_sorted}
 use Rattle.std.proofs.lemmas.List.Elements.{recursion_from_All, Contains-get_or}
 use Rattle.std.proofs.lemmas.Map.{lookup-none}
@@ -37,6 +37,11 @@ apart : (p q : List ℕ) (o : Ordering) → digits_cmp p q ≡ o → (o ≡ Less
 apart p q o is (inl less) = ap is_eq (digits_total.antisymm q p ∙ ap ordering_reverse (is ∙ less))
 apart p q o is (inr greater) = ap is_eq (digits_total.antisymm q p ∙ ap ordering_reverse (is ∙ greater))
 
+-- The key is at the place that a search ends at, whatever their order.
+pub at_its_key : {Y : Type 0} (key : Y → List ℕ) (ys : List Y) (k : List ℕ) (at : ℕ) → IsBinarySearchResult (λ y. digits_cmp (key y) k) ys (Ok at)
+    → (d : Y) → key (get_or ys at d) ≡ k
+at_its_key key ys k at found d = digits_exact (key (get_or ys at d)) k (found d)
+
 module _ {Y : Type 0} (key : Y → List ℕ) (ys : List Y) (ordered : AreOrderedBy key ys) (k : List ℕ) where
   adjacent : IsSortedBy (λ a b. is_lt (digits_cmp (key a) (key b))) ys
   adjacent i d low high =
@@ -53,7 +58,7 @@ module _ {Y : Type 0} (key : Y → List ℕ) (ys : List Y) (ordered : AreOrdered
   -- A search ends where the key is, or no key is the one that is sought.
   pub searched : (r : Result ℕ ℕ) → IsBinarySearchResult (λ y. digits_cmp (key y) k) ys r → IsSearchInRange r (length ys)
       → MatchResult r (λ at. (d : Y) → key (get_or ys at d) ≡ k) (λ _. All (λ y. eq_by_cmp digits_cmp k (key y) ≡ false) ys)
-  searched (Ok at) found range = λ d. digits_exact (key (get_or ys at d)) k (found d)
+  searched (Ok at) found range = at_its_key key ys k at found
   searched (Err at) parted range = λ i d lt.
       let parts = parted rises in
       elim (below_or_not i at) [
@@ -77,7 +82,16 @@ missed es k none = lookup-none (is_at (digits_cmp k)) es (recursion_from_All (λ
 pub found_at_its_key : {X : Type 0} (es : List (List ℕ × X)) (k : List ℕ) (at : ℕ) (d : List ℕ × X) → at < length es
     → IsBinarySearchResult (λ e. digits_cmp e.0 k) es (Ok at) → Contains es (k, (get_or es at d).1)
 found_at_its_key es k at d lt found =
-    subst (λ e. Contains es e) (ap (λ key. (key, (get_or es at d).1)) (digits_exact (get_or es at d).0 k (found d))) (Contains-get_or es at d lt)
+    subst (λ e. Contains es e) (ap (λ key. (key, (get_or es at d).1)) (at_its_key (λ e. e.0) es k at found d)) (Contains-get_or es at d lt)
+
+-- What is in a part of a list is in the list.
+pub in_the_whole : {X : Type 0} (xs part : List X) (start end : ℕ) (x : X) → end ≤ length xs → part ≡ slice_range xs start end
+    → length part + start ≡ end → Contains part x → Contains xs x
+in_the_whole {X = X} xs part start end x inside is many has = (
+  start + has.0,
+  omega arith,
+  sym (ap (λ (l : List X). get_or l has.0 x) is ∙ get_or-take (end - start) (drop start xs) has.0 x (omega arith) ∙ get_or-drop start xs has.0 x) ∙ has.2,
+)
 
 -- What is found in a part is what there is in the whole.
 pub found_in_a_part : {X : Type 0} (es part : List (List ℕ × X)) (k : List ℕ) (r : Option X) → IsStrictlySortedBy digits_cmp (keys_of es)

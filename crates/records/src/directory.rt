@@ -87,7 +87,8 @@ impl Directory {
     fn find_near(&self, msisdn: &IsdnAddress) -> Option<Imsi>
         ensures { IfSome result (λ imsi. map.get self.now msisdn.now ≡ Some imsi) }
     {
-        find_in(self.starts.near(&self.entries, msisdn)?, msisdn)
+        let places = self.starts.near(msisdn.word())?;
+        find_in(self.entries.get(places)?, msisdn)
     }
 
     /// Whether the directories are equal.

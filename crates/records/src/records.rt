@@ -11,15 +11,20 @@ ghost use Rattle.records.specs.Parts.{AreParts, with_one};
 use crate::record::Record;
 use crate::same::are_same;
 use crate::shard::shard_of;
+use crate::starts::{Starts, imsi_word};
 use hlr_types::{Imsi, Register, ShortList, Tid};
 use std::alloc::{AllocError, Global};
 use std::marker::Model;
 
-/// Records by IMSI. Who is a subscriber does not change, so they are kept in order, and found by halves.
+/// Records by IMSI. Who is a subscriber does not change, so they are kept in order, and found by a table or by halves.
+///
+/// Limitation: the records of a whole file have no table, nor has a copy, in which a journal begins: nobody is looked up in them.
 #[derive(Drop)]
 pub struct Records {
     alloc: Global,
     in_order: Vec<Record>,
+    /// Where to look for an IMSI among them.
+    starts: Starts,
 }
 
 impl Model for Records {
@@ -47,18 +52,23 @@ impl Records {
         Ok(Records {
             alloc,
             in_order: Vec::with_capacity(alloc, room)?,
+            starts: Starts::empty(alloc),
         })
     }
 
-    /// These records.
+    /// These records, with no table.
     pub(crate) fn of_sorted(alloc: Global, in_order: Vec<Record>) -> Records
         requires { AreInOrder in_order.items }
         ensures { result ≡ by_imsi in_order.items }
     {
-        Records { alloc, in_order }
+        Records {
+            alloc,
+            in_order,
+            starts: Starts::empty(alloc),
+        }
     }
 
-    /// These records, in whatever order. `None` if two have one IMSI.
+    /// These records, in whatever order, with no table. `None` if two have one IMSI.
     pub(crate) fn of_unsorted(alloc: Global, all: Vec<Record>) -> Option<Records>
         ensures value { IfSome result (λ records. records ≡ by_imsi all.items) }
         ensures distinct { IfSome result (λ _. AreDistinct (each imsi_entry all.items)) }
@@ -68,10 +78,10 @@ impl Records {
         if !ascend(&in_order) {
             return None;
         }
-        Some(Records { alloc, in_order })
+        Some(Records::of_sorted(alloc, in_order))
     }
 
-    /// Appends a record whose IMSI comes after all others.
+    /// Appends a record whose IMSI comes after all others. The table stays as it is, and does not point to the record.
     fn push(&mut self, subscriber: Record) -> Result<(), AllocError>
         requires { IsAbove self.old subscriber.imsi }
         ensures { OnOk result (self.new ≡ map.insert self.old subscriber.imsi subscriber) }
@@ -88,7 +98,7 @@ impl Records {
         ensures facts { IfSome result (λ found. IsRecord found.now) }
         ensures own { IfSome result (λ found. found.now.imsi ≡ imsi.now) }
     {
-        let Some(at) = place_of(&self.in_order, imsi) else {
+        let Some(at) = place_of(&self.in_order, &self.starts, imsi) else {
             return None;
         };
         let found = &self.in_order[at];
@@ -110,7 +120,7 @@ impl Records {
         ensures { (s : Subscriber) → map.get self.old imsi.now ≡ Some s
             → self.new ≡ map.insert self.old imsi.now (placed s register purged current) }
     {
-        let Some(at) = place_of(&self.in_order, imsi) else {
+        let Some(at) = place_of(&self.in_order, &self.starts, imsi) else {
             return;
         };
         let found = &mut self.in_order[at];
@@ -126,7 +136,7 @@ impl Records {
         ensures { (s : Subscriber) → map.get self.old imsi.now ≡ Some s
             → self.new ≡ map.insert self.old imsi.now (allowed s codes withdrawn) }
     {
-        let Some(at) = place_of(&self.in_order, imsi) else {
+        let Some(at) = place_of(&self.in_order, &self.starts, imsi) else {
             return;
         };
         let found = &mut self.in_order[at];
@@ -139,7 +149,7 @@ impl Records {
         ensures { (s : Subscriber) → map.get self.old imsi.now ≡ Some s
             → self.new ≡ map.insert self.old imsi.now (as_withdrawn s) }
     {
-        let Some(at) = place_of(&self.in_order, imsi) else {
+        let Some(at) = place_of(&self.in_order, &self.starts, imsi) else {
             return;
         };
         let found = &mut self.in_order[at];
@@ -164,6 +174,7 @@ impl Records {
                 part.push(found.clone()?)?;
             }
         }
+        part.make_starts();
         Ok(part)
     }
 
@@ -181,14 +192,18 @@ impl Records {
         Ok(are_same(&self.in_order, &other.in_order))
     }
 
-    /// An equal copy.
+    /// An equal copy, with no table.
     pub fn try_copy(&self) -> Result<Records, AllocError>
         ensures { IfOk result (λ copy. copy ≡ self.now) }
     {
-        Ok(Records {
-            alloc: self.alloc,
-            in_order: self.in_order.clone()?,
-        })
+        Ok(Records::of_sorted(self.alloc, self.in_order.clone()?))
+    }
+
+    /// Makes the table. Where its memory is refused there is none.
+    fn make_starts(&mut self)
+        ensures { self.new ≡ self.old }
+    {
+        self.starts = Starts::of(self.alloc, &self.in_order);
     }
 }
 
@@ -200,10 +215,33 @@ fn ascend(records: &[Record]) -> bool
 }
 
 /// Where the record with this IMSI is.
-fn place_of(records: &[Record], imsi: &Imsi) -> Option<usize>
+fn place_of(records: &[Record], starts: &Starts, imsi: &Imsi) -> Option<usize>
     requires { AreInOrder records.now }
     ensures found { IfSome result (λ at. IsPlaceOf records.now imsi.now at) }
     ensures none { IfNone result (map.get (by_imsi records.now) imsi.now ≡ None) }
+{
+    if let Some(at) = place_near(records, starts, imsi) {
+        return Some(at);
+    }
+    place_in(records, imsi)
+}
+
+/// The same where the table points to the record. Otherwise `None`, also where there is one.
+fn place_near(records: &[Record], starts: &Starts, imsi: &Imsi) -> Option<usize>
+    ensures { IfSome result (λ at. IsPlaceOf records.now imsi.now at) }
+{
+    let places = starts.near(imsi_word(imsi))?;
+    let start = places.start;
+    let at = place_in(records.get(places)?, imsi)?;
+    Some(start + at)
+}
+
+/// Where the record with this IMSI is, which is sought by halves. A record that is found is the one that is sought, also
+/// where the records are in no order.
+fn place_in(records: &[Record], imsi: &Imsi) -> Option<usize>
+    ensures found { IfSome result (λ at. IsPlaceOf records.now imsi.now at) }
+    ensures none { AreInOrder records.now
+        → IfNone result (map.get (by_imsi records.now) imsi.now ≡ None) }
 {
     match records.binary_search_by_key(imsi, |record| record.imsi) {
         Ok(at) => Some(at),
@@ -252,7 +290,17 @@ fn share_out(alloc: Global, in_order: Vec<Record>) -> Result<Vec<Records>, Alloc
     for found in in_order {
         add_to_own(&mut parts, found)?;
     }
+    make_all_starts(&mut parts);
     Ok(parts)
+}
+
+/// Makes the table of each part.
+fn make_all_starts(parts: &mut [Records])
+    ensures { parts.new ≡ parts.old }
+{
+    for part in parts {
+        part.make_starts();
+    }
 }
 
 /// Appends a record to the part of its shard.

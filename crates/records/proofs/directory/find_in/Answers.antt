@@ -1,4 +1,4 @@
-use Rattle.std.proofs.Common.{sym, ◌∙◌, ap, List, ℕ, Some, Ok, Err, rules}
+use Rattle.std.proofs.Common.{sym, ◌∙◌, Ok, Err, rules}
 use Rattle.std.proofs.lemmas.List.Sorted.{answers_always}
 use Rattle.records.proofs.MapLemmas.{get_view}
 use Rattle.records.proofs.OrderLemmas.{searched, hit, missed, found_at_its_key}

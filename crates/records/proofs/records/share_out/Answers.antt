@@ -1,8 +1,10 @@
-use Rattle.std.proofs.Common.{◌≡◌, ◌++◌, ◌∷◌, [], List, length, refl, sym, ap, ◌∙◌, append_assoc, rules}
+use Rattle.std.proofs.Common.{◌≡◌, ◌++◌, ◌∷◌, [], List, length, take, drop, refl, sym, ap, subst, ◌∙◌, append_assoc, rules, arith}
+use Rattle.std.proofs.Math.Seq.{take-append_seam}
 use Rattle.std.specs.Vec.Iter.{into_iter_items}
 use Rattle.records.specs.Subscriber.{Subscriber}
 use Rattle.records.specs.Maps.{shard_of}
 use Rattle.records.specs.Loaded.{by_imsi}
+use Rattle.records.specs.Parts.{AreParts}
 use Rattle.records.proofs.TakenLemmas.{parts_begin, parts_take, parts_end, above_own, shard_small, none_left}
 use Rattle.records.proofs.records.share_out.Goals as goal
 
@@ -36,5 +38,12 @@ pub returns : goal.returns
 returns c =
     let at = c.loop-found.invariant in
     let none : length (into_iter_items c.loop-found.found-iterator) ≡ 0 = search rules in
-    parts_end c.args.in_order.items c.loop-found.yielded c.loop-found.parts.items (by_imsi c.args.in_order.items) at.taken
-    (none_left c.loop-found.yielded (into_iter_items c.loop-found.found-iterator) c.args.in_order.items at.whole none) refl
+    let parts = c.loop-found.parts in
+    let made = c.make_all_starts.new.parts in
+    let same : made ≡ parts.items = c.make_all_starts.ensures ∙ c.deref_mut.ensures.value in
+    let many : parts.len ≡ length made = omega (arith, ap length same) in
+    let behind = drop (length made) parts.items in
+    let back : take parts.len (made ++ behind) ≡ parts.items = rw many (take-append_seam made behind ∙ same) in
+    subst (AreParts (by_imsi c.args.in_order.items)) (sym back)
+    (parts_end c.args.in_order.items c.loop-found.yielded parts.items (by_imsi c.args.in_order.items) at.taken
+    (none_left c.loop-found.yielded (into_iter_items c.loop-found.found-iterator) c.args.in_order.items at.whole none) refl)

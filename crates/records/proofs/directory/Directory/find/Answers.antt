@@ -1,7 +1,6 @@
-use Rattle.std.proofs.Common.{sym, ◌∙◌, ap}
+use Rattle.std.proofs.Common.{◌∙◌, ap}
 use Rattle.std.specs.FinMap as map
 use Rattle.records.specs.Maps.{DirectoryMap}
-use Rattle.records.specs.Ordered.{AreOrderedBy}
 use Rattle.records.proofs.directory.Directory.find.Goals as goal
 
 pub returns : goal.returns

@@ -1,3 +1,4 @@
+use Rattle.std.proofs.Common.{◌∙◌}
 use Rattle.records.proofs.LoadLemmas.{on_true}
 use Rattle.records.proofs.MovedLemmas.{imsis_before, view_moved}
 use Rattle.records.proofs.records.Records.of_unsorted.Goals as goal
@@ -9,4 +10,5 @@ returns-clause-distinct c =
 
 pub returns-clause-value : goal.returns-clause-value
 returns-clause-value c =
-    view_moved c.args.all.items c.sort_unstable_by_key.new.self.items c.sort_unstable_by_key.ensures.permutation (returns-clause-distinct c)
+    c.of_sorted.ensures
+    ∙ view_moved c.args.all.items c.sort_unstable_by_key.new.self.items c.sort_unstable_by_key.ensures.permutation (returns-clause-distinct c)
