@@ -135,7 +135,7 @@ pub fn push_entry(
     push_letter(text, &entry.event)?;
     text.push_str(" ")?;
     push_subject(text, &entry.subject)?;
-    let sent = entry.outs.len();
+    let sent = entry.outs.as_slice().len();
     write!(text, " {sent}\n")?;
     Ok(())
 }

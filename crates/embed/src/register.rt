@@ -14,10 +14,9 @@ use crate::fault::RoomFault;
 use crate::room::{check_room, write_text};
 use audit::{list_journal, save_records};
 use bumpalo::Bump;
-use hlrcore::{Out, RawEvent, ShardNumber};
+use hlrcore::{Out, OutList, RawEvent, ShardNumber};
 use records::{RecordsFault, read_records};
 use std::alloc::{AllocError, Global};
-use std::collections::VecDeque;
 use std::marker::Model;
 use std::slice;
 use wholenode::{Cause, Node};
@@ -29,19 +28,17 @@ pub struct Register {
     alloc: Global,
     node: Node,
     bump: Bump,
-    sent: VecDeque<Out>,
+    sent: OutList,
 }
 
 impl Model for Register {
-    ghost use Rattle.std.specs.Prelude.{map};
-    ghost use Rattle.shard_state.specs.Frames.{raw_out};
     ghost use Rattle.embed.specs.Registers.{RegisterState, register, register_state_code};
 
     ghost Value = { RegisterState };
 
     ghost coded = { register_state_code };
 
-    ghost view = { λ r. register r.node (map raw_out r.sent.items) };
+    ghost view = { λ r. register r.node r.sent };
 }
 
 impl Register {
@@ -72,7 +69,7 @@ impl Register {
             alloc,
             node,
             bump: Bump::new(alloc),
-            sent: VecDeque::new(alloc),
+            sent: OutList::none(),
         })
     }
 
@@ -89,7 +86,7 @@ impl Register {
     {
         match self.node.handle(&mut self.bump, raw) {
             Ok(handled) => {
-                self.sent = VecDeque::from(handled.outs);
+                self.sent = handled.outs;
                 Ok(())
             }
             Err(cause) => {
@@ -104,7 +101,7 @@ impl Register {
     pub fn front(&self) -> Option<&Out>
         ensures { option_map (λ out. raw_out out.now) result ≡ slice_get self.now.waiting 0 }
     {
-        self.sent.front()
+        self.sent.as_slice().first()
     }
 
     /// Takes the next frame of the last event, in the order in which they are to be sent. `None` if no frame waits.

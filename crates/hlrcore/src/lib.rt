@@ -22,5 +22,5 @@ pub use fault::StepFault;
 pub use routing::route;
 pub use running::RunFault;
 pub use shard_number::ShardNumber;
-pub use shard_state::{Frames, Out, StepAnswer};
+pub use shard_state::{Frames, Out, OutList, StepAnswer};
 pub use state::State;

@@ -39,7 +39,7 @@ impl Stepper {
         ensures same_shard { IsSameShard self.old self.new }
     {
         match indication.verdict() {
-            Verdict::Discard => Ok(silent(self.alloc)),
+            Verdict::Discard => Ok(silent()),
             Verdict::Refuse(origin, cause) => {
                 aborted(self.alloc, indication.from(), *origin, *cause, None)
             }
@@ -160,7 +160,7 @@ impl Stepper {
     {
         match plan_close(&self.shard, destination) {
             Some(plan) => self.shard.settle(plan, &[]),
-            None => Ok(silent(self.alloc)),
+            None => Ok(silent()),
         }
     }
 }

@@ -9,15 +9,15 @@ ghost use Rattle.shard_state.specs.Answers.{Says};
 
 use hlr_types::{Imsi, Peer, RemoteId};
 use location::{SentMessage, Why, octets_of};
-use shard_state::{Frames, Out, StepAnswer};
+use shard_state::{Frames, Out, OutList, StepAnswer};
 use std::alloc::{AllocError, Global};
 
 /// Nothing is sent.
-pub(crate) fn silent(alloc: Global) -> StepAnswer
+pub(crate) fn silent() -> StepAnswer
     ensures { Says result None None [] }
 {
     StepAnswer {
-        outs: Frames::none(alloc),
+        outs: Frames::none(),
         id: None,
         subject: None,
     }
@@ -52,5 +52,5 @@ fn one_out(alloc: Global, to: Peer, message: &SentMessage) -> Result<Frames, All
     let Ok(octets) = octets_of(alloc, message) else {
         return Err(AllocError);
     };
-    Frames::of(alloc, vec![in alloc; Out { to, octets }]?)
+    Frames::of(alloc, OutList::one(Out { to, octets }))
 }

@@ -44,7 +44,7 @@ impl Stepper {
             Event::Frame(indication) => Ok(self.receive(indication, found.subject)?),
             Event::Clock { now, .. } => {
                 self.shard.tick(*now);
-                Ok(silent(self.alloc))
+                Ok(silent())
             }
             Event::Expire { .. } => Ok(self.expire()?),
             Event::Change { imsi, change } => self.change(*imsi, change),
@@ -59,7 +59,7 @@ impl Stepper {
     {
         match plan_expiry(self.alloc, &self.shard) {
             Some(plan) => self.shard.settle(plan, &[]),
-            None => Ok(silent(self.alloc)),
+            None => Ok(silent()),
         }
     }
 

@@ -3,3 +3,4 @@ pub mod Plans
 pub mod Frames
 pub mod Answers
 pub mod Changing
+pub mod Held

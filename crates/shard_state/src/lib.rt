@@ -6,6 +6,7 @@
 
 mod answer;
 mod changing;
+mod out_list;
 mod parts;
 mod plan;
 mod same;
@@ -15,6 +16,7 @@ mod settle;
 mod writing;
 
 pub use answer::{Out, StepAnswer};
+pub use out_list::OutList;
 pub use parts::ShardParts;
 pub use plan::{Named, Plan};
 pub use sent_frames::Frames;

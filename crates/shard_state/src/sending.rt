@@ -1,11 +1,13 @@
 //! The frames that a procedure sends.
 
-ghost use Rattle.std.specs.Prelude.{◌≡◌, ◌++◌, IfOk, OnOk, map};
+ghost use Rattle.std.specs.Prelude.{◌≡◌, IfOk, map};
+ghost use Rattle.std.specs.Option.{option_to_list};
 ghost use Rattle.frames.specs.Octets.{spelled_out};
 ghost use Rattle.location.specs.Seen.{one, one_cancel, out, sent_of};
 ghost use Rattle.shard_state.specs.Frames.{raw_out};
 
 use crate::answer::Out;
+use crate::out_list::OutList;
 use crate::sent_frames::Frames;
 use location::{Addressed, CancelBegin, octets_of};
 use std::alloc::{AllocError, Global};
@@ -23,30 +25,26 @@ fn spelled(alloc: Global, sent: &Addressed) -> Result<Out, AllocError>
     })
 }
 
-/// Appends the frame of a message, if there is one.
-fn push(outs: &mut Vec<Out>, alloc: Global, sent: &Option<Addressed>) -> Result<(), AllocError>
-    ensures { OnOk result (map raw_out outs.new.items
-        ≡ map raw_out outs.old.items ++ map spelled_out (one sent.now)) }
+/// The frame of a message, if there is one.
+fn spelled_message(alloc: Global, message: &Option<Addressed>) -> Result<Option<Out>, AllocError>
+    ensures { IfOk result (λ frame. map raw_out (option_to_list frame)
+        ≡ map spelled_out (one message.now)) }
 {
-    if let Some(sent) = sent {
-        outs.push(spelled(alloc, sent)?)?;
+    match message {
+        Some(message) => Ok(Some(spelled(alloc, message)?)),
+        None => Ok(None),
     }
-    Ok(())
 }
 
-/// Appends the frame of a cancel's Begin, if there is one.
-fn push_cancel(
-    outs: &mut Vec<Out>,
-    alloc: Global,
-    cancel: &Option<CancelBegin>,
-) -> Result<(), AllocError>
-    ensures { OnOk result (map raw_out outs.new.items
-        ≡ map raw_out outs.old.items ++ map spelled_out (one_cancel cancel.now)) }
+/// The frame of a cancel's Begin, if there is one.
+fn spelled_cancel(alloc: Global, cancel: &Option<CancelBegin>) -> Result<Option<Out>, AllocError>
+    ensures { IfOk result (λ frame. map raw_out (option_to_list frame)
+        ≡ map spelled_out (one_cancel cancel.now)) }
 {
-    if let Some(cancel) = cancel {
-        outs.push(spelled(alloc, &cancel.message())?)?;
+    match cancel {
+        Some(cancel) => Ok(Some(spelled(alloc, &cancel.message())?)),
+        None => Ok(None),
     }
-    Ok(())
 }
 
 /// The messages as frames, in order.
@@ -57,9 +55,7 @@ pub(crate) fn outs_of(
 ) -> Result<Frames, AllocError>
     ensures { IfOk result (λ outs. outs ≡ map spelled_out (sent_of message.now cancel.now)) }
 {
-    let room = usize::from(message.is_some()) + usize::from(cancel.is_some());
-    let mut outs = Vec::with_capacity(alloc, room)?;
-    push(&mut outs, alloc, message)?;
-    push_cancel(&mut outs, alloc, cancel)?;
-    Frames::of(alloc, outs)
+    let first = spelled_message(alloc, message)?;
+    let second = spelled_cancel(alloc, cancel)?;
+    Frames::of(alloc, OutList::of(alloc, first, second)?)
 }

@@ -4,6 +4,7 @@ ghost use Rattle.std.specs.Prelude.{◌≡◌, [], IfOk, map};
 ghost use Rattle.shard_state.specs.Frames.{raw_out};
 
 use crate::answer::Out;
+use crate::out_list::OutList;
 use std::alloc::{AllocError, Global};
 use std::marker::Model;
 
@@ -11,41 +12,41 @@ use std::marker::Model;
 /// anything changes, since a step cannot fail once it has begun to change the state.
 #[derive(Drop)]
 pub struct Frames {
-    sent: Vec<Out>,
-    kept: Vec<Out>,
+    sent: OutList,
+    kept: OutList,
 }
 
 impl Model for Frames {
-    ghost use Rattle.std.specs.Prelude.{◌≡◌, List, map};
+    ghost use Rattle.std.specs.Prelude.{◌≡◌, List};
     ghost use Rattle.std.specs.Coded.{coded_list};
     ghost use Rattle.frames.specs.Octets.{RawOut};
-    ghost use Rattle.shard_state.specs.Frames.{raw_out, raw_out_code};
+    ghost use Rattle.shard_state.specs.Frames.{raw_out_code};
 
     ghost Value = { List RawOut };
 
     ghost coded = { coded_list raw_out_code };
 
-    ghost view = { λ f. map raw_out f.sent.items };
+    ghost view = { λ f. f.sent };
 
-    ghost invariant = { λ f. map raw_out f.kept.items ≡ map raw_out f.sent.items };
+    ghost invariant = { λ f. f.kept ≡ f.sent };
 }
 
 impl Frames {
     /// No frame.
-    pub fn none(alloc: Global) -> Frames
+    pub fn none() -> Frames
         ensures { result ≡ [] }
     {
         Frames {
-            sent: Vec::new(alloc),
-            kept: Vec::new(alloc),
+            sent: OutList::none(),
+            kept: OutList::none(),
         }
     }
 
     /// These frames.
-    pub fn of(alloc: Global, sent: Vec<Out>) -> Result<Frames, AllocError>
-        ensures { IfOk result (λ frames. frames ≡ map raw_out sent.items) }
+    pub fn of(alloc: Global, sent: OutList) -> Result<Frames, AllocError>
+        ensures { IfOk result (λ frames. frames ≡ sent) }
     {
-        let kept = copies(alloc, &sent)?;
+        let kept = sent.try_copy(alloc)?;
         Ok(Frames { sent, kept })
     }
 
@@ -53,13 +54,13 @@ impl Frames {
     pub fn as_slice(&self) -> &[Out]
         ensures { map raw_out result.now ≡ self.now }
     {
-        &self.sent
+        self.sent.as_slice()
     }
 
     /// Both copies of the frames.
-    pub fn into_both(self) -> (Vec<Out>, Vec<Out>)
-        ensures sent { map raw_out result.0.items ≡ self }
-        ensures kept { map raw_out result.1.items ≡ self }
+    pub fn into_both(self) -> (OutList, OutList)
+        ensures sent { result.0 ≡ self }
+        ensures kept { result.1 ≡ self }
     {
         (self.sent, self.kept)
     }
@@ -75,15 +76,4 @@ impl Out {
             octets: self.octets.to_vec(alloc)?,
         })
     }
-}
-
-/// Equal frames, in the same order.
-fn copies(alloc: Global, outs: &[Out]) -> Result<Vec<Out>, AllocError>
-    ensures { IfOk result (λ copies. map raw_out copies.items ≡ map raw_out outs.now) }
-{
-    let mut copies = Vec::with_capacity(alloc, outs.len())?;
-    for out in outs {
-        copies.push(out.try_copy(alloc)?)?;
-    }
-    Ok(copies)
 }

@@ -65,7 +65,7 @@ fn handles(
     said: &[u8],
 ) -> Option<bool> {
     let handled = shard.handle(&event(alloc, given)?).ok()?;
-    Some(handled.position == place && octets_at(&handled.outs, 0) == said)
+    Some(handled.position == place && octets_at(handled.outs.as_slice(), 0) == said)
 }
 
 fn refuses(alloc: Global, shard: &mut Shard, given: Given) -> Option<ShardFault> {
@@ -84,7 +84,7 @@ fn fills(alloc: Global, shard: &mut Shard) -> Option<bool> {
 
 /// Whether the entry is that of an answered route.
 fn is_route(entry: &Entry) -> bool {
-    let said = octets_at(&entry.outs, 0);
+    let said = octets_at(entry.outs.as_slice(), 0);
     said == ROUTE_ANSWER.as_slice() && entry.subject.is_some() && entry.id.is_none()
 }
 

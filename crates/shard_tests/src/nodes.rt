@@ -62,7 +62,10 @@ fn first_route_is_listed(rt: HostRuntime) -> Result<(), Fail> {
     events.push(frame(alloc, &ROUTE)?)?;
     let done = node.run(&mut Bump::new(alloc), &events).ok().ok_or("run")?;
     assert_eq!(rt; done.len(), 2);
-    assert_eq!(rt; octets_at(&done[1].outs, 0), ROUTE_ANSWER.as_slice());
+    assert_eq!(rt;
+        octets_at(done[1].outs.as_slice(), 0),
+        ROUTE_ANSWER.as_slice()
+    );
     assert_eq!(rt; list_records(alloc, node.shards())?.as_str(), LISTED);
     assert_eq!(rt; list_dialogues(alloc, node.shards())?.as_str(), "");
     assert_eq!(rt;

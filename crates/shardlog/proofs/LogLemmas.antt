@@ -1,20 +1,18 @@
 -- The invariant of a journal, how it begins, and how it grows.
-use Rattle.std.proofs.Common.{◌≡◌, ◌<◌, ℕ, List, [], ◌∷◌, ◌++◌, length, length-append, map, Vec, Global, refl, sym, ap, ◌∙◌, subst, arith}
+use Rattle.std.proofs.Common.{◌≡◌, ◌<◌, ℕ, List, [], ◌∷◌, ◌++◌, length, length-append, map, refl, sym, ap, ◌∙◌, subst, arith}
 use Rattle.std.proofs.lemmas.List.{length-map, map-append}
 use Rattle.std.specs.Prelude.{Result, Ok, Err, IsErrAnd}
 use Rattle.machine.specs.declared.numbers.TheConstants.{MAX_ENTRIES}
 use Rattle.machine.specs.Holders.{IsNamed, holders}
 use Rattle.machine.specs.State.{State}
 use Rattle.machine_laws.proofs.Naming.{unnamed_stays}
-use Rattle.frames.specs.Octets.{RawEvent, RawEntry, IsRouted, StepOctets}
+use Rattle.frames.specs.Octets.{RawEvent, RawEntry, RawOut, IsRouted, StepOctets}
 use Rattle.frames.specs.OctetJournals.{ChainOctets, LegalOctets, RawEpoch, first_raw_base, joined_raws}
 use Rattle.frames_laws.proofs.OctetLaws.{chain_cut, chain_joined, event_one, holders_of_octets, isolation_of_octets, octets_push}
 use Rattle.shard_state.specs.Shards.{ShardState, IsSameShard, directory_of, state_of}
 use Rattle.hlrcore.specs.Sound.{IsSoundShard}
-use Rattle.shard_state.specs.declared.answer.Out.{Out}
 use Rattle.shard_state.specs.declared.answer.StepAnswer.{StepAnswer}
 use Rattle.shard_state.specs.Answers.{entry_of}
-use Rattle.shard_state.specs.Frames.{raw_out}
 use Rattle.hlrcore.specs.declared.event.RawEvent as code
 use Rattle.hlrcore.specs.Events.{raw_event}
 use Rattle.shardlog.specs.declared.entry.Entry.{Entry}
@@ -85,7 +83,7 @@ leaves_unnamed S T entry (j, spells, step) = λ e i d is open_at not_named.
 pub keeps_seen : (l m : Log) → l ≡ m → IsLog l → LogKeeps m
 keeps_seen l m e is = subst LogKeeps e (log_keeps l is)
 
-pub entry_is : (raw : code.RawEvent) (event : RawEvent) (a : StepAnswer) (kept : Vec Out Global) → raw_event raw ≡ event → map raw_out kept.items ≡ a.outs
+pub entry_is : (raw : code.RawEvent) (event : RawEvent) (a : StepAnswer) (kept : List RawOut) → raw_event raw ≡ event → kept ≡ a.outs
     → raw_entry (record { event = raw; id = a.id; subject = a.subject; outs = kept }) ≡ entry_of event a
 entry_is raw event a kept same outs = λ i. record { event = same i; id = a.id; subject = a.subject; outs = outs i }
 
@@ -106,7 +104,7 @@ handled_log base s t before after event a is put routed step same lt =
 pub handles : (old : Log) (base s t : ShardState) (before after : List Entry) (event : RawEvent) (a : StepAnswer) (handled : Handled)
     → log base (raw_entries before) s ≡ old
     → raw_entries after ≡ raw_entries before ++ entry_of event a ∷ [] → StepOctets (state_of s) (entry_of event a) (state_of t)
-    → map raw_out handled.outs.items ≡ a.outs → handled.position ≡ length before → Handles old event handled (log base (raw_entries after) t)
+    → handled.outs ≡ a.outs → handled.position ≡ length before → Handles old event handled (log base (raw_entries after) t)
 handles old base s t before after event a handled seen put step outs position =
     subst (λ (l : Log). Handles l event handled (log base (raw_entries after) t)) seen (record {
       entry = entry_of event a;

@@ -4,7 +4,6 @@ use Rattle.machine.specs.Events.{Event}
 use Rattle.machine.specs.Holders.{IsNamed}
 use Rattle.machine.specs.State.{Dialogue, State}
 use Rattle.frames.specs.Octets.{RawEvent, RawEntry, IsEvent, StepOctets}
-use Rattle.shard_state.specs.Frames.{raw_out}
 use Rattle.shard_state.specs.Shards.{state_of}
 use Rattle.shardlog.specs.declared.entry.Handled.{Handled}
 use Rattle.shardlog.specs.Log.{Log}
@@ -21,7 +20,7 @@ pub record Handles (old : Log) (raw : RawEvent) (handled : Handled) (new : Log) 
   pub added : new.entries ≡ old.entries ++ entry ∷ []
   pub base : new.base ≡ old.base
   pub event_is : entry.event ≡ raw
-  pub outs_are : map raw_out handled.outs.items ≡ entry.outs
+  pub outs_are : handled.outs ≡ entry.outs
   pub position : handled.position ≡ length old.entries
   pub step : StepOctets (state_of old.state) entry (state_of new.state)
   pub unnamed : LeavesUnnamed (state_of old.state) raw (state_of new.state)

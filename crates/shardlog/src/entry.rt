@@ -1,7 +1,7 @@
 //! The entries of a journal.
 
 use hlr_types::{Imsi, Tid};
-use hlrcore::{Out, RawEvent, State};
+use hlrcore::{OutList, RawEvent, State};
 
 /// A handled event: the event as received, the local id that its step took, its subject, and the frames sent, in order.
 #[derive(Drop)]
@@ -9,14 +9,14 @@ pub struct Entry {
     pub event: RawEvent,
     pub id: Option<Tid>,
     pub subject: Option<Imsi>,
-    pub outs: Vec<Out>,
+    pub outs: OutList,
 }
 
 /// The position of an event's entry in the journal, counted from 0, and the frames to send, in order.
 #[derive(Drop)]
 pub struct Handled {
     pub position: usize,
-    pub outs: Vec<Out>,
+    pub outs: OutList,
 }
 
 /// A journal that was cut off, with the state that it begins in (its base).

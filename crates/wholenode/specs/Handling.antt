@@ -6,7 +6,6 @@ use Rattle.machine.specs.State.{State}
 use Rattle.machine.specs.Step.{HasNoRoom}
 use Rattle.frames.specs.Octets.{RawEvent, RawEntry, RawOut, IsEvent, IsRouted, RunOctets, StepOctets}
 use Rattle.frames.specs.OctetJournals.{RawEpoch}
-use Rattle.shard_state.specs.Frames.{raw_out}
 use Rattle.shard_state.specs.Shards.{directory_of}
 use Rattle.shardlog.specs.declared.entry.Epoch.{Epoch}
 use Rattle.shardlog.specs.declared.entry.Handled.{Handled}
@@ -20,7 +19,7 @@ use Rattle.wholenode.specs.Nodes.{NodeState, whole}
 
 -- what was sent for an event, in order
 abbrev pub sent_of : Handled → List RawOut
-sent_of handled = map raw_out handled.outs.items
+sent_of handled = handled.outs
 
 -- This shard is the one that the event is routed to.
 pub record IsFor (node : NodeState) (raw : RawEvent) (n : ℕ) (l : Log) : Type 0 where

@@ -1,6 +1,6 @@
 //! The sixteen shards of a register, in one thread.
 
-ghost use Rattle.std.specs.Prelude.{◌≡◌, ◌<◌, map, IfOk, IfErr, OnErr};
+ghost use Rattle.std.specs.Prelude.{◌≡◌, ◌<◌, [], map, IfOk, IfErr, OnErr};
 ghost use Rattle.hlrcore.specs.Events.{raw_event};
 ghost use Rattle.wholenode.specs.Nodes.{whole};
 ghost use Rattle.wholenode.specs.Opening.{BeginsWith};
@@ -96,7 +96,7 @@ impl Node {
             (map raw_event events.now) fault.done.items fault.cause self.new) }
         ensures keeps { NodeKeeps self.new }
     {
-        let mut done = Vec::new(self.alloc);
+        let mut done = room_for(self.alloc, events.len());
         for event in events {
             if done.reserve(1).is_err() {
                 let cause = Cause::Memory;
@@ -124,7 +124,7 @@ impl Node {
             (map raw_event events.items) fault.done.items fault.cause self.new) }
         ensures keeps { NodeKeeps self.new }
     {
-        let mut done = Vec::new(self.alloc);
+        let mut done = room_for(self.alloc, events.len());
         for raw in events {
             if done.reserve(1).is_err() {
                 return Err(NodeFault {
@@ -178,5 +178,16 @@ impl Node {
     {
         let place = usize::from(shard);
         self.shards[place].cut()
+    }
+}
+
+/// An empty list, with room for so many answers where memory suffices. Room for each is made again before its event is handled, so
+/// that nothing rests on this; it spares moving them as their list grows.
+fn room_for(alloc: Global, answers: usize) -> Vec<Handled>
+    ensures { result.items ≡ [] }
+{
+    match Vec::with_capacity(alloc, answers) {
+        Ok(room) => room,
+        Err(_) => Vec::new(alloc),
     }
 }

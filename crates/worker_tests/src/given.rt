@@ -101,7 +101,7 @@ impl Register {
             return &[];
         };
         match &receipt.answer {
-            Ok(placed) => match placed.outs.first() {
+            Ok(placed) => match placed.outs.as_slice().first() {
                 Some(out) => &out.octets,
                 None => &[],
             },

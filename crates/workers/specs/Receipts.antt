@@ -2,7 +2,6 @@
 use Rattle.std.specs.Prelude.{◌≡◌, ℕ, map, Option, Some, None, Ok, Err, Result}
 use Rattle.frames.specs.Account.{Place}
 use Rattle.frames.specs.Octets.{RawEvent}
-use Rattle.shard_state.specs.Frames.{raw_out}
 use Rattle.shardlog.specs.Log.{Log}
 use Rattle.shardlog.specs.Handling.{Handles}
 use Rattle.workers.specs.declared.placed.Placed.{Placed}
@@ -10,7 +9,7 @@ use Rattle.workers.specs.declared.refusal.Refusal.{Refusal}
 use Rattle.workers.specs.Jobs.{place_at}
 
 abbrev pub placed : Placed → Place
-placed p = place_at p.shard p.position (map raw_out p.outs.items)
+placed p = place_at p.shard p.position p.outs
 
 -- its place, none if the job was refused
 abbrev pub place_of : Result Placed Refusal → Option Place

@@ -79,7 +79,7 @@ fn copy_answer(alloc: Global, receipt: &Receipt, sent: &mut Vec<Out>) -> Result<
         ≡ map raw_out sent.old.items ++ sent_at receipt.now.place) }
 {
     match &receipt.answer {
-        Ok(placed) => copy_outs(alloc, &placed.outs, sent),
+        Ok(placed) => copy_outs(alloc, placed.outs.as_slice(), sent),
         Err(_) => Ok(()),
     }
 }

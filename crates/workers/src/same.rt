@@ -4,7 +4,7 @@ ghost use Rattle.std.specs.Prelude.{◌≡◌, ◌↔◌, IsTrue, map};
 ghost use Rattle.hlrcore.specs.Events.{change, raw_event};
 ghost use Rattle.shard_state.specs.Frames.{raw_out};
 
-use hlrcore::{Change, Out, RawEvent};
+use hlrcore::{Change, Out, OutList, RawEvent};
 
 /// Whether two changes are the same.
 fn same_change(left: &Change, right: &Change) -> bool
@@ -56,7 +56,7 @@ fn same_out(left: &Out, right: &Out) -> bool
 }
 
 /// Whether two lists of frames are the same.
-pub(crate) fn same_outs(left: &[Out], right: &[Out]) -> bool
+fn same_frames(left: &[Out], right: &[Out]) -> bool
     ensures { IsTrue result ↔ (map raw_out left.now ≡ map raw_out right.now) }
 {
     if left.len() != right.len() {
@@ -68,4 +68,11 @@ pub(crate) fn same_outs(left: &[Out], right: &[Out]) -> bool
         }
     }
     true
+}
+
+/// Whether the same frames were sent, in the same order.
+pub(crate) fn same_outs(left: &OutList, right: &OutList) -> bool
+    ensures { IsTrue result ↔ (left.now ≡ right.now) }
+{
+    same_frames(left.as_slice(), right.as_slice())
 }

@@ -18,5 +18,5 @@ returns-then-same_event c = λ same.
       is_ok = ap (λ (r : Receipt). r.place) (sym c.receipt.view_is) ∙ ap place_of c.in-Ok.is;
       stands = stands;
       event = c.same_event.ensures.0 c.if-same_event.true ∙ ap (λ (j : Job). j.event) c.job.view_is;
-      outs = ap (map raw_out) (sym c.deref.ensures.value) ∙ c.same_outs.ensures.0 same ∙ ap (map raw_out) c.deref-then-same_event.ensures.value;
+      outs = c.same_outs.ensures.0 same;
     }

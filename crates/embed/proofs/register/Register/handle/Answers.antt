@@ -1,7 +1,5 @@
-use Rattle.std.proofs.Common.{◌≡◌, List, map, ap, subst, rules}
+use Rattle.std.proofs.Common.{refl, ap, subst}
 use Rattle.hlrcore.specs.Events.{raw_event}
-use Rattle.shard_state.specs.declared.answer.Out.{Out}
-use Rattle.shard_state.specs.Frames.{raw_out}
 use Rattle.wholenode.specs.Handling.{Refuses}
 use Rattle.wholenode.specs.Nodes.{NodeState}
 use Rattle.embed.specs.Registers.{RegisterState}
@@ -10,10 +8,8 @@ use Rattle.embed.proofs.register.Register.handle.Goals as goal
 
 pub returns-in-Ok-clause-answers : goal.returns-in-Ok-clause-answers
 returns-in-Ok-clause-answers c =
-    let sent : c.from.result.items ≡ c.in-Ok.handled.outs.items = search rules in
-    answers c.args.self.now c.self.inside.node c.handle.new.self (raw_event c.args.raw.now) (map raw_out c.from.result.items)
-    c.in-Ok.handled (ap (λ (r : RegisterState). r.node) c.self.view_is) c.in-Ok.ensures.takes c.handle.ensures.keeps
-    (ap (λ (outs : List Out). map raw_out outs) sent)
+    answers c.args.self.now c.self.inside.node c.handle.new.self (raw_event c.args.raw.now) c.in-Ok.handled.outs
+    c.in-Ok.handled (ap (λ (r : RegisterState). r.node) c.self.view_is) c.in-Ok.ensures.takes c.handle.ensures.keeps refl
 
 pub returns-in-Err-clause-refused : goal.returns-in-Err-clause-refused
 returns-in-Err-clause-refused c =

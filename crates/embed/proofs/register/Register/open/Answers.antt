@@ -1,7 +1,5 @@
-use Rattle.std.proofs.Common.{◌≡◌, List, [], map, ap, rules}
+use Rattle.std.proofs.Common.{◌≡◌, rules}
 use Rattle.std.specs.Prelude.{Err}
-use Rattle.shard_state.specs.declared.answer.Out.{Out}
-use Rattle.shard_state.specs.Frames.{raw_out}
 use Rattle.embed.specs.Registers.{Opens}
 use Rattle.embed.proofs.RegisterLemmas.{only_memory, opens}
 use Rattle.embed.proofs.register.Register.open.Goals as goal
@@ -13,7 +11,5 @@ returns-in_err-loaded-clause-only c = λ contents file.
 
 pub returns-clause-only : goal.returns-clause-only
 returns-clause-only c = λ contents file.
-    let none : c.new-3.result.items ≡ [] = search rules in
-    opens contents c.in_ok-loaded.loaded c.in_ok-node.node (map raw_out c.new-3.result.items)
-    (c.in_ok-loaded.ensures.only contents file) c.in_ok-node.ensures.begins c.in_ok-node.ensures.keeps
-    (ap (λ (outs : List Out). map raw_out outs) none)
+    opens contents c.in_ok-loaded.loaded c.in_ok-node.node c.none.result
+    (c.in_ok-loaded.ensures.only contents file) c.in_ok-node.ensures.begins c.in_ok-node.ensures.keeps c.none.ensures

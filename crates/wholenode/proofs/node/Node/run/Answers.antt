@@ -11,7 +11,7 @@ use Rattle.wholenode.proofs.node.Node.run.Goals as goal
 pub loop-event-init : goal.loop-event-init
 loop-event-init c = (
   subst (λ (d : List Handled). Runs c.args.self.now [] d c.args.self.now)
-      (sym c.new-done.ensures.items) refl,
+      (sym c.room_for-done.ensures) refl,
   keeps_seen _ _ _ c.self.view_is c.self.invariant,
 )
 

@@ -14,7 +14,7 @@ use Rattle.wholenode.proofs.node.Node.run_owned.Goals as goal
 pub loop-raw-init : goal.loop-raw-init
 loop-raw-init c = record {
   whole = search rules;
-  runs = subst (λ (d : List Handled). Runs c.args.self.now [] d c.args.self.now) (sym c.new-done.ensures.items) refl;
+  runs = subst (λ (d : List Handled). Runs c.args.self.now [] d c.args.self.now) (sym c.room_for-done.ensures) refl;
   keeps = keeps_seen _ _ _ c.self.view_is c.self.invariant;
 }
 

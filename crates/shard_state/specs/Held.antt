@@ -1,0 +1,12 @@
+-- Where the frames of a step are kept.
+use Rattle.std.specs.Prelude.{List, [], ◌∷◌, map}
+use Rattle.frames.specs.Octets.{RawOut}
+use Rattle.shard_state.specs.Frames.{raw_out}
+use Rattle.shard_state.specs.declared.out_list.Held.{Held}
+use Rattle.shard_state.specs.declared.out_list.Held.TheVariants.{Nothing, One, More}
+
+-- the frames, in order
+abbrev pub frames_in : Held → List RawOut
+frames_in Nothing = []
+frames_in (One out) = raw_out out ∷ []
+frames_in (More outs) = map raw_out outs.items
