@@ -1,12 +1,13 @@
 //! One line of a script.
 
-ghost use Rattle.std.specs.Prelude.{◌≡◌, IfOk, IfErr, MatchResult, OnOk, OnErr, Err, true, ℕ, List, Some, IfSome};
+ghost use Rattle.std.specs.Prelude.{◌≡◌, ◌<◌, ◌∷◌, length, option_map, IfOk, IfErr, MatchResult, OnOk, OnErr, Err, true, ℕ, List, Some, IfSome};
+ghost use Rattle.records.specs.File.{parts};
 ghost use Rattle.records.specs.Spelling.{IsImsiNumber};
 ghost use Rattle.hlr_input.specs.declared.group.Group.{Group};
 ghost use Rattle.hlr_input.specs.Octets.{IsOctets};
 ghost use Rattle.hlr_input.specs.Script.{Line, IsLine, IsGoodLine, line_of};
 ghost use Rattle.hlr_input.specs.Reading.{Reads, is_closed, says_word, says_two, says_three};
-ghost use Rattle.records.specs.Reading.{imsi_in};
+ghost use Rattle.records.specs.Reading.{imsi_in, parts_left};
 ghost use Rattle.hlr_input.specs.declared.item.LineFault.TheVariants.{Bad, Memory};
 
 use crate::frame_octets::are_octets;
@@ -95,7 +96,7 @@ fn read_open<'a>(line: &'a [u8]) -> Result<Item<'a>, LineFault>
     ensures only { (said : Line) → IsLine line.now said
         → MatchResult result (λ item. line_of item ≡ said) (λ _. ⊥) }
 {
-    let (kind, rest) = cut(line, b' ');
+    let (kind, rest) = cut_kind(line);
     let Some(rest) = rest else {
         return read_word(kind);
     };
@@ -107,6 +108,18 @@ fn read_open<'a>(line: &'a [u8]) -> Result<Item<'a>, LineFault>
         return Err(LineFault::Bad);
     }
     read_three(kind, first, second)
+}
+
+/// The kind of a line, and what follows it. A kind has one character, so that the space behind it need not be sought.
+fn cut_kind(line: &[u8]) -> (&[u8], Option<&[u8]>)
+    ensures parts { parts 32 line.now
+        ≡ result.0.now ∷ parts_left 32 (option_map (λ rest. rest.now) result.1) }
+    ensures shorter { IfSome result.1 (λ rest. length rest.now < length line.now) }
+{
+    match line {
+        [kind, b' ', rest @ ..] if *kind != b' ' => (&line[..1], Some(rest)),
+        _ => cut(line, b' '),
+    }
 }
 
 /// A line of one field.

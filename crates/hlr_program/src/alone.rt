@@ -155,14 +155,10 @@ fn push_outs(sent: &mut Vec<Out>, done: Vec<Handled>) -> Result<(), AllocError>
     ensures { OnOk result (map raw_out sent.new.items
         ≡ map raw_out sent.old.items ++ flat_map sent_of done.items) }
 {
+    // Room for all at once, where memory suffices, so that none is moved as their list grows.
+    let _has_room = sent.reserve(done.len()).is_ok();
     for handled in done {
-        push_all(sent, handled.outs)?;
+        handled.outs.append_to(sent)?;
     }
     Ok(())
-}
-
-fn push_all(sent: &mut Vec<Out>, outs: Vec<Out>) -> Result<(), AllocError>
-    ensures { OnOk result (sent.new.items ≡ sent.old.items ++ outs.items) }
-{
-    sent.extend(outs)
 }

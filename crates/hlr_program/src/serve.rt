@@ -21,6 +21,7 @@ use hlr_input::{InputFault, Letters, Options, Place, read_all};
 use records::{Loaded, read_records};
 use std::alloc::Global;
 use std::io::{Read, Write};
+use std::mem;
 use std::sync::Wait;
 use std::thread::Threads;
 
@@ -33,7 +34,8 @@ const MAX_WORKERS: u8 = 16;
 /// With 1 to 16 workers it starts that many threads for each part of a batch, and joins them.
 ///
 /// Limitation: with workers the contract does not say in which order the events of a batch are handled, what was handled before a
-/// fault, or that a run ends.
+/// fault, or that a run ends. After a run that ends well the memory of the shards and of their journals is not freed, since a run is
+/// the last thing that a process does.
 pub fn serve_script<R: Threads + Wait + Sync, A: Read, B: Read, W: Write, E: Write>(
     rt: &R,
     alloc: Global,
@@ -186,7 +188,10 @@ fn run_and_list<R: Threads + Wait + Sync, W: Write>(
     run(rt, alloc, &mut register, script, out)?;
     let shards = register.into_shards()?;
     let text = closing_lines(alloc, options, &shards)?;
-    print(&text, out)
+    let printed = print(&text, out);
+    // The process ends next, and gives back all of its memory at once. To free each block of the journals takes a sixth of a run.
+    mem::forget(shards);
+    printed
 }
 
 /// Runs a script, batch by batch.

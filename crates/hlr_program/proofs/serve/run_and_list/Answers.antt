@@ -35,11 +35,11 @@ returns-clause-ran g c =
     let ran = c.in_ok-run.ensures.ran in
     let closes : Closes c.args.options.now.list c.args.options.now.save c.in_ok-shards.shards.items c.in_ok-text.text.items =
     subst (λ (ls : List Log). Closes c.args.options.now.list c.args.options.now.save ls c.in_ok-text.text.items) c.deref.ensures.value c.in_ok-text.ensures in
-    then_on c.print.result c.print.ensures.printed
+    then_on c.print-printed.result c.print-printed.ensures.printed
     (listing_printed c.args.options.now c.args.loaded c.in_ok-register.register c.in_ok-register.ensures.is_of
     c.in_ok-register.ensures.opens c.requires.sound c.args.script.now (g.W.Write.contents c.args.out.now)
     (g.W.Write.contents c.run.new.out)
-    (g.W.Write.contents c.print.new.out) ran.0 c.run.new.register c.in_ok-shards.shards.items c.in_ok-text.text.items c.deref-2.result.now ran.1 ran.2
+    (g.W.Write.contents c.print-printed.new.out) ran.0 c.run.new.register c.in_ok-shards.shards.items c.in_ok-text.text.items c.deref-2.result.now ran.1 ran.2
     c.in_ok-shards.ensures.hands_over closes c.deref-2.ensures.value)
 
 pub returns-clause-stops : goal.returns-clause-stops
@@ -47,9 +47,9 @@ returns-clause-stops g c =
     let ran = c.in_ok-run.ensures.ran in
     let closes : Closes c.args.options.now.list c.args.options.now.save c.in_ok-shards.shards.items c.in_ok-text.text.items =
     subst (λ (ls : List Log). Closes c.args.options.now.list c.args.options.now.save ls c.in_ok-text.text.items) c.deref.ensures.value c.in_ok-text.ensures in
-    else_on _ _ c.print.result c.print.ensures.failed
+    else_on _ _ c.print-printed.result c.print-printed.ensures.failed
     (λ fault output. listing_broken c.args.options.now c.args.loaded c.in_ok-register.register c.in_ok-register.ensures.is_of
     c.in_ok-register.ensures.opens c.requires.sound c.args.script.now fault (g.W.Write.contents c.args.out.now)
     (g.W.Write.contents c.run.new.out)
-    (g.W.Write.contents c.print.new.out) ran.0 c.run.new.register c.in_ok-shards.shards.items c.in_ok-text.text.items c.deref-2.result.now ran.1 ran.2
-    c.in_ok-shards.ensures.hands_over closes c.deref-2.ensures.value output c.print.ensures.front)
+    (g.W.Write.contents c.print-printed.new.out) ran.0 c.run.new.register c.in_ok-shards.shards.items c.in_ok-text.text.items c.deref-2.result.now ran.1 ran.2
+    c.in_ok-shards.ensures.hands_over closes c.deref-2.ensures.value output c.print-printed.ensures.front)
