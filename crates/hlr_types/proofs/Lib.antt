@@ -8,4 +8,5 @@ pub mod ReadLemmas
 pub mod IdentityLaws
 pub mod TextLemmas
 pub mod IdLemmas
+pub mod IdOrder
 pub mod OrderLemmas

@@ -42,16 +42,16 @@ unpacked-packed (suc n) (d ∷ ds) len h =
 
 -- ---- order
 
-less : (a b : ℕ) → a < b → nat_cmp a b ≡ Less
+pub less : (a b : ℕ) → a < b → nat_cmp a b ≡ Less
 less a b h = grind (arith, nat_tests)
 
-greater : (a b : ℕ) → b < a → nat_cmp a b ≡ Greater
+pub greater : (a b : ℕ) → b < a → nat_cmp a b ≡ Greater
 greater a b h = grind (arith, nat_tests)
 
-equal : (a b : ℕ) → a ≡ b → nat_cmp a b ≡ Equal
+pub equal : (a b : ℕ) → a ≡ b → nat_cmp a b ≡ Equal
 equal a b h = grind (arith, nat_tests)
 
-beyond : (c a b : ℕ) → nat_cmp (c + a) (c + b) ≡ nat_cmp a b
+pub beyond : (c a b : ℕ) → nat_cmp (c + a) (c + b) ≡ nat_cmp a b
 beyond c a b = grind (arith, nat_tests)
 
 -- The highest digit decides, and then the rest.

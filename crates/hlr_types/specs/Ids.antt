@@ -11,6 +11,17 @@ id_of shard number = shard ∷ number / 65536 ∷ number / 256 % 256 ∷ number 
 abbrev pub number_of : List ℕ → ℕ
 number_of id = slice_index id 1 * 65536 + slice_index id 2 * 256 + slice_index id 3
 
+-- The four octets of an id as one number, the first the highest.
+abbrev pub word_of_id : List ℕ → ℕ
+word_of_id id = slice_index id 0 * 16777216 + (slice_index id 1 * 65536 + (slice_index id 2 * 256 + slice_index id 3))
+
+-- There are four of them, and each is an octet.
+pub record AreFourOctets (id : List ℕ) : Type 0 where
+  pub four : length id ≡ 4
+  pub second : slice_index id 1 < 256
+  pub third : slice_index id 2 < 256
+  pub fourth : slice_index id 3 < 256
+
 -- The local id that these octets are, if there are four.
 abbrev pub local_id_of : List ℕ → Option (List ℕ)
 local_id_of octets = if nat_le 4 (length octets) && nat_le (length octets) 4 then Some octets else None

@@ -2,13 +2,19 @@
 
 ghost use Rattle.std.specs.Prelude.{◌≡◌, ◌≤◌, ◌<◌, ◌^◌, length, slice_index, List, ℕ, IfSome, Some};
 ghost use Rattle.hlr_types.specs.Identities.{remote_id_of, IsRemoteId};
-ghost use Rattle.hlr_types.specs.Ids.{id_of, number_of, local_id_of, IsLocalId, AreIdNumbers};
+ghost use Rattle.std.specs.Ordering.{nat_cmp, on, as_partial_cmp};
+ghost use Rattle.std.specs.Cmp.{partial_order_from_own_ties};
+ghost use Rattle.std.specs.Cmp.Lexicographic.{slice_cmp};
+ghost use Rattle.std.specs.Cmp.Rules.{comparing};
+ghost use Rattle.std.proofs.Common.{rules};
+ghost use Rattle.hlr_types.specs.Ids.{id_of, number_of, word_of_id, AreFourOctets, local_id_of, IsLocalId, AreIdNumbers};
 
 use crate::short_list::ShortList;
+use std::cmp::Ordering;
 use std::marker::Model;
 
 /// A local transaction id: four octets, ordered as the octets are. The first is the number of the shard.
-#[derive(Clone, Copy, Debug, PartialEq, Eq, PartialOrd, Ord)]
+#[derive(Clone, Copy, Debug, PartialEq, Eq)]
 pub struct Tid(pub [u8; 4]);
 
 impl Model for Tid {
@@ -64,12 +70,50 @@ impl Tid {
         u32::from(high) * 65536 + u32::from(middle) * 256 + u32::from(low)
     }
 
+    /// Its octets as one number, the first the highest: in the order of the numbers as in that of the octets.
+    #[inline(always)]
+    fn word(&self) -> u32
+        ensures value { result ≡ word_of_id self.now }
+        ensures octets { AreFourOctets self.now }
+    {
+        let [shard, high, middle, low] = self.0;
+        let below = u32::from(middle) * 0x100 + u32::from(low);
+        u32::from(shard) * 0x100_0000 + (u32::from(high) * 0x1_0000 + below)
+    }
+
     /// Its four octets.
     pub fn as_slice(&self) -> &[u8]
         ensures value { result.now ≡ self.now }
         ensures count { length result.now ≡ 4 }
     {
         &self.0
+    }
+}
+
+impl Ord for Tid {
+    ghost cmp = { on (λ t. t) (slice_cmp nat_cmp) };
+
+    ghost total = { Prim.search (comparing, rules) };
+
+    ghost matches_partial_cmp = { Prim.search (comparing, rules) };
+
+    ghost matches_eq = { Prim.search (comparing, rules) };
+
+    #[inline(always)]
+    fn cmp(&self, other: &Tid) -> Ordering {
+        self.word().cmp(&other.word())
+    }
+}
+
+impl PartialOrd for Tid {
+    ghost partial_cmp = { as_partial_cmp (on (λ t. t) (slice_cmp nat_cmp)) };
+
+    ghost laws = { partial_order_from_own_ties (Prim.search (comparing, rules))
+        (Prim.search (comparing, rules)) };
+
+    #[inline(always)]
+    fn partial_cmp(&self, other: &Tid) -> Option<Ordering> {
+        Some(self.cmp(other))
     }
 }
 

@@ -31,6 +31,7 @@ impl ShardParts {
 
     /// Carries out a plan: afterwards the record, the named dialogue and the one that opens are as the outcome says. `components`
     /// are those of the received Continue, if any. On error nothing changes.
+    #[inline(always)]
     pub fn settle(
         &mut self,
         plan: Plan,
