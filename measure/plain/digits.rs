@@ -3,7 +3,8 @@
 use crate::SHARDS;
 use std::num::NonZeroU64;
 
-/// 1 to 16 decimal digits, each and 1 in four bits, from the left: words stand in the order of texts.
+/// 1 to 16 decimal digits, each and 1 in four bits, from the left: words stand in the order of
+/// texts.
 #[derive(Clone, Copy, PartialEq, Eq, PartialOrd, Ord)]
 pub struct Digits(NonZeroU64);
 
@@ -42,6 +43,16 @@ impl Digits {
     /// The digit at a place below 16, and 15 behind the last one.
     pub fn at(self, place: usize) -> u8 {
         ((self.0.get() >> (60 - 4 * place)) as u8).wrapping_sub(1) & 15
+    }
+
+    /// Whether they are as many as an IMSI has.
+    pub fn are_imsi(self) -> bool {
+        (5..=15).contains(&self.count())
+    }
+
+    pub fn starts_with(self, prefix: Digits) -> bool {
+        let behind = 64 - 4 * prefix.count();
+        self.0.get() >> behind == prefix.0.get() >> behind
     }
 
     /// The shard of an IMSI: its last two digits, modulo 16.

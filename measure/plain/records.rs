@@ -1,10 +1,12 @@
 //! The records file.
 
-use crate::digits::{octet, octets, Digits};
+use crate::codes::Codes;
+use crate::dialogues::LocalId;
+use crate::digits::{octets, Digits};
 use crate::Outcome;
 
-#[derive(Clone)]
-#[allow(dead_code)] // kept as the register keeps it, though no route reads it all
+/// The register that serves a subscriber (TS 23.012), and whether it has purged the subscriber.
+#[derive(Clone, Copy)]
 pub struct Location {
     pub vlr: Digits,
     pub msc: Digits,
@@ -13,34 +15,46 @@ pub struct Location {
 }
 
 #[derive(Clone)]
-#[allow(dead_code)]
 pub struct Record {
     pub imsi: Digits,
     pub msisdn: Digits,
-    pub codes: Vec<u8>,
+    pub codes: Codes,
     /// Prefixes of the VLR numbers that are allowed, none where all are.
     pub prefixes: Vec<Digits>,
     pub location: Option<Location>,
+    /// The dialogue of the current update, which alone may complete.
+    pub current: Option<LocalId>,
+    pub is_withdrawn: bool,
+}
+
+impl Record {
+    pub fn allows(&self, vlr: Digits) -> bool {
+        self.prefixes.is_empty() || self.prefixes.iter().any(|&prefix| vlr.starts_with(prefix))
+    }
+
+    /// Whether the subscriber may receive short messages: by the group of all of them, or by
+    /// shortMessageMT-PP (TS 29.002, MAP-TS-Code).
+    pub fn has_short_messages(&self) -> bool {
+        self.codes.iter().any(|code| matches!(code, 0x20 | 0x21))
+    }
 }
 
 fn read_record(line: &[u8]) -> Option<Record> {
     let mut fields = line.split(|&octet| octet == b' ');
     let record = Record {
-        imsi: Digits::from_text(fields.next()?).filter(|imsi| (5..16).contains(&imsi.count()))?,
+        imsi: read_imsi(fields.next()?)?,
         msisdn: Digits::from_text(fields.next()?)?,
-        codes: read_codes(fields.next()?)?,
+        codes: Codes::read(fields.next()?)?,
         prefixes: read_prefixes(fields.next()?)?,
         location: read_location(fields.next()?)?,
+        current: None,
+        is_withdrawn: false,
     };
     fields.next().is_none().then_some(record)
 }
 
-fn read_codes(field: &[u8]) -> Option<Vec<u8>> {
-    let mut codes = Vec::new();
-    for code in field.split(|&octet| octet == b',').filter(|_| field != b"-") {
-        codes.push(octet(code).filter(|code| !codes.contains(code))?);
-    }
-    (codes.len() <= 32).then_some(codes)
+pub fn read_imsi(field: &[u8]) -> Option<Digits> {
+    Digits::from_text(field).filter(|imsi| imsi.are_imsi())
 }
 
 fn read_prefixes(field: &[u8]) -> Option<Vec<Digits>> {
@@ -68,16 +82,17 @@ fn read_location(field: &[u8]) -> Option<Option<Location>> {
     parts.next().is_none().then_some(Some(Location { vlr, msc, lmsi, is_purged }))
 }
 
-/// The subscribers by IMSI, and the directory: the IMSI of each MSISDN.
+/// The register's own number, the subscribers by IMSI, and the directory: the IMSI of each MSISDN.
 pub struct Subscribers {
+    pub number: Digits,
     pub records: Vec<Record>,
     pub directory: Vec<(Digits, Digits)>,
 }
 
 pub fn read_records(text: &str) -> Outcome<Subscribers> {
     let mut lines = text.split_terminator('\n');
-    let number = lines.next().and_then(|line| line.as_bytes().strip_prefix(b"HLR1 "));
-    number.and_then(Digits::from_text).ok_or("records line 1")?;
+    let first = lines.next().and_then(|line| line.as_bytes().strip_prefix(b"HLR1 "));
+    let number = first.and_then(Digits::from_text).ok_or("records line 1")?;
     let mut records = Vec::new();
     for (number, line) in (2..).zip(lines) {
         records.push(read_record(line.as_bytes()).ok_or_else(|| format!("records line {number}"))?);
@@ -91,5 +106,5 @@ pub fn read_records(text: &str) -> Outcome<Subscribers> {
     if is_twice {
         return Err("a records line twice".into());
     }
-    Ok(Subscribers { records, directory })
+    Ok(Subscribers { number, records, directory })
 }
