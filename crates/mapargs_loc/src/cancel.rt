@@ -18,7 +18,8 @@ pub enum CancellationType {
     SubscriptionWithdraw,
 }
 
-fn octet_of(why: CancellationType) -> u8
+/// The contents of the cancellationType.
+pub fn cancellation_type_octet(why: CancellationType) -> u8
     ensures { result ≡ cancellation_octet (cancellation why) }
 {
     match why {
@@ -37,7 +38,7 @@ pub fn cancel_arg<'a>(
 {
     let elements = [
         OwnTree::primitive(bump, OCTET_STRING, imsi.octets().as_slice())?,
-        OwnTree::primitive(bump, ENUMERATED, &[octet_of(why)])?,
+        OwnTree::primitive(bump, ENUMERATED, &[cancellation_type_octet(why)])?,
     ];
     OwnTree::constructed(bump, CANCEL_ARGUMENT, &elements)
 }

@@ -12,7 +12,7 @@ mod purge;
 mod roaming;
 mod update;
 
-pub use cancel::{CancellationType, cancel_arg};
+pub use cancel::{CancellationType, cancel_arg, cancellation_type_octet};
 pub use fault::ArgFault;
 pub use insert::insert_arg;
 pub use purge::{PurgeArg, purge_result, read_purge};

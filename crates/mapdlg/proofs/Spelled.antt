@@ -1,9 +1,9 @@
 -- The dialogue portions that request and accept a context, as octets.
-use Rattle.std.proofs.Common.{◌≡◌, ℕ, List, [], ◌∷◌, refl, ap, ◌∙◌, IfOk, Result, Ok, Err}
+use Rattle.std.proofs.Common.{◌≡◌, ℕ, List, [], ◌∷◌, refl, ap, ◌∙◌}
 use Rattle.x690.specs.Identifier.{identifier, number_octets}
 use Rattle.x690.specs.Length.{length_octets}
 use Rattle.x690.specs.Spelling.{enc}
-use Rattle.x690.specs.Tree.{Tree, Primitive}
+use Rattle.x690.specs.Tree.{Primitive}
 use Rattle.machine.specs.Received.{OfUser}
 use Rattle.machine.specs.Sent.{Context}
 use Rattle.machine.specs.Contexts.{name_of}
@@ -11,15 +11,6 @@ use Rattle.frames.specs.declared.tags.TheConstants.{DIALOGUE_PORTION}
 use Rattle.frames.specs.declared.numbers.TheConstants.{ACCEPTED, NO_DIAGNOSTIC}
 use Rattle.frames.specs.DialogueForms.{portion_tree}
 use Rattle.frames.specs.SentTrees.{aare_tree, aarq_tree, accepting, asking}
-use Rattle.berwrite.specs.OwnTrees.{own}
-use Rattle.berwrite.specs.declared.own_tree.OwnTree.{OwnTree}
-use Rattle.berwrite.specs.declared.memory.Memory.{Memory}
-
--- an element with these contents is sent as a tree that has the same octets
-sent_alike : (octets : List ℕ) (tree : Tree) → enc (Primitive DIALOGUE_PORTION octets) ≡ enc tree → (r : Result OwnTree Memory)
-    → IfOk r (λ portion. own portion ≡ Primitive DIALOGUE_PORTION octets) → IfOk r (λ portion. enc (own portion) ≡ enc tree)
-sent_alike octets tree spelled (Ok portion) is = ap enc is ∙ spelled
-sent_alike octets tree spelled (Err fault) is = tt
 
 -- ---- the request
 
@@ -33,11 +24,9 @@ unfolding identifier number_octets length_octets
 request_spelled a b c d e f g = refl
 
 pub requested : (context : Context) (a b c d e f g : ℕ) → a ∷ b ∷ c ∷ d ∷ e ∷ f ∷ g ∷ [] ≡ name_of context
-    → (r : Result OwnTree Memory) → IfOk r (λ portion. own portion ≡ Primitive DIALOGUE_PORTION (requesting a b c d e f g))
-    → IfOk r (λ portion. enc (own portion) ≡ enc (asking context))
+    → enc (Primitive DIALOGUE_PORTION (requesting a b c d e f g)) ≡ enc (asking context)
 requested context a b c d e f g named =
-    sent_alike (requesting a b c d e f g) (asking context)
-    (request_spelled a b c d e f g ∙ ap (λ name. enc (portion_tree (aarq_tree name))) named)
+    request_spelled a b c d e f g ∙ ap (λ name. enc (portion_tree (aarq_tree name))) named
 
 -- ---- the answer
 

@@ -9,5 +9,5 @@ mod why;
 
 pub use answers::refuse;
 pub use begins::{Accepted, accept};
-pub use portions::{answer_contents, first_answer, first_request};
+pub use portions::{answer_contents, first_answer, first_request, request_contents};
 pub use why::Why;

@@ -14,20 +14,26 @@ use bumpalo::Bump;
 use frames::tags::DIALOGUE_PORTION;
 use mapctx::{Context, name_of};
 
-/// The dialogue portion that requests the context: `6B`, and in it an AARQ of version 1 with the context's name. A Begin carries it.
-pub fn first_request<'a>(bump: &'a Bump, of: Context) -> Result<OwnTree<'a>, Memory>
-    ensures { IfOk result (λ portion. enc (own portion) ≡ enc (asking (context of))) }
+/// The contents of the dialogue portion that requests the context: an AARQ of version 1 with the context's name.
+pub fn request_contents(of: Context) -> [u8; 30]
+    ensures { enc (Primitive DIALOGUE_PORTION result) ≡ enc (asking (context of)) }
 {
     let [a, b, c, d, e, requested, version] = name_of(of);
-    let contents = [
+    [
         // an EXTERNAL with the identifier of dialogue portions (Q.773, dialogue-as-id)
         0x28, 0x1c, 0x06, 0x07, 0x00, 0x11, 0x86, 0x05, 0x01, 0x01, 0x01,
         // the AARQ, its version
         0xa0, 0x11, 0x60, 0x0f, 0x80, 0x02, 0x07, 0x80,
         // the name
         0xa1, 0x09, 0x06, 0x07, a, b, c, d, e, requested, version,
-    ];
-    OwnTree::primitive(bump, DIALOGUE_PORTION, &contents)
+    ]
+}
+
+/// The dialogue portion that requests the context: `6B`, and in it these contents. A Begin carries it.
+pub fn first_request<'a>(bump: &'a Bump, of: Context) -> Result<OwnTree<'a>, Memory>
+    ensures { IfOk result (λ portion. enc (own portion) ≡ enc (asking (context of))) }
+{
+    OwnTree::primitive(bump, DIALOGUE_PORTION, &request_contents(of))
 }
 
 /// The contents of the dialogue portion that accepts the context: an AARE of version 1 with the context's name, the result

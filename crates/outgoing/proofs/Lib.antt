@@ -1,2 +1,3 @@
 mod Alike
+mod Elements
 mod ShortLengths

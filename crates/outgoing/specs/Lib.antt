@@ -1,3 +1,4 @@
 pub mod Seen
 pub use Rattle.mapdlg.specs.Accepting
 pub mod RouteTrees
+pub mod Spelled

@@ -6,7 +6,11 @@
 
 mod component;
 mod message;
+mod room;
 mod route;
+mod short_components;
+mod short_inserts;
+mod short_messages;
 mod spelling;
 mod trees;
 

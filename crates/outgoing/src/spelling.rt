@@ -11,7 +11,9 @@ ghost use Rattle.outgoing.specs.Seen.{components, message};
 
 use crate::component::{Components, SentComponent};
 use crate::message::SentMessage;
+use crate::room::{NoRoom, Room};
 use crate::route::route_end;
+use crate::short_messages::put_message;
 use crate::trees::{push_components, reject_trees};
 use berwrite::{Memory, OwnTree};
 use bumpalo::Bump;
@@ -20,7 +22,7 @@ use mapctx::Context;
 use mapdlg::{first_answer, first_request, refuse};
 use q773_comp::Rejection;
 use q773_msg::{OutMessage, write_message_in};
-use std::alloc::Global;
+use std::alloc::{AllocError, Global};
 
 /// The octets of an arena's first chunk, which are enough for the tree of most messages.
 const ARENA: usize = 960;
@@ -100,6 +102,26 @@ fn octets_by_tree(alloc: Global, sent: &SentMessage) -> Result<Vec<u8>, Memory>
     write_message_in(alloc, &bump, &out)
 }
 
+/// A copy of octets, in a list of their size. They are copied at once, which `to_vec` does not do.
+fn copied(alloc: Global, octets: &[u8]) -> Result<Vec<u8>, AllocError>
+    ensures { IfOk result (λ copy. copy.items ≡ octets.now) }
+{
+    let mut copy = Vec::with_capacity(alloc, octets.len())?;
+    copy.extend_from_slice(octets)?;
+    Ok(copy)
+}
+
+/// The octets of a message: written into a room, or by way of its tree where it does not fit.
+fn octets_by_room(alloc: Global, sent: &SentMessage) -> Result<Vec<u8>, Memory>
+    ensures { IfOk result (λ octets. octets.items ≡ octets_of_sent (message sent.now)) }
+{
+    let mut room = Room::new();
+    match put_message(&mut room, sent) {
+        Ok(()) => Ok(copied(alloc, room.as_slice())?),
+        Err(NoRoom) => octets_by_tree(alloc, sent),
+    }
+}
+
 /// The octets of a message: definite lengths, in the fewest octets (X.690, 8.1.3).
 pub fn octets_of(alloc: Global, sent: &SentMessage) -> Result<Vec<u8>, Memory>
     ensures { IfOk result (λ octets. octets.items ≡ octets_of_sent (message sent.now)) }
@@ -120,6 +142,6 @@ pub fn octets_of(alloc: Global, sent: &SentMessage) -> Result<Vec<u8>, Memory>
         } if rejects.is_empty() => {
             Ok(route_end(alloc, destination, *of, *id, imsi, msc, lmsi.as_ref())?)
         }
-        _ => octets_by_tree(alloc, sent),
+        _ => octets_by_room(alloc, sent),
     }
 }

@@ -126,7 +126,7 @@ fn insert<'a>(
 }
 
 /// The invoke id of an insert after the first: the inserts have 1, 2, 3, 4.
-fn further_id(place: usize) -> i8
+pub(crate) fn further_id(place: usize) -> i8
     requires { place < 4 }
     ensures { result ≡ pos (place + 2) }
 {
@@ -134,7 +134,7 @@ fn further_id(place: usize) -> i8
 }
 
 /// The codes of an insert: eight, or those that are left.
-fn codes_at(codes: &[u8], place: usize) -> &[u8]
+pub(crate) fn codes_at(codes: &[u8], place: usize) -> &[u8]
     requires { place < 5 }
     ensures { result.now ≡ take 8 (drop (8 * place) codes.now) }
 {

@@ -11,4 +11,4 @@ mod sending;
 pub use component::{Code, Component, Side};
 pub use list::{CompFault, read_components};
 pub use reading::read_component;
-pub use sending::{OutComponent, Rejection, component_tree};
+pub use sending::{OutComponent, Rejection, component_tree, problem_tag};

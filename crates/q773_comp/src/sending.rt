@@ -1,5 +1,5 @@
 //! The trees of the components that are sent (Q.773, component portion).
-ghost use Rattle.std.specs.Prelude.{◌≡◌, IfOk, option_map};
+ghost use Rattle.std.specs.Prelude.{◌≡◌, ◌<◌, IfOk, option_map};
 ghost use Rattle.frames.specs.ComponentForms.{problem_tag};
 ghost use Rattle.frames.specs.SentTrees.{id_tree, code_tree, invoke_tree, result_tree, error_tree, rejected_tree, reject_tree};
 ghost use Rattle.berwrite.specs.OwnTrees.{own};
@@ -70,8 +70,11 @@ fn rejected_tree<'a>(bump: &'a Bump, id: Option<i8>) -> Result<OwnTree<'a>, Memo
     }
 }
 
-fn problem_tag(of: Side) -> Tag
-    ensures { result ≡ problem_tag (side of) }
+/// The tag of a Reject's problem.
+pub fn problem_tag(of: Side) -> Tag
+    ensures value { result ≡ problem_tag (side of) }
+    // A caller that writes it needs to know that its identifier is one octet.
+    ensures small { result.number < 31 }
 {
     match of {
         Side::General => GENERAL_PROBLEM,
