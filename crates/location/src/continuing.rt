@@ -135,6 +135,8 @@ fn continues_by(
 
 /// A Continue for an open dialogue, whose peer and remote id are already set, with the effect of its components. If an update
 /// completes and its subscriber had another register, a cancel opens with the id `new`.
+// Not inlined, as `begins`.
+#[inline(never)]
 pub fn continues(
     hlr: IsdnAddress,
     subscriber: Option<&Record>,

@@ -1,6 +1,6 @@
 //! The frames of one step, in order.
 
-ghost use Rattle.std.specs.Prelude.{◌≡◌, ◌++◌, ◌∷◌, [], IfOk, OnOk, map, drop, option_map, slice_get};
+ghost use Rattle.std.specs.Prelude.{◌≡◌, ◌++◌, ◌∷◌, [], IfOk, OnErr, OnOk, map, drop, option_map, slice_get};
 ghost use Rattle.std.specs.Option.{option_to_list};
 ghost use Rattle.shard_state.specs.Frames.{raw_out};
 ghost use Rattle.shard_state.specs.Held.{frames_in};
@@ -87,14 +87,16 @@ impl OutList {
         }
     }
 
-    /// Moves the frames behind others. On error some of them may be there.
+    /// Moves the frames behind others. On error none of them is there.
     pub fn append_to(self, outs: &mut Vec<Out>) -> Result<(), AllocError>
-        ensures { OnOk result (map raw_out outs.new.items ≡ map raw_out outs.old.items ++ self) }
+        ensures ok { OnOk result (map raw_out outs.new.items
+            ≡ map raw_out outs.old.items ++ self) }
+        ensures err { OnErr result (outs.new.items ≡ outs.old.items) }
     {
         match self.held {
             Held::Nothing => Ok(()),
             Held::One(out) => Ok(outs.push(out)?),
-            Held::More(more) => push_all(outs, more),
+            Held::More(mut more) => outs.append(&mut more),
         }
     }
 
@@ -138,12 +140,6 @@ fn cut_first(held: Held) -> (Option<Out>, Held)
             (Some(first), Held::More(rest))
         }
     }
-}
-
-fn push_all(outs: &mut Vec<Out>, more: Vec<Out>) -> Result<(), AllocError>
-    ensures { OnOk result (outs.new.items ≡ outs.old.items ++ more.items) }
-{
-    outs.extend(more)
 }
 
 /// Equal frames, in the same order.

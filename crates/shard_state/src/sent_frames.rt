@@ -71,9 +71,11 @@ impl Out {
     pub fn try_copy(&self, alloc: Global) -> Result<Out, AllocError>
         ensures { IfOk result (λ copy. raw_out copy ≡ raw_out self.now) }
     {
+        let mut octets = Vec::with_capacity(alloc, self.octets.len())?;
+        octets.extend_from_slice(&self.octets)?;
         Ok(Out {
             to: self.to,
-            octets: self.octets.to_vec(alloc)?,
+            octets,
         })
     }
 }
