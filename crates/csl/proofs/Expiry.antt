@@ -1,5 +1,5 @@
--- The least deadline is that of the invocation that times out.
-use Rattle.std.proofs.Common.{◌≡◌, ◌≤◌, ◌<◌, ℕ, ℤ, List, [], ◌∷◌, ◌++◌, Bool, true, false, cond, Option, Some, None, refl, sym, ap, ◌∙◌, subst, arith, get_or, int_eq, Ordering, Less, Equal, Greater}
+-- The least timer is that of the invocation that times out.
+use Rattle.std.proofs.Common.{◌≡◌, ◌≤◌, ◌<◌, ℕ, ℤ, List, [], ◌∷◌, Bool, true, false, cond, Option, Some, None, refl, sym, ap, ◌∙◌, subst, arith, get_or, int_eq, Ordering, Less, Equal, Greater}
 use Rattle.std.specs.Ordering.{is_gt, ordering_reverse}
 use Rattle.std.specs.Option.{IsSome, option_map}
 use Rattle.std.specs.List.{position}
@@ -11,43 +11,27 @@ use Rattle.machine.specs.State.{Invocation, OperationSent, WaitForReject, Was}
 use Rattle.machine.specs.Turns.{invocation_of, triple_cmp}
 use Rattle.machine_laws.proofs.Rising.{IsMap, int_is, rising_map}
 use Rattle.deadlines.specs.declared.timer.Timer.{Timer}
-use Rattle.deadlines.specs.Timers as timers
-use Rattle.deadlines.specs.Timers.{DeadlineMap, IsLeastDue, timer_cmp, timer_of}
+use Rattle.deadlines.specs.Timers.{IsIn, IsLeastOf, NoneDueOf, TimerSet, timer_cmp, timer_of}
 use Rattle.deadlines.proofs.KeyLemmas.{timer_total}
 use Rattle.csl.specs.Endings.{has_id}
 use Rattle.csl.specs.Expiring.{Expires, IsNext, NoneDue}
-use Rattle.csl.specs.Tables.{HaveDeadlines, InvocationLists, deadline_in, invocations_at, put_list}
-use Rattle.csl.proofs.Places.{NoneHas, get_at, none_of, parts_of}
+use Rattle.csl.specs.Tables.{HaveTimers, InvocationLists, has_timer, invocations_at, put_list}
+use Rattle.csl.proofs.Places.{NoneHas, none_of}
 use Rattle.csl.proofs.Putting.{at-put_list, own_id}
-use Rattle.csl.proofs.Replacing.{deadline_none}
+use Rattle.csl.proofs.Standing.{stands_at}
+use Rattle.csl.proofs.Timing.{none_timed, timer_of_it, timer_stands}
 
-abbrev deadline_one : Option Invocation → Option ℕ
-deadline_one o = option_map (λ (v : Invocation). v.deadline) o
-
-pub none_due : (lists : InvocationLists) (d : DeadlineMap) (now : ℕ) → HaveDeadlines lists d → timers.NoneDue d now → NoneDue lists now
+pub none_due : (lists : InvocationLists) (d : TimerSet) (now : ℕ) → HaveTimers lists d → NoneDueOf (IsIn d) now → NoneDue lists now
 none_due lists d now have none i j v is =
-    let late : now < v.deadline = none (timer_of v.deadline i j) (have (record { id = i; invoke = j }) ∙ ap deadline_one is.stands) in
+    let late : now < v.deadline = none (timer_of v.deadline i j) (have (timer_of v.deadline i j) ∙ timer_stands j (invocations_at lists i) v is.stands) in
     omega (arith, late, is.due)
 
-pub place_there : (j : ℤ) (vs : List Invocation) (t : ℕ) → deadline_in j vs ≡ Some t → IsSome (position (has_id j) vs)
+pub place_there : (j : ℤ) (vs : List Invocation) (t : ℕ) → has_timer vs j t ≡ true → IsSome (position (has_id j) vs)
 place_there j vs t e = by (position (has_id j) vs) refl
   where
     by : (o : Option ℕ) → position (has_id j) vs ≡ o → IsSome o
-    by None q = let none : None ≡ Some t = sym (deadline_none j vs (none_of j vs q)) ∙ e in cc
+    by None q = let none : false ≡ true = sym (none_timed j t vs (none_of j vs q)) ∙ e in cc
     by (Some place) q = refl
-
-invocation_past : (j : ℤ) (front : List Invocation) (own : Invocation) (back : List Invocation) → NoneHas j front → has_id j own ≡ true
-    → invocation_of j (front ++ own ∷ back) ≡ Some own
-invocation_past j [] own back h e = ap (λ b. cond b (Some own) (invocation_of j back)) e
-invocation_past j (v ∷ front) own back h e = ap (λ b. cond b (Some v) (invocation_of j (front ++ own ∷ back))) h.0 ∙ invocation_past j front own back h.1 e
-
-stands_at : (j : ℤ) (vs : List Invocation) (place : ℕ) (v : Invocation) → position (has_id j) vs ≡ Some place → v ≡ get_or vs place v
-    → invocation_of j vs ≡ Some v
-stands_at j vs place v e is =
-    let p = parts_of j vs place e in
-    ap (invocation_of j) p.whole ∙ invocation_past j p.front p.own p.back p.others p.same
-    ∙ ap (λ u. Some u) (sym (is ∙ ap (λ us. get_or us place v) p.whole ∙ ap (λ n. get_or (p.front ++ p.own ∷ p.back) n v) (sym p.at)
-    ∙ get_at p.front p.own p.back v))
 
 not_greater : (a b : Timer) → (timer_cmp b a ≡ Less → ⊥) → is_gt (timer_cmp a b) ≡ false
 not_greater a b h = by (timer_cmp a b) refl
@@ -57,21 +41,22 @@ not_greater a b h = by (timer_cmp a b) refl
     by Equal e = refl
     by Greater e = absurd (h (timer_total.antisymm b a ∙ ap ordering_reverse e))
 
-pub is_next : (lists : InvocationLists) (d : DeadlineMap) (now : ℕ) → HaveDeadlines lists d → (t : ℕ) (i : List ℕ) (j : ℤ) → IsLeastDue d now (timer_of t i j)
-    → (vs : List Invocation) → vs ≡ invocations_at lists i → (place : ℕ) → position (has_id j) vs ≡ Some place → (v : Invocation) → v ≡ get_or vs place v
+pub is_next : (lists : InvocationLists) (d : TimerSet) (now : ℕ) → HaveTimers lists d → (t : ℕ) (i : List ℕ) (j : ℤ)
+    → IsLeastOf (IsIn d) now (timer_of t i j) → (vs : List Invocation) → vs ≡ invocations_at lists i → AreRising vs
+    → (place : ℕ) → position (has_id j) vs ≡ Some place → (v : Invocation) → v ≡ get_or vs place v
     → (was : Was) → v.was ≡ was → IsNext lists now i j was
-is_next lists d now have t i j least vs is place found v read was state =
-    let stands : invocation_of j (invocations_at lists i) ≡ Some v = ap (invocation_of j) (sym is) ∙ stands_at j vs place v found read in
-    let deadline : Some v.deadline ≡ Some t = sym (have (record { id = i; invoke = j }) ∙ ap deadline_one stands) ∙ least.set in
-    let same : v.deadline ≡ t = cc in
+is_next lists d now have t i j least vs is rising place found v read was state =
+    let stands : invocation_of j vs ≡ Some v = stands_at j vs place v found read in
+    let same : v.deadline ≡ t = timer_of_it j t vs v (rising_map vs rising) stands
+    (ap (λ us. has_timer us j t) is ∙ sym (have (timer_of t i j)) ∙ least.one) in
     record {
       own = v;
-      due = record { stands = stands; due = subst (λ n. n ≤ now) (sym same) least.come };
+      due = record { stands = ap (invocation_of j) (sym is) ∙ stands; due = subst (λ n. n ≤ now) (sym same) least.come };
       state = state;
       least = λ i' j' v' other.
           subst (λ n. is_gt (triple_cmp n i j v'.deadline i' j') ≡ false) (sym same)
-          (not_greater (timer_of t i j) (timer_of v'.deadline i' j') (least.least (timer_of v'.deadline i' j') (have (record { id = i'; invoke = j' })
-          ∙ ap deadline_one other.stands)));
+          (not_greater (timer_of t i j) (timer_of v'.deadline i' j') (least.least (timer_of v'.deadline i' j') (have (timer_of v'.deadline i' j')
+          ∙ timer_stands j' (invocations_at lists i') v' other.stands)));
     }
 
 -- the invocation that times out is Idle

@@ -1,5 +1,5 @@
 -- An invoke id is new, or in use.
-use Rattle.std.proofs.Common.{◌≡◌, ℕ, ◌+◌, ◌*◌, ◌-◌, ◌/◌, ◌<ℤ◌, ℤ, List, [], ◌∷◌, Bool, true, false, cond, Option, Some, None, refl, sym, ap, ◌∙◌, subst, arith, int_eq, int_lt, Less, Equal, Greater, ◌||◌, is_eq}
+use Rattle.std.proofs.Common.{◌≡◌, ℕ, ◌+◌, ◌*◌, ◌-◌, ◌/◌, ◌<ℤ◌, ℤ, List, [], ◌∷◌, Bool, true, false, cond, Option, Some, None, refl, sym, ap, ◌∙◌, subst, arith, int_eq, int_lt, Less, Equal, Greater, is_eq}
 use lib.Dec.{T}
 use Rattle.std.proofs.lemmas.Int.{ints}
 use Rattle.std.specs.Prelude.{Result, Ok, Err, IsErrAnd, replicate}
@@ -11,25 +11,12 @@ use Rattle.machine.specs.Keys.{Every}
 use Rattle.machine.specs.State.{Invocation}
 use Rattle.machine.specs.Effect.{AreRising}
 use Rattle.machine.specs.Outcome.{further}
-use Rattle.machine.specs.Turns.{invocation_of}
 use Rattle.machine_laws.proofs.Rising.{every_one, rising_inserts}
 use Rattle.csl.specs.declared.fault.CslFault.{CslFault}
 use Rattle.csl.specs.declared.fault.CslFault.TheVariants.{IdInUse, Memory}
 use Rattle.csl.specs.Endings.{has_id}
-use Rattle.csl.specs.Tables.{first_invoked, has_one, with_one}
+use Rattle.csl.specs.Tables.{first_invoked, with_one}
 use Rattle.csl.proofs.Places.{NoneHas, none_of}
-use Rattle.csl.proofs.Clearing.{has_by_place}
-
-one_is : (j : ℤ) (vs : List Invocation) → has_one j vs ≡ is_some (invocation_of j vs)
-one_is j [] = refl
-one_is j (v ∷ vs) = by (has_id j v) (one_is j vs)
-  where
-    by : (b : Bool) → has_one j vs ≡ is_some (invocation_of j vs) → (b || has_one j vs) ≡ is_some (cond b (Some v) (invocation_of j vs))
-    by true h = refl
-    by false h = h
-
-pub in_use : (j : ℤ) (vs : List Invocation) (o : Option ℕ) (b : Bool) → o ≡ position (has_id j) vs → is_some o ≡ b → is_some (invocation_of j vs) ≡ b
-in_use j vs o b e s = sym (one_is j vs) ∙ has_by_place j vs o b e s
 
 pub memory_only : {T : Type 0} (r : Result T CslFault) → IsErrAnd r (λ fault. fault ≡ Memory) → r ≡ Err IdInUse → ⊥
 memory_only (Ok x) h e = cc

@@ -2,8 +2,8 @@ pub mod Places
 pub mod Concluding
 pub mod Hearing
 pub mod Putting
-pub mod Clearing
-pub mod Replacing
+pub mod Standing
+pub mod Timing
 pub mod Invoking
 pub mod Expiry
 pub mod Parameters

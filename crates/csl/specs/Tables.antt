@@ -1,7 +1,8 @@
 -- The own invocations of a shard's dialogues (Q.774), as a finite map from local transaction ids to lists by ascending invoke
 -- id.
-use Rattle.std.specs.Prelude.{◌≡◌, ◌≢◌, ℕ, ℤ, ◌∷◌, [], List, Bool, true, false, cond, Option, Some, None, option_map, IfSome, Vec, refl, map, int_lt, ◌+◌, pos, not, ◌&&◌}
+use Rattle.std.specs.Prelude.{◌≡◌, ◌≢◌, ℕ, ℤ, ◌∷◌, [], List, Bool, true, false, cond, Option, Some, None, IfSome, Vec, refl, map, int_lt, ◌+◌, ◌==◌, pos, not, ◌&&◌}
 use Rattle.std.specs.List.{list_any}
+use Rattle.std.specs.Ordering.{int_eq}
 use Rattle.std.specs.BTreeMap as tree
 use Rattle.std.specs.BTreeMap.{is_at}
 use Rattle.std.specs.FinMap as finite
@@ -10,10 +11,9 @@ use Rattle.hlr_types.specs.Orders.{octets_cmp}
 use Rattle.machine.specs.State.{Was, OperationSent, WaitForReject, Invocation, is_sent}
 use Rattle.machine.specs.Effect.{AreRising}
 use Rattle.machine.specs.Outcome.{below, invoked}
-use Rattle.machine.specs.Turns.{invocation_of}
-use Rattle.deadlines.specs.declared.timer.Invocation as due
 use Rattle.deadlines.specs.declared.timer.Timer.{Timer}
-use Rattle.deadlines.specs.Timers.{DeadlineMap, timer_of}
+use Rattle.deadlines.specs.Timers.{TimerSet, timer_of}
+use Rattle.deadlines.specs.Index.{has}
 use Rattle.csl.specs.Endings.{has_id}
 
 -- The lists of the dialogues that have an invocation.
@@ -48,21 +48,26 @@ first_invoked now further = invoked now (pos 1) ∷ map (λ k. invoked now (pos 
 abbrev pub timer_at : List ℕ → Invocation → Timer
 timer_at id v = timer_of v.deadline id v.id
 
--- The deadline of the invocation with this id, if it is in the list.
-abbrev pub deadline_in : ℤ → List Invocation → Option ℕ
-deadline_in id vs = option_map (λ (v : Invocation). v.deadline) (invocation_of id vs)
+-- Whether the invocation has this invoke id and this deadline.
+abbrev pub is_timed : ℤ → ℕ → Invocation → Bool
+is_timed id deadline v = int_eq v.id id && (v.deadline == deadline)
 
--- The deadlines are those of the invocations in the lists.
-abbrev pub HaveDeadlines : InvocationLists → DeadlineMap → Type 0
-HaveDeadlines lists deadlines = (k : due.Invocation) → finite.get deadlines k ≡ deadline_in k.invoke (invocations_at lists k.id)
+-- Whether one of these has.
+abbrev pub has_timer : List Invocation → ℤ → ℕ → Bool
+has_timer vs id deadline = list_any (is_timed id deadline) vs
+
+-- The timers are those of the invocations in the lists.
+abbrev pub HaveTimers : InvocationLists → TimerSet → Type 0
+HaveTimers lists timers = (t : Timer) → has timers t ≡ has_timer (invocations_at lists t.invocation.id) t.invocation.invoke t.deadline
+
+-- Whether it is the timer of one of these invocations of the dialogue, and of none of those others.
+abbrev pub is_only : List ℕ → (these others : List Invocation) → Timer → Bool
+is_only id these others t = is_at (octets_cmp id) t.invocation.id
+    && (has_timer these t.invocation.invoke t.deadline && not (has_timer others t.invocation.invoke t.deadline))
 
 -- Whether a list has an invocation with this id.
 abbrev pub has_one : ℤ → List Invocation → Bool
 has_one id vs = list_any (has_id id) vs
-
--- Whether this invocation of the dialogue was among these and is not kept.
-abbrev pub is_gone : List ℕ → (were kept : List Invocation) → due.Invocation → Bool
-is_gone id were kept k = is_at (octets_cmp id) k.id && (has_one k.invoke were && not (has_one k.invoke kept))
 
 -- ---- what is stored
 

@@ -6,7 +6,7 @@ ghost use Rattle.machine.specs.declared.numbers.TheConstants.{REJECT_TIMER};
 ghost use Rattle.machine.specs.State.{is_sent, WaitForReject};
 ghost use Rattle.machine.specs.Outcome.{invoked};
 ghost use Rattle.csl.specs.Seen.{told_of, was};
-ghost use Rattle.csl.specs.Tables.{timer_at};
+ghost use Rattle.csl.specs.Tables.{is_timed, timer_at};
 
 use crate::was::Was;
 use deadlines::Timer;
@@ -78,6 +78,13 @@ impl Invocation {
     {
         self.was = Was::Waiting;
         self.deadline = now + REJECT_TIMER;
+    }
+
+    /// Whether it has the invoke id of another and the same deadline.
+    pub(crate) fn is_timed_as(&self, other: &Self) -> bool
+        ensures { result ≡ is_timed other.now.id other.now.deadline self.now }
+    {
+        self.id == other.id && self.deadline == other.deadline
     }
 
     /// Its timer, in the dialogue of this id.

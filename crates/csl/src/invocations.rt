@@ -18,9 +18,9 @@ use crate::invocation::Invocation;
 use crate::list::{first_invoked, place_of, with_one};
 use crate::lists::Lists;
 use crate::offer::{Due, Effect, Offer};
-use crate::timers::{clear_gone, clear_timers, timers_of};
+use crate::timers::{insert_timers, remove_timers};
 use crate::was::Was;
-use deadlines::Deadlines;
+use deadlines::Timers;
 use hlr_types::Tid;
 use q773_comp::Component;
 use std::alloc::{AllocError, Global};
@@ -31,11 +31,11 @@ use std::marker::Model;
 pub struct Invocations {
     alloc: Global,
     lists: Lists,
-    deadlines: Deadlines,
+    timers: Timers,
 }
 
 impl Model for Invocations {
-    ghost use Rattle.csl.specs.Tables.{HaveDeadlines, InvocationLists, lists_code};
+    ghost use Rattle.csl.specs.Tables.{HaveTimers, InvocationLists, lists_code};
 
     ghost Value = { InvocationLists };
 
@@ -43,7 +43,7 @@ impl Model for Invocations {
 
     ghost view = { λ a. a.lists };
 
-    ghost invariant = { λ a. HaveDeadlines a.lists a.deadlines };
+    ghost invariant = { λ a. HaveTimers a.lists a.timers };
 }
 
 impl Invocations {
@@ -54,7 +54,7 @@ impl Invocations {
         Invocations {
             alloc,
             lists: Lists::new(alloc),
-            deadlines: Deadlines::new(alloc),
+            timers: Timers::new(alloc),
         }
     }
 
@@ -159,14 +159,15 @@ impl Invocations {
         // A caller that passes the invoke id on needs its range.
         ensures fits { IfSome result (λ due. FitsSigned w8 due.invoke) }
     {
-        let Some(least) = self.deadlines.least_due(now) else {
+        let Some(least) = self.timers.least_due(now) else {
             return None;
         };
-        let list = self.lists.at(least.1);
-        let place = place_of(list, least.2).unwrap();
+        let deadlines::Invocation { id, invoke } = least.invocation;
+        let list = self.lists.at(id);
+        let place = place_of(list, invoke).unwrap();
         Some(Due {
-            id: least.1,
-            invoke: least.2,
+            id,
+            invoke,
             was: list[place].was(),
         })
     }
@@ -191,7 +192,7 @@ impl Invocations {
         let Some(list) = self.lists.remove(id) else {
             return;
         };
-        clear_gone(&mut self.deadlines, id, &list, &[]);
+        remove_timers(&mut self.timers, id, &list, &[]);
     }
 
     /// Makes an invocation Idle, if there is one. Does not allocate.
@@ -200,8 +201,9 @@ impl Invocations {
             (without invoke (invocations_at self.old id)) }
         ensures rising { AreRising (invocations_at self.old id) }
     {
-        self.lists.remove_one(id, invoke);
-        self.deadlines.clear(id, invoke);
+        if let Some(own) = self.lists.remove_one(id, invoke) {
+            self.timers.remove(&own.timer(id));
+        }
     }
 
     /// The invocations of a dialogue by invoke id: each with its state and its deadline.
@@ -222,7 +224,7 @@ impl Invocations {
         Ok(Invocations {
             alloc: self.alloc,
             lists: self.lists.try_copy()?,
-            deadlines: self.deadlines.try_copy()?,
+            timers: self.timers.try_copy()?,
         })
     }
 
@@ -232,13 +234,13 @@ impl Invocations {
         ensures ok { OnOk result (self.new ≡ put_list self.old id list.items) }
         ensures err { OnErr result (self.new ≡ self.old) }
     {
-        let timers = timers_of(self.alloc, id, &list)?;
-        self.deadlines.set_each(&timers)?;
-        clear_gone(&mut self.deadlines, id, self.lists.at(id), &list);
+        let were = self.lists.at(id);
+        insert_timers(&mut self.timers, id, &list, were)?;
+        remove_timers(&mut self.timers, id, were, &list);
         let Err(refused) = self.lists.put(id, list) else {
             return Ok(());
         };
-        clear_timers(&mut self.deadlines, &timers);
-        Err(refused)
+        remove_timers(&mut self.timers, id, &refused, &[]);
+        Err(AllocError)
     }
 }

@@ -1,9 +1,10 @@
 //! The invocations of each dialogue.
 
-ghost use Rattle.std.specs.Prelude.{◌≡◌, OnOk, OnErr, IfSome, IfNone, IfOk, IsSome, IsOk, []};
+ghost use Rattle.std.specs.Prelude.{◌≡◌, OnOk, OnErr, IfSome, IfNone, IfOk, IfErr, []};
 ghost use Rattle.std.specs.FinMap as finite;
 ghost use Rattle.machine.specs.Effect.{AreRising};
 ghost use Rattle.machine.specs.Expiries.{without};
+ghost use Rattle.machine.specs.Turns.{invocation_of};
 ghost use Rattle.csl.specs.Tables.{invocations_at, put_list};
 
 use crate::invocation::Invocation;
@@ -52,19 +53,22 @@ impl Lists {
         }
     }
 
-    /// Makes these the invocations of a dialogue. If it has some already, this does not allocate.
-    pub(crate) fn put(&mut self, id: Tid, list: Vec<Invocation>) -> Result<(), AllocError>
+    /// Makes these the invocations of a dialogue. If it has some already, this does not allocate. A refused list comes back.
+    pub(crate) fn put(&mut self, id: Tid, list: Vec<Invocation>) -> Result<(), Vec<Invocation>>
         requires { AreRising list.items }
         ensures ok { OnOk result (self.new ≡ put_list self.old id list.items) }
-        ensures has { IsSome (finite.get self.old id) → IsOk result }
+        ensures refused { IfErr result (λ refused. refused.items ≡ list.items) }
+        ensures none { OnErr result (invocations_at self.old id ≡ []) }
         ensures err { OnErr result (self.new ≡ self.old) }
     {
         if list.is_empty() {
             self.by_dialogue.remove(&id);
             return Ok(());
         }
-        self.by_dialogue.insert(id, list)?;
-        Ok(())
+        let Err(refused) = self.by_dialogue.insert(id, list) else {
+            return Ok(());
+        };
+        Err(refused.value.1)
     }
 
     /// Removes the invocations of a dialogue, if it has some.
@@ -77,21 +81,24 @@ impl Lists {
     }
 
     /// Removes one invocation, if it is there.
-    pub(crate) fn remove_one(&mut self, id: Tid, invoke: i8)
+    pub(crate) fn remove_one(&mut self, id: Tid, invoke: i8) -> Option<Invocation>
         ensures removed { self.new ≡ put_list self.old id
             (without invoke (invocations_at self.old id)) }
+        ensures was { result ≡ invocation_of invoke (invocations_at self.old id) }
         ensures rising { AreRising (invocations_at self.old id) }
     {
         let Some(list) = self.by_dialogue.get_mut(&id) else {
-            return;
+            return None;
         };
         let Some(place) = place_of(list, invoke) else {
-            return;
+            return None;
         };
-        list.remove(place);
-        if list.is_empty() {
-            self.by_dialogue.remove(&id);
+        let own = list.remove(place);
+        if !list.is_empty() {
+            return Some(own);
         }
+        self.by_dialogue.remove(&id);
+        Some(own)
     }
 
     /// An equal copy.

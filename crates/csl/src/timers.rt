@@ -1,54 +1,65 @@
-//! The timers of a dialogue's invocations.
+//! The timers of a dialogue's invocations, in the index of all timers.
 
-ghost use Rattle.std.specs.Prelude.{◌≡◌, IfOk, map, cond, None};
-ghost use Rattle.std.specs.FinMap as finite;
-ghost use Rattle.std.specs.List.{list_any};
-ghost use Rattle.deadlines.specs.declared.timer.Invocation as due;
+ghost use Rattle.std.specs.Prelude.{◌≡◌, OnOk, OnErr, cond, true, false};
 ghost use Rattle.deadlines.specs.declared.timer.Timer.{Timer};
-ghost use Rattle.deadlines.specs.Index.{is_invocation};
-ghost use Rattle.csl.specs.Tables.{is_gone, timer_at};
+ghost use Rattle.deadlines.specs.Index.{has};
+ghost use Rattle.csl.specs.Tables.{has_timer, is_only};
 
 use crate::invocation::Invocation;
-use crate::list::place_of;
-use deadlines::{Deadlines, Timer};
+use deadlines::Timers;
 use hlr_types::Tid;
-use std::alloc::{AllocError, Global};
+use std::alloc::AllocError;
 
-/// The timers of these invocations of a dialogue.
-pub(crate) fn timers_of(
-    alloc: Global,
+/// Whether one of these invocations has the invoke id of this one and its deadline.
+fn has_timer(list: &[Invocation], own: &Invocation) -> bool
+    ensures { result ≡ has_timer list.now own.now.id own.now.deadline }
+{
+    list.iter().any(|other| other.is_timed_as(own))
+}
+
+/// Inserts the timers that these invocations of a dialogue have and those others do not. On error nothing changes.
+pub(crate) fn insert_timers(
+    timers: &mut Timers,
     id: Tid,
     list: &[Invocation],
-) -> Result<Vec<Timer>, AllocError>
-    ensures { IfOk result (λ timers. timers.items ≡ map (timer_at id) list.now) }
+    others: &[Invocation],
+) -> Result<(), AllocError>
+    ensures ok { OnOk result ((t : Timer) → has timers.new t
+        ≡ cond (is_only id list.now others.now t) true (has timers.old t)) }
+    ensures err { OnErr result (timers.new ≡ timers.old) }
 {
-    list.iter().map(|own| own.timer(id)).collect(alloc)
+    let [own, rest @ ..] = list else {
+        return Ok(());
+    };
+    if has_timer(others, own) {
+        return insert_timers(timers, id, rest, others);
+    }
+    let timer = own.timer(id);
+    let is_new = timers.insert(timer)?;
+    let Err(refused) = insert_timers(timers, id, rest, others) else {
+        return Ok(());
+    };
+    if is_new {
+        timers.remove(&timer);
+    }
+    Err(refused)
 }
 
-/// Removes the deadlines of those of a dialogue's invocations that are not kept. Does not allocate.
-pub(crate) fn clear_gone(
-    deadlines: &mut Deadlines,
+/// Removes the timers that these invocations of a dialogue have and those others do not. Does not allocate.
+pub(crate) fn remove_timers(
+    timers: &mut Timers,
     id: Tid,
-    were: &[Invocation],
-    kept: &[Invocation],
+    list: &[Invocation],
+    others: &[Invocation],
 )
-    ensures { (k : due.Invocation) → finite.get deadlines.new k
-        ≡ cond (is_gone id were.now kept.now k) None (finite.get deadlines.old k) }
+    ensures { (t : Timer) → has timers.new t
+        ≡ cond (is_only id list.now others.now t) false (has timers.old t) }
 {
-    for own in were {
-        if place_of(kept, own.id()).is_none() {
-            deadlines.clear_timer(own.timer(id).invocation);
-        }
+    let [own, rest @ ..] = list else {
+        return;
+    };
+    if !has_timer(others, own) {
+        timers.remove(&own.timer(id));
     }
-}
-
-/// Removes these deadlines. Does not allocate.
-pub(crate) fn clear_timers(deadlines: &mut Deadlines, timers: &[Timer])
-    ensures { (k : due.Invocation) → finite.get deadlines.new k
-        ≡ cond (list_any (λ (timer : Timer). is_invocation timer.invocation k) timers.now) None
-        (finite.get deadlines.old k) }
-{
-    for timer in timers {
-        deadlines.clear_timer(timer.invocation);
-    }
+    remove_timers(timers, id, rest, others);
 }

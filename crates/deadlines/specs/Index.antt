@@ -1,18 +1,18 @@
 -- The two indexes behind the deadlines.
 use Rattle.std.specs.Prelude.{◌≡◌, ℕ, Bool, true, false, cond, List, [], ◌∷◌, Option, Some, None, ◌⊎◌}
 use Rattle.std.specs.BTreeMap as tree
-use Rattle.std.specs.BTreeSet as sorted
+use Rattle.std.specs.FinSet as set
 use Rattle.deadlines.specs.declared.timer.Invocation.{Invocation}
 use Rattle.deadlines.specs.declared.timer.Timer.{Timer}
-use Rattle.deadlines.specs.Timers.{invocation_cmp, timer_cmp}
+use Rattle.deadlines.specs.Timers.{TimerSet, invocation_cmp, timer_cmp}
 
 -- The deadline of an invocation.
 abbrev pub deadline_of : tree.BTreeMap Invocation ℕ → Invocation → Option ℕ
 deadline_of m k = tree.get invocation_cmp m k
 
 -- Whether the index by time has this deadline.
-abbrev pub has : sorted.BTreeSet Timer → Timer → Bool
-has s t = sorted.contains timer_cmp s t
+abbrev pub has : TimerSet → Timer → Bool
+has s t = set.contains s t
 
 -- Whether two invocations are the same.
 abbrev pub is_invocation : Invocation → Invocation → Bool

@@ -7,16 +7,17 @@ ghost use Rattle.deadlines.specs.Timers.{IsLeastDue, NoneDue, invocation_of, tim
 
 use crate::index::put_each;
 use crate::timer::{Invocation, Timer};
+use crate::timers::Timers;
 use hlr_types::Tid;
 use std::alloc::{AllocError, Global};
-use std::collections::{BTreeMap, BTreeSet};
+use std::collections::BTreeMap;
 use std::marker::Model;
 
 /// The deadlines of invocations. Contracts see them as a finite map from invocation to time.
 #[derive(Drop)]
 pub struct Deadlines {
     by_invocation: BTreeMap<Invocation, u64>,
-    by_deadline: BTreeSet<Timer>,
+    by_deadline: Timers,
 }
 
 impl Model for Deadlines {
@@ -41,7 +42,7 @@ impl Deadlines {
     {
         Deadlines {
             by_invocation: BTreeMap::new(alloc),
-            by_deadline: BTreeSet::new(alloc),
+            by_deadline: Timers::new(alloc),
         }
     }
 
@@ -120,14 +121,7 @@ impl Deadlines {
         ensures due { IfSome result (IsLeastDue self.now now) }
         ensures none { IfNone result (NoneDue self.now now) }
     {
-        let Some(due) = self.by_deadline.first() else {
-            return None;
-        };
-        if due.deadline <= now {
-            Some(*due)
-        } else {
-            None
-        }
+        self.by_deadline.least_due(now)
     }
 
     /// An equal copy.
@@ -136,7 +130,7 @@ impl Deadlines {
     {
         Ok(Deadlines {
             by_invocation: self.by_invocation.clone()?,
-            by_deadline: self.by_deadline.clone()?,
+            by_deadline: self.by_deadline.try_copy()?,
         })
     }
 }

@@ -6,13 +6,14 @@ ghost use Rattle.deadlines.specs.declared.timer.Timer.{Timer};
 ghost use Rattle.deadlines.specs.Index.{deadline_of, has, is_invocation, is_timer, IsIndexBut, deadline_after, was};
 
 use crate::timer::{Invocation, Timer};
+use crate::timers::Timers;
 use std::alloc::AllocError;
-use std::collections::{BTreeMap, BTreeSet};
+use std::collections::BTreeMap;
 
 /// Sets all of these in turn, or none: if a later one fails, the earlier ones are undone.
 pub(crate) fn put_each(
     by_invocation: &mut BTreeMap<Invocation, u64>,
-    by_deadline: &mut BTreeSet<Timer>,
+    by_deadline: &mut Timers,
     timers: &[Timer],
 ) -> Result<(), AllocError>
     ensures map { OnOk result ((q : Invocation)
@@ -52,7 +53,7 @@ struct Before {
 /// Puts a deadline into both indexes, or into none. The invocation's old deadline stays in the index by time.
 fn put(
     by_invocation: &mut BTreeMap<Invocation, u64>,
-    by_deadline: &mut BTreeSet<Timer>,
+    by_deadline: &mut Timers,
     timer: Timer,
 ) -> Result<Before, AllocError>
     ensures deadline { IfOk result (λ before. before.deadline
@@ -86,7 +87,7 @@ fn put(
 /// Removes an invocation's old deadline from the index by time, unless it is also the new one.
 fn drop_stale(
     by_invocation: &BTreeMap<Invocation, u64>,
-    by_deadline: &mut BTreeSet<Timer>,
+    by_deadline: &mut Timers,
     invocation: Invocation,
     before: Option<u64>,
 )

@@ -5,6 +5,8 @@
 mod deadlines;
 mod index;
 mod timer;
+mod timers;
 
 pub use deadlines::Deadlines;
 pub use timer::{Invocation, Timer};
+pub use timers::Timers;

@@ -1,8 +1,10 @@
 use Rattle.std.proofs.Common.{◌≡◌, ℕ, true, false, cond, ◌||◌, Option, Some, IsSome, refl, ap, sym, ◌∙◌, subst}
 use Rattle.deadlines.specs.declared.timer.Timer.{Timer}
+use Rattle.deadlines.specs.Timers.{TimerSet}
 use Rattle.deadlines.specs.Index.{deadline_of, has, IsIndexBut, was}
 use Rattle.deadlines.proofs.KeyLemmas.{own_invocation}
 use Rattle.deadlines.proofs.IndexLemmas.{after_put, after_drop, taken_map, taken_index}
+use Rattle.deadlines.proofs.SetLemmas.{has_remove}
 use Rattle.deadlines.proofs.index.+put_each.Goals as goal
 
 pub returns-in_default-put_each-clause-index : goal.returns-in_default-put_each-clause-index
@@ -45,7 +47,7 @@ pub returns-then-is_new-clause-err_index : goal.returns-then-is_new-clause-err_i
 returns-then-is_new-clause-err_index n c =
     let new : c.in_ok-deadline.field-0.is_new ≡ true = c.if-is_new.true in
     taken_index c.first-item.result true (has c.args.by_deadline.now) (has c.put.new.by_deadline) (has c.put_each.new.by_deadline) (has c.remove.new.self)
-    (sym new ∙ c.in_ok-deadline.ensures.is_new) c.in_ok-deadline.ensures.index c.in-Err.ensures.err_index c.remove.ensures.updates.0
+    (sym new ∙ c.in_ok-deadline.ensures.is_new) c.in_ok-deadline.ensures.index c.in-Err.ensures.err_index (λ t. ap (λ (s : TimerSet). has s t) c.remove.ensures ∙ has_remove c.put_each.new.by_deadline _ t)
 
 pub returns-else-is_new-clause-err_index : goal.returns-else-is_new-clause-err_index
 returns-else-is_new-clause-err_index n c =

@@ -6,7 +6,8 @@ use Rattle.machine.specs.Outcome.{invoked}
 use Rattle.machine.specs.Turns.{invocation_of}
 use Rattle.csl.specs.Tables.{InvocationLists, invocations_at}
 use Rattle.csl.proofs.Places.{NoneHas}
-use Rattle.csl.proofs.Invoking.{in_use, memory_only, none_where_free, rising_with_one}
+use Rattle.csl.proofs.Standing.{in_use}
+use Rattle.csl.proofs.Invoking.{memory_only, none_where_free, rising_with_one}
 use Rattle.csl.proofs.invocations.Invocations.invoke.Goals as goal
 
 pub returns-then-is_some-clause-in_use : goal.returns-then-is_some-clause-in_use

@@ -1,45 +1,32 @@
-use Rattle.std.proofs.Common.{◌≡◌, ◌<◌, ◌≤◌, inl, inr, Bool, true, List, [], ◌∷◌, length, ap, sym, ◌∙◌, arith}
-use Rattle.std.proofs.lemmas.Bool.{cases_lt}
-use Rattle.std.specs.List.{list_any}
+use Rattle.std.proofs.Common.{Option, Some, None, ap, sym, ◌∙◌, ℕ}
+use Rattle.std.specs.Prelude.{IfSome, IfNone}
 use Rattle.std.specs.FinMap as map
 use Rattle.deadlines.specs.declared.timer.Invocation.{Invocation}
-use Rattle.deadlines.specs.Timers.{DeadlineMap}
+use Rattle.deadlines.specs.declared.timer.Timer.{Timer}
+use Rattle.deadlines.specs.Timers.{DeadlineMap, IsLeastOf, NoneDueOf}
 use Rattle.deadlines.proofs.Views.{get_view}
-use Rattle.deadlines.proofs.KeyLemmas.{invocation_total, not_less, earlier_less}
+use Rattle.deadlines.proofs.KeyLemmas.{invocation_total}
 use Rattle.deadlines.proofs.deadlines.Deadlines.least_timer.Goals as goal
 
-some_key : {K : Type 0} (p : K → Bool) (ks : List K) → list_any p ks ≡ true → 0 < length ks
-some_key p [] e = cc
-some_key p (k ∷ ks) e = omega arith
+-- the same timers, said in another way
+least_alike : (P Q : Timer → Type 0) (now : ℕ) (o : Option Timer) → ((t : Timer) → P t → Q t) → ((t : Timer) → Q t → P t)
+    → IfSome o (IsLeastOf P now) → IfSome o (IsLeastOf Q now)
+least_alike P Q now None to from h = tt
+least_alike P Q now (Some due) to from h = record { one = to due h.one; come = h.come; least = λ t q. h.least t (from t q) }
 
-pub returns-then-due-now-clause-due : goal.returns-then-due-now-clause-due
-returns-then-due-now-clause-due c =
-    let i = c.self.inside in
-    let due = c.in-Some.due.now in
-    let view = λ (k : Invocation). ap (λ (m : DeadlineMap). map.get m k) (sym c.self.view_is) ∙ get_view invocation_total i.by_invocation.entries k in
-    record {
-      set = view due.invocation ∙ c.self.invariant.only due c.in-Some.ensures.member;
-      come = c.if-due-now.true;
-      least = λ t e less. not_less due t (c.in-Some.ensures.least t (c.self.invariant.all t (sym (view t.invocation) ∙ e))) less;
-    }
+none_alike : (P Q : Timer → Type 0) (now : ℕ) (o : Option Timer) → ((t : Timer) → Q t → P t) → IfNone o (NoneDueOf P now) → IfNone o (NoneDueOf Q now)
+none_alike P Q now None from h = λ t q. h t (from t q)
+none_alike P Q now (Some due) from h = tt
 
-pub returns-else-due-now-clause-none : goal.returns-else-due-now-clause-none
-returns-else-due-now-clause-none c = λ t e.
-    let i = c.self.inside in
-    let due = c.in-Some.due.now in
-    let view = λ (k : Invocation). ap (λ (m : DeadlineMap). map.get m k) (sym c.self.view_is) ∙ get_view invocation_total i.by_invocation.entries k in
-    let here = c.self.invariant.all t (sym (view t.invocation) ∙ e) in
-    let late : due.deadline ≤ t.deadline = elim (cases_lt t.deadline due.deadline) [
-      | inl h ↦ absurd (not_less due t (c.in-Some.ensures.least t here) (earlier_less t due h))
-      | inr h ↦ h
-    ] in
-    omega (arith, late, c.if-due-now.false)
-
-pub returns-in_default-clause-none : goal.returns-in_default-clause-none
-returns-in_default-clause-none c = λ t e.
+pub returns-clause-due : goal.returns-clause-due
+returns-clause-due c =
     let i = c.self.inside in
     let view = λ (k : Invocation). ap (λ (m : DeadlineMap). map.get m k) (sym c.self.view_is) ∙ get_view invocation_total i.by_invocation.entries k in
-    let here = c.self.invariant.all t (sym (view t.invocation) ∙ e) in
-    let is_some = c.first.ensures.variant.1 (some_key _ i.by_deadline.keys here) in
-    let none = rw c.in_default.is at is_some in
-    cc
+    least_alike _ _ c.args.now c.least_due.result (λ t h. view t.invocation ∙ c.self.invariant.only t h)
+    (λ t e. c.self.invariant.all t (sym (view t.invocation) ∙ e)) c.least_due.ensures.due
+
+pub returns-clause-none : goal.returns-clause-none
+returns-clause-none c =
+    let i = c.self.inside in
+    let view = λ (k : Invocation). ap (λ (m : DeadlineMap). map.get m k) (sym c.self.view_is) ∙ get_view invocation_total i.by_invocation.entries k in
+    none_alike _ _ c.args.now c.least_due.result (λ t e. c.self.invariant.all t (sym (view t.invocation) ∙ e)) c.least_due.ensures.none
