@@ -13,7 +13,7 @@ use Rattle.deadlines.specs.declared.timer.Timer.{Timer}
 use Rattle.deadlines.specs.Timers.{TimerSet}
 use Rattle.deadlines.specs.Index.{has, is_timer}
 use Rattle.deadlines.proofs.SetLemmas.{has_remove}
-use Rattle.csl.specs.Tables.{HaveTimers, InvocationLists, has_timer, invocations_at, is_only, is_timed, put_list, timer_at}
+use Rattle.csl.specs.Tables.{HaveTimers, InvocationLists, has_timer, invocations_at, is_of, is_only, is_timed, put_list, timer_at}
 use Rattle.csl.proofs.Places.{NoneHas}
 use Rattle.csl.proofs.Putting.{at-put_list, is_its, same_id}
 
@@ -73,113 +73,128 @@ first_of vs own l e = by vs l e ∙ ap (λ us. own ∷ us) (sym (take_rest vs 1)
     by [] l e = absurd (omega (arith, l))
     by (v ∷ us) l e = ap (λ u. u ∷ us) (sym e)
 
-module _ (id : List ℕ) (own : Invocation) (rest others : List Invocation) (t : Timer) where
-  same_others : (b : Bool) → has_timer others own.id own.deadline ≡ b → is_timed t.invocation.invoke t.deadline own ≡ true
-      → has_timer others t.invocation.invoke t.deadline ≡ b
-  same_others b e q = sym (ap (λ j. has_timer others j own.deadline) (timed_id t.invocation.invoke t.deadline own q)
-      ∙ ap (has_timer others t.invocation.invoke) (timed_deadline t.invocation.invoke t.deadline own q)) ∙ e
-
-  pub only_kept : has_timer others own.id own.deadline ≡ true → is_only id (own ∷ rest) others t ≡ is_only id rest others t
-  only_kept stays = ap (λ b. is_its id t.invocation.id && b)
-      (by (is_timed t.invocation.invoke t.deadline own) refl (has_timer rest t.invocation.invoke t.deadline))
+module _ (id : List ℕ) (own : Invocation) (rest : List Invocation) (t : Timer) where
+  pub of_more : (o : Bool) → cond (is_of id (own ∷ rest) t) true o ≡ cond (is_of id rest t) true (cond (is_timer (timer_at id own) t) true o)
+  of_more o =
+      at (is_its id t.invocation.id) (is_timed t.invocation.invoke t.deadline own) (has_timer rest t.invocation.invoke t.deadline)
+      ∙ ap (λ b. cond (is_of id rest t) true (cond b true o)) (sym (timer_is id own t))
     where
-      by : (b : Bool) → is_timed t.invocation.invoke t.deadline own ≡ b → (r : Bool)
-          → ((b || r) && not (has_timer others t.invocation.invoke t.deadline)) ≡ (r && not (has_timer others t.invocation.invoke t.deadline))
-      by true q true = refl
-      by true q false = ap not (same_others true stays q)
-      by false q r = refl
+      at : (i b r : Bool) → cond (i && (b || r)) true o ≡ cond (i && r) true (cond (i && b) true o)
+      at false b r = refl
+      at true true true = refl
+      at true true false = refl
+      at true false r = refl
 
-  pub only_more : (x o : Bool) → has_timer others own.id own.deadline ≡ false
-      → cond (is_only id (own ∷ rest) others t) x o ≡ cond (is_only id rest others t) x (cond (is_timer (timer_at id own) t) x o)
-  only_more x o goes =
-      at (is_its id t.invocation.id) (is_timed t.invocation.invoke t.deadline own) refl (has_timer rest t.invocation.invoke t.deadline)
-      ∙ ap (λ b. cond (is_only id rest others t) x (cond b x o)) (sym (timer_is id own t))
-    where
-      other : Bool
-      other = has_timer others t.invocation.invoke t.deadline
+  module _ (others : List Invocation) where
+    abbrev other : Bool
+    other = has_timer others t.invocation.invoke t.deadline
 
-      none : (b : Bool) → x ≡ cond b x x
-      none true = refl
-      none false = refl
+    same_others : (b : Bool) → has_timer others own.id own.deadline ≡ b → is_timed t.invocation.invoke t.deadline own ≡ true → other ≡ b
+    same_others b e q = sym (ap (λ j. has_timer others j own.deadline) (timed_id t.invocation.invoke t.deadline own q)
+        ∙ ap (has_timer others t.invocation.invoke) (timed_deadline t.invocation.invoke t.deadline own q)) ∙ e
 
-      at : (i b : Bool) → is_timed t.invocation.invoke t.deadline own ≡ b → (r : Bool)
-          → cond (i && ((b || r) && not other)) x o ≡ cond (i && (r && not other)) x (cond (i && b) x o)
-      at false b q r = refl
-      at true true q r = ap (λ h. cond (not h) x o) (same_others false goes q) ∙ none (r && not other)
-      at true false q r = refl
+    pub only_kept : has_timer others own.id own.deadline ≡ true → is_only id (own ∷ rest) others t ≡ is_only id rest others t
+    only_kept stays =
+        by (is_its id t.invocation.id) (is_timed t.invocation.invoke t.deadline own) refl (has_timer rest t.invocation.invoke t.deadline)
+      where
+        by : (i b : Bool) → is_timed t.invocation.invoke t.deadline own ≡ b → (r : Bool)
+            → ((i && (b || r)) && not other) ≡ ((i && r) && not other)
+        by false b q r = refl
+        by true true q true = refl
+        by true true q false = ap not (same_others true stays q)
+        by true false q r = refl
+
+    pub only_more : (o : Bool) → has_timer others own.id own.deadline ≡ false
+        → cond (is_only id (own ∷ rest) others t) false o ≡ cond (is_only id rest others t) false (cond (is_timer (timer_at id own) t) false o)
+    only_more o goes =
+        at (is_its id t.invocation.id) (is_timed t.invocation.invoke t.deadline own) refl (has_timer rest t.invocation.invoke t.deadline)
+        ∙ ap (λ b. cond (is_only id rest others t) false (cond b false o)) (sym (timer_is id own t))
+      where
+        none : (b : Bool) → false ≡ cond b false false
+        none true = refl
+        none false = refl
+
+        at : (i b : Bool) → is_timed t.invocation.invoke t.deadline own ≡ b → (r : Bool)
+            → cond ((i && (b || r)) && not other) false o ≡ cond ((i && r) && not other) false (cond (i && b) false o)
+        at false b q r = refl
+        at true true q r = ap (λ h. cond (not h) false o) (same_others false goes q) ∙ none (r && not other)
+        at true false q r = refl
 
 -- ---- the timers of a dialogue are replaced
 
+-- whether one of these has the timer
+abbrev among : Timer → List Invocation → Bool
+among t vs = has_timer vs t.invocation.invoke t.deadline
+
 module _ (lists : InvocationLists) (d : TimerSet) (id : List ℕ) (have : HaveTimers lists d) where
-  had : (t : Timer) → is_its id t.invocation.id ≡ true → has d t ≡ has_timer (invocations_at lists id) t.invocation.invoke t.deadline
-  had t its = have t ∙ ap (λ i. has_timer (invocations_at lists i) t.invocation.invoke t.deadline) (sym (same_id id t.invocation.id its))
+  had : (t : Timer) → is_its id t.invocation.id ≡ true → has d t ≡ among t (invocations_at lists id)
+  had t its = have t ∙ ap (λ i. among t (invocations_at lists i)) (sym (same_id id t.invocation.id its))
 
   -- the timers of this dialogue are those of this list, the others stay
   have_put : (new : InvocationLists) (list : List Invocation) (d' : TimerSet) → new ≡ put_list lists id list
-      → ((t : Timer) → is_its id t.invocation.id ≡ true → has d' t ≡ has_timer list t.invocation.invoke t.deadline)
+      → ((t : Timer) → is_its id t.invocation.id ≡ true → has d' t ≡ among t list)
       → ((t : Timer) → is_its id t.invocation.id ≡ false → has d' t ≡ has d t) → HaveTimers new d'
   have_put new list d' is own other t = by (is_its id t.invocation.id) refl
-      ∙ ap (λ vs. has_timer vs t.invocation.invoke t.deadline)
-      (sym (ap (λ (l : InvocationLists). invocations_at l t.invocation.id) is ∙ at-put_list lists id list t.invocation.id))
+      ∙ ap (among t) (sym (ap (λ (l : InvocationLists). invocations_at l t.invocation.id) is ∙ at-put_list lists id list t.invocation.id))
     where
-      by : (b : Bool) → is_its id t.invocation.id ≡ b → has d' t ≡ has_timer (cond b list (invocations_at lists t.invocation.id)) t.invocation.invoke t.deadline
+      by : (b : Bool) → is_its id t.invocation.id ≡ b → has d' t ≡ among t (cond b list (invocations_at lists t.invocation.id))
       by true e = own t e
       by false e = other t e ∙ have t
 
-  module _ (list : List Invocation) (d₁ d₂ : TimerSet)
-      (inserted : (t : Timer) → has d₁ t ≡ cond (is_only id list (invocations_at lists id) t) true (has d t))
-      (removed : (t : Timer) → has d₂ t ≡ cond (is_only id (invocations_at lists id) list t) false (has d₁ t)) where
-    replaced_own : (t : Timer) → is_its id t.invocation.id ≡ true → has d₂ t ≡ has_timer list t.invocation.invoke t.deadline
-    replaced_own t e =
-        removed t ∙ ap (cond (is_only id (invocations_at lists id) list t) false) (inserted t ∙ ap (cond (is_only id list (invocations_at lists id) t) true) (had t e))
-        ∙ ap (λ b. cond (b && (w && not l)) false (cond (b && (l && not w)) true w)) e ∙ pick w l
+  module _ (list : List Invocation) (d₁ : TimerSet) (inserted : (t : Timer) → has d₁ t ≡ cond (is_of id list t) true (has d t)) where
+    inserted_own : (t : Timer) → is_its id t.invocation.id ≡ true → has d₁ t ≡ cond (among t list) true (among t (invocations_at lists id))
+    inserted_own t e = inserted t ∙ ap (λ b. cond (b && among t list) true (has d t)) e ∙ ap (cond (among t list) true) (had t e)
+
+    inserted_other : (t : Timer) → is_its id t.invocation.id ≡ false → has d₁ t ≡ has d t
+    inserted_other t e = inserted t ∙ ap (λ b. cond (b && among t list) true (has d t)) e
+
+    -- the dialogue had none
+    pub have_first : invocations_at lists id ≡ [] → (new : InvocationLists) → new ≡ put_list lists id list → HaveTimers new d₁
+    have_first none new is = have_put new list d₁ is
+        (λ t e. inserted_own t e ∙ ap (λ vs. cond (among t list) true (among t vs)) none ∙ either (among t list)) inserted_other
       where
-        w : Bool
-        w = has_timer (invocations_at lists id) t.invocation.invoke t.deadline
+        either : (b : Bool) → cond b true false ≡ b
+        either true = refl
+        either false = refl
 
-        l : Bool
-        l = has_timer list t.invocation.invoke t.deadline
+    -- those that only the old list had are removed
+    pub have_replaced : (new : InvocationLists) (d₂ : TimerSet) → new ≡ put_list lists id list
+        → ((t : Timer) → has d₂ t ≡ cond (is_only id (invocations_at lists id) list t) false (has d₁ t)) → HaveTimers new d₂
+    have_replaced new d₂ is removed = have_put new list d₂ is
+        (λ t e. removed t ∙ ap (λ b. cond ((b && w t) && not (among t list)) false (has d₁ t)) e
+        ∙ ap (cond (w t && not (among t list)) false) (inserted_own t e) ∙ pick (w t) (among t list))
+        (λ t e. removed t ∙ ap (λ b. cond ((b && w t) && not (among t list)) false (has d₁ t)) e ∙ inserted_other t e)
+      where
+        w : Timer → Bool
+        w t = among t (invocations_at lists id)
 
-        pick : (a b : Bool) → cond (a && not b) false (cond (b && not a) true a) ≡ b
+        pick : (a b : Bool) → cond (a && not b) false (cond b true a) ≡ b
         pick true true = refl
         pick true false = refl
         pick false true = refl
         pick false false = refl
 
-    replaced_other : (t : Timer) → is_its id t.invocation.id ≡ false → has d₂ t ≡ has d t
-    replaced_other t e =
-        removed t ∙ ap (cond (is_only id (invocations_at lists id) list t) false) (inserted t)
-        ∙ ap (λ b. cond (b && (w && not l)) false (cond (b && (l && not w)) true (has d t))) e
-      where
-        w : Bool
-        w = has_timer (invocations_at lists id) t.invocation.invoke t.deadline
-
-        l : Bool
-        l = has_timer list t.invocation.invoke t.deadline
-
-    pub have_replaced : (new : InvocationLists) → new ≡ put_list lists id list → HaveTimers new d₂
-    have_replaced new is = have_put new list d₂ is replaced_own replaced_other
-
-    -- and undone, if the dialogue had none
-    pub have_taken_back : (new : InvocationLists) (d₃ : TimerSet) → new ≡ lists → invocations_at lists id ≡ []
-        → ((t : Timer) → has d₃ t ≡ cond (is_only id list [] t) false (has d₂ t)) → HaveTimers new d₃
-    have_taken_back new d₃ same none back t =
+    -- the new list was refused, and the dialogue had none
+    pub have_taken_back : (new : InvocationLists) (d₂ : TimerSet) → new ≡ lists → invocations_at lists id ≡ []
+        → ((t : Timer) → has d₂ t ≡ cond (is_only id list [] t) false (has d₁ t)) → HaveTimers new d₂
+    have_taken_back new d₂ same none back t =
         back t ∙ by (is_its id t.invocation.id) refl ∙ have t
-        ∙ ap (λ (l : InvocationLists). has_timer (invocations_at l t.invocation.id) t.invocation.invoke t.deadline) (sym same)
+        ∙ ap (λ (l : InvocationLists). among t (invocations_at l t.invocation.id)) (sym same)
       where
-        gone : (b : Bool) → cond (b && true) false b ≡ false
+        gone : (b : Bool) → cond (b && true) false (cond b true false) ≡ false
         gone true = refl
         gone false = refl
 
-        by : (b : Bool) → is_its id t.invocation.id ≡ b → cond (b && (has_timer list t.invocation.invoke t.deadline && true)) false (has d₂ t) ≡ has d t
-        by true e = ap (cond (has_timer list t.invocation.invoke t.deadline && true) false) (replaced_own t e) ∙ gone (has_timer list t.invocation.invoke t.deadline)
-            ∙ sym (had t e ∙ ap (λ vs. has_timer vs t.invocation.invoke t.deadline) none)
-        by false e = replaced_other t e
+        by : (b : Bool) → is_its id t.invocation.id ≡ b → cond ((b && among t list) && true) false (has d₁ t) ≡ has d t
+        by true e = ap (cond (among t list && true) false)
+            (inserted_own t e ∙ ap (λ vs. cond (among t list) true (among t vs)) none)
+            ∙ gone (among t list) ∙ sym (had t e ∙ ap (among t) none)
+        by false e = inserted_other t e
 
   -- they are removed
 
   pub have_none : invocations_at lists id ≡ [] → (new : InvocationLists) → new ≡ put_list lists id [] → HaveTimers new d
-  have_none none new is = have_put new [] d is (λ t e. had t e ∙ ap (λ vs. has_timer vs t.invocation.invoke t.deadline) none) (λ t e. refl)
+  have_none none new is = have_put new [] d is (λ t e. had t e ∙ ap (among t) none) (λ t e. refl)
 
   pub have_forgotten : (d' : TimerSet) → ((t : Timer) → has d' t ≡ cond (is_only id (invocations_at lists id) [] t) false (has d t))
       → (new : InvocationLists) → new ≡ put_list lists id [] → HaveTimers new d'
@@ -190,12 +205,11 @@ module _ (lists : InvocationLists) (d : TimerSet) (id : List ℕ) (have : HaveTi
       none false = refl
 
       own : (t : Timer) → is_its id t.invocation.id ≡ true → has d' t ≡ false
-      own t e = gone t ∙ ap (λ b. cond (b && (has_timer (invocations_at lists id) t.invocation.invoke t.deadline && true)) false (has d t)) e
-          ∙ ap (cond (has_timer (invocations_at lists id) t.invocation.invoke t.deadline && true) false) (had t e)
-          ∙ none (has_timer (invocations_at lists id) t.invocation.invoke t.deadline)
+      own t e = gone t ∙ ap (λ b. cond ((b && among t (invocations_at lists id)) && true) false (has d t)) e
+          ∙ ap (cond (among t (invocations_at lists id) && true) false) (had t e) ∙ none (among t (invocations_at lists id))
 
       other : (t : Timer) → is_its id t.invocation.id ≡ false → has d' t ≡ has d t
-      other t e = gone t ∙ ap (λ b. cond (b && (has_timer (invocations_at lists id) t.invocation.invoke t.deadline && true)) false (has d t)) e
+      other t e = gone t ∙ ap (λ b. cond ((b && among t (invocations_at lists id)) && true) false (has d t)) e
 
 -- ---- one invocation
 
@@ -214,11 +228,14 @@ timer_stands j (u ∷ us) v e = by (int_eq u.id j) e (timer_stands j us v)
 
     by : (b : Bool) → cond b (Some u) (invocation_of j us) ≡ Some v → (invocation_of j us ≡ Some v → has_timer us j v.deadline ≡ true)
         → ((b && (u.deadline == v.deadline)) || has_timer us j v.deadline) ≡ true
-    by true q rest = let same : u ≡ v = cc in ap (λ b. b || has_timer us j v.deadline) (nat_same u.deadline v.deadline (ap (λ (w : Invocation). w.deadline) same))
+    by true q rest =
+        let same : u ≡ v = cc in
+        ap (λ b. b || has_timer us j v.deadline) (nat_same u.deadline v.deadline (ap (λ (w : Invocation). w.deadline) same))
     by false q rest = rest q
 
 -- and it has no other
-pub timer_of_it : (j : ℤ) (d : ℕ) (vs : List Invocation) (v : Invocation) → IsMap vs → invocation_of j vs ≡ Some v → has_timer vs j d ≡ true → v.deadline ≡ d
+pub timer_of_it : (j : ℤ) (d : ℕ) (vs : List Invocation) (v : Invocation) → IsMap vs → invocation_of j vs ≡ Some v
+    → has_timer vs j d ≡ true → v.deadline ≡ d
 timer_of_it j d [] v m e h = cc
 timer_of_it j d (u ∷ us) v m e h = by (int_eq u.id j) refl e h (timer_of_it j d us v m.1)
   where
@@ -249,7 +266,8 @@ stands_id : (j : ℤ) (vs : List Invocation) (own : Invocation) → invocation_o
 stands_id j [] own e = cc
 stands_id j (v ∷ vs) own e = by (int_eq v.id j) refl e (stands_id j vs own)
   where
-    by : (b : Bool) → int_eq v.id j ≡ b → cond b (Some v) (invocation_of j vs) ≡ Some own → (invocation_of j vs ≡ Some own → own.id ≡ j) → own.id ≡ j
+    by : (b : Bool) → int_eq v.id j ≡ b → cond b (Some v) (invocation_of j vs) ≡ Some own
+        → (invocation_of j vs ≡ Some own → own.id ≡ j) → own.id ≡ j
     by true q s rest = let same : v ≡ own = cc in sym (ap (λ (u : Invocation). u.id) same) ∙ int_is v.id j q
     by false q s rest = rest s
 
@@ -274,13 +292,16 @@ timer_without j i d (v ∷ vs) own m e = by (int_eq v.id j) refl e (timer_withou
     by : (b : Bool) → int_eq v.id j ≡ b → cond b (Some v) (invocation_of j vs) ≡ Some own
         → (invocation_of j vs ≡ Some own → has_timer (without j vs) i d ≡ cond (is_timed i d own) false (has_timer vs i d))
         → has_timer (cond b vs (v ∷ without j vs)) i d ≡ cond (is_timed i d own) false (has_timer (v ∷ vs) i d)
-    by true q s rest = let same : v ≡ own = cc in first (is_timed i d v) refl ∙ ap (λ (u : Invocation). cond (is_timed i d u) false (has_timer (v ∷ vs) i d)) same
+    by true q s rest =
+        let same : v ≡ own = cc in
+        first (is_timed i d v) refl ∙ ap (λ (u : Invocation). cond (is_timed i d u) false (has_timer (v ∷ vs) i d)) same
     by false q s rest = ap (λ b. is_timed i d v || b) (rest s)
         ∙ later (is_timed i d own) (is_timed i d v) refl q refl (stands_id j vs own s)
 
 module _ (lists : InvocationLists) (d : TimerSet) (id : List ℕ) (have : HaveTimers lists d) (j : ℤ) where
-  pub have_one_less : (own : Invocation) (d' : TimerSet) → IsMap (invocations_at lists id) → invocation_of j (invocations_at lists id) ≡ Some own
-      → d' ≡ set.remove d (timer_at id own) → (new : InvocationLists) → new ≡ put_list lists id (without j (invocations_at lists id)) → HaveTimers new d'
+  pub have_one_less : (own : Invocation) (d' : TimerSet) → IsMap (invocations_at lists id)
+      → invocation_of j (invocations_at lists id) ≡ Some own → d' ≡ set.remove d (timer_at id own)
+      → (new : InvocationLists) → new ≡ put_list lists id (without j (invocations_at lists id)) → HaveTimers new d'
   have_one_less own d' m stands gone new is = have_put lists d id have new (without j (invocations_at lists id)) d' is
       (λ t e. removed t ∙ ap (λ b. cond (b && is_timed t.invocation.invoke t.deadline own) false (has d t)) e
       ∙ ap (cond (is_timed t.invocation.invoke t.deadline own) false) (had lists d id have t e)
@@ -293,4 +314,4 @@ module _ (lists : InvocationLists) (d : TimerSet) (id : List ℕ) (have : HaveTi
   pub have_as_many : (new : InvocationLists) → invocation_of j (invocations_at lists id) ≡ None
       → new ≡ put_list lists id (without j (invocations_at lists id)) → HaveTimers new d
   have_as_many new none is = have_put lists d id have new (without j (invocations_at lists id)) d is
-      (λ t e. had lists d id have t e ∙ ap (λ vs. has_timer vs t.invocation.invoke t.deadline) (without_absent j (invocations_at lists id) none)) (λ t e. refl)
+      (λ t e. had lists d id have t e ∙ ap (among t) (without_absent j (invocations_at lists id) none)) (λ t e. refl)

@@ -14,7 +14,6 @@ use Rattle.machine.specs.Outcome.{below, invoked}
 use Rattle.deadlines.specs.declared.timer.Timer.{Timer}
 use Rattle.deadlines.specs.Timers.{TimerSet, timer_of}
 use Rattle.deadlines.specs.Index.{has}
-use Rattle.csl.specs.Endings.{has_id}
 
 -- The lists of the dialogues that have an invocation.
 abbrev pub InvocationLists : Type 0
@@ -60,14 +59,13 @@ has_timer vs id deadline = list_any (is_timed id deadline) vs
 abbrev pub HaveTimers : InvocationLists → TimerSet → Type 0
 HaveTimers lists timers = (t : Timer) → has timers t ≡ has_timer (invocations_at lists t.invocation.id) t.invocation.invoke t.deadline
 
--- Whether it is the timer of one of these invocations of the dialogue, and of none of those others.
-abbrev pub is_only : List ℕ → (these others : List Invocation) → Timer → Bool
-is_only id these others t = is_at (octets_cmp id) t.invocation.id
-    && (has_timer these t.invocation.invoke t.deadline && not (has_timer others t.invocation.invoke t.deadline))
+-- Whether it is the timer of one of these invocations of the dialogue.
+abbrev pub is_of : List ℕ → List Invocation → Timer → Bool
+is_of id these t = is_at (octets_cmp id) t.invocation.id && has_timer these t.invocation.invoke t.deadline
 
--- Whether a list has an invocation with this id.
-abbrev pub has_one : ℤ → List Invocation → Bool
-has_one id vs = list_any (has_id id) vs
+-- And of none of those others.
+abbrev pub is_only : List ℕ → (these others : List Invocation) → Timer → Bool
+is_only id these others t = is_of id these t && not (has_timer others t.invocation.invoke t.deadline)
 
 -- ---- what is stored
 

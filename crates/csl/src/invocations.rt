@@ -234,13 +234,17 @@ impl Invocations {
         ensures ok { OnOk result (self.new ≡ put_list self.old id list.items) }
         ensures err { OnErr result (self.new ≡ self.old) }
     {
-        let were = self.lists.at(id);
-        insert_timers(&mut self.timers, id, &list, were)?;
-        remove_timers(&mut self.timers, id, were, &list);
-        let Err(refused) = self.lists.put(id, list) else {
-            return Ok(());
-        };
-        remove_timers(&mut self.timers, id, &refused, &[]);
-        Err(AllocError)
+        insert_timers(&mut self.timers, id, &list)?;
+        match self.lists.put(id, list) {
+            Ok(None) => Ok(()),
+            Ok(Some(were)) => {
+                remove_timers(&mut self.timers, id, &were, self.lists.at(id));
+                Ok(())
+            }
+            Err(refused) => {
+                remove_timers(&mut self.timers, id, &refused, &[]);
+                Err(AllocError)
+            }
+        }
     }
 }

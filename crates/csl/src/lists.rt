@@ -53,22 +53,29 @@ impl Lists {
         }
     }
 
-    /// Makes these the invocations of a dialogue. If it has some already, this does not allocate. A refused list comes back.
-    pub(crate) fn put(&mut self, id: Tid, list: Vec<Invocation>) -> Result<(), Vec<Invocation>>
+    /// Makes these the invocations of a dialogue, and returns those that it had. If it had some, this does not allocate. A
+    /// refused list comes back.
+    pub(crate) fn put(
+        &mut self,
+        id: Tid,
+        list: Vec<Invocation>,
+    ) -> Result<Option<Vec<Invocation>>, Vec<Invocation>>
         requires { AreRising list.items }
         ensures ok { OnOk result (self.new ≡ put_list self.old id list.items) }
+        ensures were { IfOk result (λ old. IfSome old (λ were. were.items
+            ≡ invocations_at self.old id)) }
+        ensures first { IfOk result (λ old. IfNone old (invocations_at self.old id ≡ [])) }
         ensures refused { IfErr result (λ refused. refused.items ≡ list.items) }
         ensures none { OnErr result (invocations_at self.old id ≡ []) }
         ensures err { OnErr result (self.new ≡ self.old) }
     {
         if list.is_empty() {
-            self.by_dialogue.remove(&id);
-            return Ok(());
+            return Ok(self.by_dialogue.remove(&id));
         }
-        let Err(refused) = self.by_dialogue.insert(id, list) else {
-            return Ok(());
-        };
-        Err(refused.value.1)
+        match self.by_dialogue.insert(id, list) {
+            Ok(were) => Ok(were),
+            Err(refused) => Err(refused.value.1),
+        }
     }
 
     /// Removes the invocations of a dialogue, if it has some.

@@ -1,6 +1,7 @@
 -- The lines of sent frames, one frame more.
 use Rattle.std.proofs.Common.{◌≡◌, ℕ, ◌+◌, ◌<◌, List, [], ◌∷◌, ◌++◌, map, length, take, get_or, refl, sym, ap, ◌∙◌, append_assoc}
 use Rattle.std.proofs.lemmas.List.{append-nil, take_more, map-append}
+use Rattle.std.specs.Arc.{arc_slice_items}
 use Rattle.frames.specs.Octets.{RawOut}
 use Rattle.shard_state.specs.declared.answer.Out.{Out}
 use Rattle.shard_state.specs.Answers.{raw_out}
@@ -26,15 +27,15 @@ one_more frames i frame lt is =
 
 pub lines_more : (frames : List Out) (i : ℕ) (frame : Out) (before after : List ℕ) → i < length frames → frame ≡ get_or frames i frame
     → before ≡ sent_lines (map raw_out (take i frames))
-    → after ≡ before ++ sent_line frame.to frame.octets.items → after ≡ sent_lines (map raw_out (take (i + 1) frames))
+    → after ≡ before ++ sent_line frame.to (arc_slice_items frame.octets) → after ≡ sent_lines (map raw_out (take (i + 1) frames))
 lines_more frames i frame before after lt is so_far more =
     let sent : List RawOut = map raw_out (take i frames) in
-    more ∙ ap (λ (t : List ℕ). t ++ sent_line frame.to frame.octets.items) so_far ∙ sym (sent_lines-push sent (raw_out frame))
+    more ∙ ap (λ (t : List ℕ). t ++ sent_line frame.to (arc_slice_items frame.octets)) so_far ∙ sym (sent_lines-push sent (raw_out frame))
     ∙ sym (ap sent_lines (one_more frames i frame lt is))
 
 pub noted_more : (ids before after : List (List ℕ)) (frames : List Out) (i : ℕ) (frame : Out) → i < length frames → frame ≡ get_or frames i frame
     → before ≡ noted_in ids (map raw_out (take i frames))
-    → after ≡ noted before (originating_id frame.octets.items) → after ≡ noted_in ids (map raw_out (take (i + 1) frames))
+    → after ≡ noted before (originating_id (arc_slice_items frame.octets)) → after ≡ noted_in ids (map raw_out (take (i + 1) frames))
 noted_more ids before after frames i frame lt is so_far more =
-    more ∙ ap (λ (x : List (List ℕ)). noted x (originating_id frame.octets.items)) so_far
+    more ∙ ap (λ (x : List (List ℕ)). noted x (originating_id (arc_slice_items frame.octets))) so_far
     ∙ sym (noted_in-push ids (map raw_out (take i frames)) (raw_out frame)) ∙ sym (ap (noted_in ids) (one_more frames i frame lt is))

@@ -2,12 +2,14 @@
 
 ghost use Rattle.std.specs.Prelude.{◌≡◌, ◌++◌, ◌∷◌, [], map, IfOk, IfErr, OnOk};
 ghost use Rattle.shard_state.specs.Answers.{raw_out};
+ghost use Rattle.std.specs.Arc.{arc_slice_items};
 ghost use Rattle.std.specs.Io.KnownBytes.{Appends};
 ghost use Rattle.hlr_program.specs.Printed.{WritesFront, sent_line, sent_lines, noted_in};
 ghost use Rattle.hlr_program.specs.Statuses.{message_of};
 
 use crate::fault::Fault;
 use arrayvec::ArrayString;
+use bumpalo::Bump;
 use hex::encode_upper;
 use hlr_input::Letters;
 use hlrcore::Out;
@@ -21,6 +23,9 @@ const MAX_TOLD: usize = 64;
 /// The most octets of a sent frame's line beside the octets of the frame: `S`, an address of 16 digits, two spaces, the line feed.
 const MAX_HEAD: usize = 20;
 
+/// Room for the digits of all frames but long ones; of these the arena makes more.
+const DIGITS: usize = 1024;
+
 /// The lines of the frames that a batch has sent; the local ids in them are recorded. Nothing is printed yet, so that a batch with
 /// a fault prints nothing.
 pub fn lines_of(alloc: Global, sent: &[Out], letters: &mut Letters) -> Result<Vec<u8>, AllocError>
@@ -28,9 +33,12 @@ pub fn lines_of(alloc: Global, sent: &[Out], letters: &mut Letters) -> Result<Ve
     ensures noted { OnOk result (letters.new ≡ noted_in letters.old (map raw_out sent.now)) }
 {
     let mut text = Vec::with_capacity(alloc, room_for(sent))?;
+    let mut digits = Bump::try_with_capacity(alloc, DIGITS)?;
     for frame in sent {
-        push_sent(alloc, &mut text, frame)?;
+        push_sent(&digits, &mut text, frame)?;
         letters.note(&frame.octets)?;
+        // Where it is refused, the digits of the frame stay, and the next ones stand behind them.
+        let _is_reset = digits.reset();
     }
     Ok(text)
 }
@@ -74,12 +82,12 @@ pub fn tell<W: Write>(fault: Fault, err: &mut W)
     }
 }
 
-/// Appends the line of a sent frame: `S`, the address, and the octets in upper case.
-pub fn push_sent(alloc: Global, text: &mut Vec<u8>, sent: &Out) -> Result<(), AllocError>
+/// Appends the line of a sent frame: `S`, the address, and the octets in upper case, whose digits are made in the arena.
+pub fn push_sent(digits: &Bump, text: &mut Vec<u8>, sent: &Out) -> Result<(), AllocError>
     ensures { OnOk result (text.new.items
-        ≡ text.old.items ++ sent_line sent.now.to sent.now.octets.items) }
+        ≡ text.old.items ++ sent_line sent.now.to (arc_slice_items sent.now.octets)) }
 {
-    let octets = encode_upper(alloc, sent.octets.as_slice())?;
+    let octets = encode_upper(digits, sent.octets.as_slice())?;
     text.extend_from_slice(b"S ")?;
     text.extend_from_slice(sent.to.digits().text().as_slice())?;
     text.push(b' ')?;

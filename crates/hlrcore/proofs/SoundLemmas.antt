@@ -14,7 +14,8 @@ use Rattle.records.proofs.MapLemmas.{digits_exact}
 use Rattle.records.specs.Subscriber.{Subscriber}
 use Rattle.hlr_types.specs.declared.register.Register.{Register}
 use Rattle.smroute.specs.Seen.{machine_register, machine_subscriber}
-use Rattle.frames.specs.Octets.{RawEvent, IsRouted}
+use Rattle.machine.specs.Events.{Expire}
+use Rattle.frames.specs.Octets.{RawEvent, RawExpire, IsRouted}
 use Rattle.frames.specs.OctetJournals.{LegalOctets}
 use Rattle.frames_laws.proofs.OctetLaws.{octets_push}
 use Rattle.shard_state.specs.declared.answer.StepAnswer.{StepAnswer}
@@ -93,6 +94,11 @@ step_keeps s t raw a is routed leads same =
       sound = after.legal.after_sound;
       own = subst (λ k. state_of t ≡ part (state_of t) k) (sym same.shard) after.legal.after_part;
     }
+
+-- an expiry names its shard
+pub expiry_is_routed : {E : Type 0} (s : ShardState) (r : Result StepAnswer E) → OnOk r (IsRouted (directory_of s.directory) (RawExpire s.shard) s.shard)
+expiry_is_routed s (Ok a) = (Expire s.shard, refl, refl)
+expiry_is_routed s (Err e) = tt
 
 -- whether the event is handled or not
 pub sound_after : {E : Type 0} (r : Result StepAnswer E) (s t : ShardState) (raw : RawEvent) → IsSoundShard s → IfOk r (λ a. Leads s raw a t)

@@ -11,6 +11,7 @@ use hlr_types::{Imsi, Peer, RemoteId};
 use location::{SentMessage, Why, octets_of};
 use shard_state::{Frames, Out, OutList, StepAnswer};
 use std::alloc::{AllocError, Global};
+use std::sync::ArcSlice;
 
 /// Nothing is sent.
 pub(crate) fn silent() -> StepAnswer
@@ -52,5 +53,6 @@ fn one_out(alloc: Global, to: Peer, message: &SentMessage) -> Result<Frames, All
     let Ok(octets) = octets_of(alloc, message) else {
         return Err(AllocError);
     };
+    let octets = ArcSlice::from_vec(octets)?;
     Frames::of(alloc, OutList::one(Out { to, octets }))
 }

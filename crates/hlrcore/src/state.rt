@@ -2,7 +2,7 @@
 
 ghost use Rattle.std.specs.Prelude.{◌≡◌, ◌≢◌, ◌<◌, ◌↔◌, IfOk, OnOk, OnErr, Err, IsTrue};
 ghost use Rattle.std.specs.Arc.{arc_value};
-ghost use Rattle.frames.specs.Octets.{IsRouted};
+ghost use Rattle.frames.specs.Octets.{IsRouted, RawExpire};
 ghost use Rattle.machine.specs.Opening.{opening};
 ghost use Rattle.machine.specs.Parts.{part};
 ghost use Rattle.machine.specs.Routing.{route as shard_for};
@@ -156,6 +156,18 @@ impl State {
         ensures same_shard { IsSameShard self.old self.new }
     {
         self.stepper.step(event)
+    }
+
+    /// Handles the expiry of the least timer that is due, if any, as `step` does for such an event of this shard. On error nothing
+    /// changes.
+    pub fn expire(&mut self) -> Result<StepAnswer, AllocError>
+        // It is a step of the machine over octets.
+        ensures stepped { IfOk result (λ a. Leads self.old
+            (RawExpire self.old.shard) a self.new) }
+        ensures err { OnErr result (self.new ≡ self.old) }
+        ensures same_shard { IsSameShard self.old self.new }
+    {
+        self.stepper.expire()
     }
 
     /// An equal copy.

@@ -20,7 +20,7 @@ use crate::stepper::Stepper;
 use hlr_types::Imsi;
 use shard_state::{Plan, StepAnswer};
 use std::alloc::AllocError;
-use turns::{plan_codes, plan_expiry, plan_withdrawal};
+use turns::{nothing_is_due, plan_codes, plan_expiry, plan_withdrawal};
 
 impl Stepper {
     /// Handles one event, as `State::step` says.
@@ -52,7 +52,21 @@ impl Stepper {
     }
 
     /// Handles the expiry of the least timer that is due, if any.
-    fn expire(&mut self) -> Result<StepAnswer, AllocError>
+    pub(crate) fn expire(&mut self) -> Result<StepAnswer, AllocError>
+        ensures expired { IfOk result (λ a. Leads self.old (RawExpire self.old.shard) a self.new) }
+        ensures err { OnErr result (self.new ≡ self.old) }
+        ensures same_shard { IsSameShard self.old self.new }
+    {
+        if nothing_is_due(&self.shard) {
+            return Ok(silent());
+        }
+        self.expire_due()
+    }
+
+    /// The same where something is due. It stands apart, never inlined, since at nearly each expiry nothing is: only here is room made
+    /// for a plan.
+    #[inline(never)]
+    fn expire_due(&mut self) -> Result<StepAnswer, AllocError>
         ensures expired { IfOk result (λ a. Leads self.old (RawExpire self.old.shard) a self.new) }
         ensures err { OnErr result (self.new ≡ self.old) }
         ensures same_shard { IsSameShard self.old self.new }

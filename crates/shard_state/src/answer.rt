@@ -2,12 +2,14 @@
 
 use crate::sent_frames::Frames;
 use hlr_types::{Imsi, Peer, Tid};
+use std::alloc::Global;
+use std::sync::ArcSlice;
 
-/// A frame to send, with its destination address.
+/// A frame to send, with its destination address. Its octets are shared by who sends it and the journal.
 #[derive(PartialEq, Eq, Drop)]
 pub struct Out {
     pub to: Peer,
-    pub octets: Vec<u8>,
+    pub octets: ArcSlice<u8, Global>,
 }
 
 /// The answer of a step: the frames to send, in order; the local id that it took; its subject.

@@ -110,14 +110,14 @@ impl OutList {
         first
     }
 
-    /// An equal copy.
-    pub fn try_copy(&self, alloc: Global) -> Result<OutList, AllocError>
-        ensures { IfOk result (λ copy. copy ≡ self.now) }
+    /// The same frames for one more owner of their octets.
+    pub fn try_share(&self, alloc: Global) -> Result<OutList, AllocError>
+        ensures { IfOk result (λ shared. shared ≡ self.now) }
     {
         let held = match &self.held {
             Held::Nothing => Held::Nothing,
-            Held::One(out) => Held::One(out.try_copy(alloc)?),
-            Held::More(outs) => Held::More(copies(alloc, outs)?),
+            Held::One(out) => Held::One(out.try_share()?),
+            Held::More(outs) => Held::More(shared(alloc, outs)?),
         };
         Ok(OutList { held })
     }
@@ -142,13 +142,13 @@ fn cut_first(held: Held) -> (Option<Out>, Held)
     }
 }
 
-/// Equal frames, in the same order.
-fn copies(alloc: Global, outs: &[Out]) -> Result<Vec<Out>, AllocError>
-    ensures { IfOk result (λ copies. map raw_out copies.items ≡ map raw_out outs.now) }
+/// The same frames, in the same order.
+fn shared(alloc: Global, outs: &[Out]) -> Result<Vec<Out>, AllocError>
+    ensures { IfOk result (λ shared. map raw_out shared.items ≡ map raw_out outs.now) }
 {
-    let mut copies = Vec::with_capacity(alloc, outs.len())?;
+    let mut shared = Vec::with_capacity(alloc, outs.len())?;
     for out in outs {
-        copies.push(out.try_copy(alloc)?)?;
+        shared.push(out.try_share()?)?;
     }
-    Ok(copies)
+    Ok(shared)
 }

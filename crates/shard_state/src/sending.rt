@@ -11,6 +11,7 @@ use crate::out_list::OutList;
 use crate::sent_frames::Frames;
 use location::{Addressed, CancelBegin, octets_of};
 use std::alloc::{AllocError, Global};
+use std::sync::ArcSlice;
 
 /// A message as a frame.
 fn spelled(alloc: Global, sent: &Addressed) -> Result<Out, AllocError>
@@ -21,7 +22,7 @@ fn spelled(alloc: Global, sent: &Addressed) -> Result<Out, AllocError>
     };
     Ok(Out {
         to: sent.to,
-        octets,
+        octets: ArcSlice::from_vec(octets)?,
     })
 }
 

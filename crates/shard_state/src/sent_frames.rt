@@ -8,7 +8,7 @@ use crate::out_list::OutList;
 use std::alloc::{AllocError, Global};
 use std::marker::Model;
 
-/// The frames that a step sends, in order. There are two copies, one to send and one for the journal. Both are made before
+/// The frames that a step sends, in order, once to send and once for the journal. Both lists are made before
 /// anything changes, since a step cannot fail once it has begun to change the state.
 #[derive(Drop)]
 pub struct Frames {
@@ -46,7 +46,7 @@ impl Frames {
     pub fn of(alloc: Global, sent: OutList) -> Result<Frames, AllocError>
         ensures { IfOk result (λ frames. frames ≡ sent) }
     {
-        let kept = sent.try_copy(alloc)?;
+        let kept = sent.try_share(alloc)?;
         Ok(Frames { sent, kept })
     }
 
@@ -57,7 +57,7 @@ impl Frames {
         self.sent.as_slice()
     }
 
-    /// Both copies of the frames.
+    /// Both lists of the frames.
     pub fn into_both(self) -> (OutList, OutList)
         ensures sent { result.0 ≡ self }
         ensures kept { result.1 ≡ self }
@@ -67,15 +67,13 @@ impl Frames {
 }
 
 impl Out {
-    /// An equal copy.
-    pub fn try_copy(&self, alloc: Global) -> Result<Out, AllocError>
-        ensures { IfOk result (λ copy. raw_out copy ≡ raw_out self.now) }
+    /// The same frame for one more owner of its octets, which are not copied. Does not allocate.
+    pub fn try_share(&self) -> Result<Out, AllocError>
+        ensures { IfOk result (λ shared. raw_out shared ≡ raw_out self.now) }
     {
-        let mut octets = Vec::with_capacity(alloc, self.octets.len())?;
-        octets.extend_from_slice(&self.octets)?;
         Ok(Out {
             to: self.to,
-            octets,
+            octets: self.octets.clone()?,
         })
     }
 }

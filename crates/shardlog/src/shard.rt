@@ -1,12 +1,14 @@
 //! A shard and its journal.
 
-ghost use Rattle.std.specs.Prelude.{◌≡◌, ◌≢◌, ◌⊎◌, ◌++◌, ◌∷◌, [], List, length, IfOk, IfErr, OnOk, OnErr, MatchResult, Err};
+ghost use Rattle.std.specs.Prelude.{◌≡◌, ◌≢◌, ◌⊎◌, ◌↔◌, ◌<◌, ◌++◌, ◌∷◌, [], List, length, vec_len, vec_capacity, IfOk, IfErr, OnOk, OnErr, MatchResult, Err};
 ghost use Rattle.frames.specs.OctetJournals.{RawEpoch};
+ghost use Rattle.frames.specs.Octets.{RawExpire};
 ghost use Rattle.machine.specs.declared.numbers.TheConstants.{MAX_ENTRIES};
 ghost use Rattle.machine.specs.Routing.{route};
 ghost use Rattle.machine.specs.Step.{HasNoRoom};
+ghost use Rattle.shard_state.specs.Answers.{entry_of};
 ghost use Rattle.shard_state.specs.Shards.{directory_of, state_of};
-ghost use Rattle.hlrcore.specs.Events.{event_of, raw_of};
+ghost use Rattle.hlrcore.specs.Events.{event_of, raw_event, raw_of};
 ghost use Rattle.shardlog.specs.Entries.{raw_entries};
 ghost use Rattle.shardlog.specs.Handling.{Handles};
 ghost use Rattle.shardlog.specs.Log.{LogKeeps, log};
@@ -14,8 +16,9 @@ ghost use Rattle.shardlog.specs.Chains.{LeadTo, raw_epoch};
 
 use crate::entry::{Entry, Epoch, Handled};
 use crate::fault::ShardFault;
-use hlrcore::{Event, State};
+use hlrcore::{Event, RawEvent, ShardNumber, State};
 use machine::numbers::MAX_ENTRIES;
+use shard_state::StepAnswer;
 use std::alloc::{AllocError, Global};
 use std::marker::Model;
 use std::mem;
@@ -119,15 +122,34 @@ impl Shard {
         }
         self.entries.reserve(1)?;
         let answer = self.state.step(&event)?;
-        let (outs, kept) = answer.outs.into_both();
-        let position = self.entries.len();
-        self.entries.push_reserved(Entry {
-            event: event.into_raw(),
-            id: answer.id,
-            subject: answer.subject,
-            outs: kept,
-        });
-        Ok(Handled { position, outs })
+        Ok(append(&mut self.entries, event.into_raw(), answer))
+    }
+
+    /// Handles the expiry of this shard's least timer that is due, if any: as `handle` does, with nothing to read or to copy.
+    /// `NotMine` if it is for another shard; `JournalFull` if the journal is full; `Memory` if an allocation fails. On error
+    /// nothing changes.
+    pub fn expire(&mut self, shard: ShardNumber) -> Result<Handled, ShardFault>
+        // A step of the machine over octets, which leaves each open dialogue as it is that the event does not name.
+        ensures handles { IfOk result (λ handled. Handles self.old
+            (RawExpire shard) handled self.new) }
+        // The invariant of every journal.
+        ensures keeps { LogKeeps self.new }
+        ensures not_mine { (result ≡ Err ShardFault.NotMine) ↔ (shard ≢ self.old.state.shard) }
+        ensures full { result ≡ Err ShardFault.JournalFull
+            → length self.old.entries ≡ MAX_ENTRIES }
+        ensures room { length self.old.entries ≡ MAX_ENTRIES → OnOk result ⊥ }
+        ensures has_room { result ≢ Err ShardFault.NoRoom }
+        ensures err { OnErr result (self.new ≡ self.old) }
+    {
+        if shard.number() != self.state.number() {
+            return Err(ShardFault::NotMine);
+        }
+        if self.entries.len() >= MAX_ENTRIES {
+            return Err(ShardFault::JournalFull);
+        }
+        self.entries.reserve(1)?;
+        let answer = self.state.expire()?;
+        Ok(append(&mut self.entries, RawEvent::Expire { shard }, answer))
     }
 
     /// The error for an event when the journal is full.
@@ -185,4 +207,23 @@ impl Shard {
         let entries = mem::replace(&mut self.entries, Vec::new(self.alloc));
         Ok(Epoch { base, entries })
     }
+}
+
+/// Appends the entry of a step, and returns what is to be sent.
+fn append(entries: &mut Vec<Entry>, event: RawEvent, answer: StepAnswer) -> Handled
+    requires { vec_len entries.old < vec_capacity entries.old }
+    ensures put { raw_entries entries.new.items
+        ≡ raw_entries entries.old.items ++ entry_of (raw_event event) answer ∷ [] }
+    ensures outs { result.outs ≡ answer.outs }
+    ensures position { result.position ≡ length entries.old.items }
+{
+    let position = entries.len();
+    let (outs, kept) = answer.outs.into_both();
+    entries.push_reserved(Entry {
+        event,
+        id: answer.id,
+        subject: answer.subject,
+        outs: kept,
+    });
+    Handled { position, outs }
 }

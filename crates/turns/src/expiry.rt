@@ -1,6 +1,7 @@
 //! The expiry of a shard's least timer that is due (Q.774).
 
-ghost use Rattle.std.specs.Prelude.{◌≡◌, IfSome, option_map};
+ghost use Rattle.std.specs.Prelude.{◌≡◌, IfSome, None, option_map};
+ghost use Rattle.std.specs.Bool.{OnTrue};
 ghost use Rattle.machine.specs.State.{local_of};
 ghost use Rattle.machine.specs.Expiries.{current_register};
 ghost use Rattle.smroute.specs.Seen.{machine_register};
@@ -26,6 +27,16 @@ fn current_register(
 {
     let current = subscriber?.current?;
     register_of(*imsi, shard.dialogues().get(current))
+}
+
+/// Whether nothing is due.
+pub fn nothing_is_due(shard: &ShardParts) -> bool
+    ensures { OnTrue result (IsExpiry shard.now None) }
+{
+    match shard.dialogues().least_due(shard.clock()) {
+        Some(_) => false,
+        None => true,
+    }
 }
 
 /// The plan of an expiry. `None` if nothing is due.

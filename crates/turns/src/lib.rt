@@ -19,5 +19,5 @@ pub use begin::plan_begin;
 pub use change::{plan_codes, plan_withdrawal};
 pub use closing::plan_close;
 pub use continuing::plan_continue;
-pub use expiry::plan_expiry;
+pub use expiry::{nothing_is_due, plan_expiry};
 pub use subject::subject_of_begin;

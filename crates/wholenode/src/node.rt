@@ -1,6 +1,7 @@
 //! The sixteen shards of a register, in one thread.
 
 ghost use Rattle.std.specs.Prelude.{◌≡◌, ◌<◌, [], map, IfOk, IfErr, OnErr};
+ghost use Rattle.frames.specs.Octets.{RawExpire};
 ghost use Rattle.hlrcore.specs.Events.{raw_event};
 ghost use Rattle.wholenode.specs.Nodes.{whole};
 ghost use Rattle.wholenode.specs.Opening.{BeginsWith};
@@ -10,7 +11,7 @@ ghost use Rattle.wholenode.specs.Keeping.{NodeKeeps};
 use crate::fault::{Cause, NodeFault, refusal};
 use crate::opening::opening_shards;
 use bumpalo::Bump;
-use hlrcore::{Event, RawEvent, route};
+use hlrcore::{Event, RawEvent, ShardNumber, route};
 use records::{Directory, Loaded};
 use shardlog::{Epoch, Handled, Shard};
 use std::alloc::{AllocError, Global};
@@ -154,6 +155,35 @@ impl Node {
 
     /// The same for an event that is handed over, so that its octets are not copied. On error it is dropped.
     pub fn handle_owned(&mut self, bump: &mut Bump, raw: RawEvent) -> Result<Handled, Cause>
+        ensures takes { IfOk result (λ handled. Takes self.old (raw_event raw) handled self.new) }
+        ensures refused { IfErr result (λ cause. Refuses self.old (raw_event raw) cause) }
+        ensures err { OnErr result (self.new ≡ self.old) }
+        ensures keeps { NodeKeeps self.new }
+    {
+        match raw {
+            RawEvent::Expire { shard } => self.expire(shard),
+            read => self.read_and_handle(bump, read),
+        }
+    }
+
+    /// Handles the expiry of a shard, which names its shard and needs no reading. On error nothing changes.
+    fn expire(&mut self, number: ShardNumber) -> Result<Handled, Cause>
+        ensures takes { IfOk result (λ handled. Takes self.old
+            (RawExpire number) handled self.new) }
+        ensures refused { IfErr result (λ cause. Refuses self.old (RawExpire number) cause) }
+        ensures err { OnErr result (self.new ≡ self.old) }
+        ensures keeps { NodeKeeps self.new }
+    {
+        let place = usize::from(number.number());
+        let shard = &mut self.shards[place];
+        match shard.expire(number) {
+            Ok(expired) => Ok(expired),
+            Err(why) => Err(refusal(why)),
+        }
+    }
+
+    /// Handles an event, whose frame is decoded in the arena. On error nothing changes.
+    fn read_and_handle(&mut self, bump: &mut Bump, raw: RawEvent) -> Result<Handled, Cause>
         ensures takes { IfOk result (λ handled. Takes self.old (raw_event raw) handled self.new) }
         ensures refused { IfErr result (λ cause. Refuses self.old (raw_event raw) cause) }
         ensures err { OnErr result (self.new ≡ self.old) }

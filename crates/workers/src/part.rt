@@ -68,7 +68,7 @@ fn copy_outs(alloc: Global, outs: &[Out], sent: &mut Vec<Out>) -> Result<(), All
         ≡ map raw_out sent.old.items ++ map raw_out outs.now) }
 {
     for out in outs {
-        sent.push(out.try_copy(alloc)?)?;
+        sent.push(out.try_share()?)?;
     }
     Ok(())
 }

@@ -3,32 +3,20 @@ use Rattle.std.specs.FinSet as set
 use Rattle.deadlines.specs.Timers.{TimerSet}
 use Rattle.deadlines.specs.Index.{has}
 use Rattle.deadlines.proofs.SetLemmas.{has_insert, turned, unchanged, undone}
-use Rattle.deadlines.proofs.ViewLemmas.{on_ok_then}
-use Rattle.csl.specs.Tables.{is_only, timer_at}
-use Rattle.csl.proofs.Timing.{first_of, only_kept, only_more, rest_of}
+use Rattle.csl.specs.Tables.{is_of, timer_at}
+use Rattle.csl.proofs.Timing.{first_of, of_more, rest_of}
 use Rattle.csl.proofs.timers.+insert_timers.Goals as goal
-
-pub returns-then-has_timer-clause-ok : goal.returns-then-has_timer-clause-ok
-returns-then-has_timer-clause-ok n c =
-    let own = c.own-item.result in
-    let rest = rest_of c.args.list.now in
-    on_ok_then c.insert_timers.result
-    (λ h t. h t ∙ ap (λ b. cond b true (has c.args.timers.now t)) (sym (only_kept c.args.id own rest c.args.others.now t
-    (sym c.has_timer.ensures ∙ c.if-has_timer.true)))
-    ∙ ap (λ vs. cond (is_only c.args.id vs c.args.others.now t) true (has c.args.timers.now t))
-    (sym (first_of c.args.list.now own c.in-len1-up.len_at_least c.own-item.is)))
-    c.insert_timers.ensures.ok
 
 pub returns-in_default-insert_timers-clause-ok : goal.returns-in_default-insert_timers-clause-ok
 returns-in_default-insert_timers-clause-ok n c = λ t.
     let own = c.own-item.result in
     let rest = rest_of c.args.list.now in
     c.in_default-insert_timers.ensures.ok t
-    ∙ ap (cond (is_only c.args.id rest c.args.others.now t) true)
+    ∙ ap (cond (is_of c.args.id rest t) true)
     (ap (λ (s : TimerSet). has s t) (c.in_ok-is_new.ensures.ok ∙ ap (set.insert c.args.timers.now) c.timer-timer.ensures)
     ∙ has_insert c.args.timers.now (timer_at c.args.id own) t)
-    ∙ sym (only_more c.args.id own rest c.args.others.now t true (has c.args.timers.now t) (sym c.has_timer.ensures ∙ c.if-has_timer.false))
-    ∙ ap (λ vs. cond (is_only c.args.id vs c.args.others.now t) true (has c.args.timers.now t))
+    ∙ sym (of_more c.args.id own rest t (has c.args.timers.now t))
+    ∙ ap (λ vs. cond (is_of c.args.id vs t) true (has c.args.timers.now t))
     (sym (first_of c.args.list.now own c.in-len1-up.len_at_least c.own-item.is))
 
 pub returns-then-is_new-clause-err : goal.returns-then-is_new-clause-err

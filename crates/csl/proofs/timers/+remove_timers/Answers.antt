@@ -20,12 +20,12 @@ returns n c = λ t.
           ∙ ap (cond (is_only c.args.id rest c.args.others.now t) false)
           (ap (λ (s : TimerSet). has s t) (w.timers-is ∙ w.remove.ensures ∙ ap (set.remove c.args.timers.now) w.timer.ensures)
           ∙ has_remove c.args.timers.now (timer_at c.args.id own) t)
-          ∙ sym (only_more c.args.id own rest c.args.others.now t false (has c.args.timers.now t) (sym c.has_timer.ensures ∙ w.if-not-has_timer.true))
+          ∙ sym (only_more c.args.id own rest t c.args.others.now (has c.args.timers.now t) (sym c.has_timer.ensures ∙ w.if-not-has_timer.true))
           ∙ whole
       | else-not-has_timer w ↦
           c.remove_timers.ensures t
           ∙ ap (λ (s : TimerSet). cond (is_only c.args.id rest c.args.others.now t) false (has s t)) w.timers-is
-          ∙ ap (λ b. cond b false (has c.args.timers.now t)) (sym (only_kept c.args.id own rest c.args.others.now t
+          ∙ ap (λ b. cond b false (has c.args.timers.now t)) (sym (only_kept c.args.id own rest t c.args.others.now
           (sym c.has_timer.ensures ∙ w.if-not-has_timer.false)))
           ∙ whole
     ]

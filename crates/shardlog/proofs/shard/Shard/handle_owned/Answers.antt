@@ -1,14 +1,15 @@
 use Rattle.std.proofs.Common.{◌≡◌, List, [], ◌∷◌, ◌++◌, rules, sym, ap, subst}
 use Rattle.std.specs.Prelude.{Err}
 use Rattle.machine.specs.Step.{HasNoRoom}
+use Rattle.frames.specs.Octets.{RawEvent}
 use Rattle.shard_state.specs.Answers.{entry_of}
 use Rattle.shard_state.specs.Shards.{ShardState, state_of}
-use Rattle.hlrcore.specs.Events.{event_of, raw_of}
+use Rattle.hlrcore.specs.Events.{event_of, raw_event, raw_of}
 use Rattle.hlrcore.specs.declared.fault.StepFault.{StepFault}
 use Rattle.shardlog.specs.declared.entry.Entry.{Entry}
 use Rattle.shardlog.specs.Entries.{raw_entries}
 use Rattle.shardlog.specs.Log.{LogKeeps, log}
-use Rattle.shardlog.proofs.LogLemmas.{entries_after, entry_is, handled_log, handles, keeps_seen, log_keeps, step_had_no_room}
+use Rattle.shardlog.proofs.LogLemmas.{handled_log, handles, keeps_seen, log_keeps, step_had_no_room}
 use Rattle.shardlog.proofs.shard.Shard.handle_owned.Goals as goal
 
 pub returns-then-len-ge-MAX_ENTRIES-clause-keeps : goal.returns-then-len-ge-MAX_ENTRIES-clause-keeps
@@ -31,25 +32,26 @@ returns-in_err-answer-clause-no_room c = λ none.
     subst (λ (s : ShardState). HasNoRoom (state_of s) (event_of c.args.event)) (ap (λ l. l.state) c.self.view_is)
     (c.in_err-answer.ensures.no_room (ap (λ (f : StepFault). Err f) why))
 
-put : (c : goal.After-push_reserved)
-    → raw_entries c.push_reserved.new.self.items ≡ raw_entries c.self.inside.entries.items ++ entry_of (raw_of c.args.event) c.in_ok-answer.answer ∷ []
+put : (c : goal.After-append)
+    → raw_entries c.append.new.entries.items ≡ raw_entries c.self.inside.entries.items ++ entry_of (raw_of c.args.event) c.in_ok-answer.answer ∷ []
 put c =
-    entries_after c.self.inside.entries.items c.push_reserved.new.self.items
-    (record { event = c.into_raw.result; id = c.in_ok-answer.answer.id; subject = c.in_ok-answer.answer.subject; outs = c.into_both-outs.result.1 })
-    (entry_of (raw_of c.args.event) c.in_ok-answer.answer) (search rules)
-    (entry_is c.into_raw.result (raw_of c.args.event) c.in_ok-answer.answer c.into_both-outs.result.1 c.into_raw.ensures c.into_both-outs.ensures.kept)
+    subst (λ (raw : RawEvent). raw_entries c.append.new.entries.items ≡ raw_entries c.self.inside.entries.items ++ entry_of raw c.in_ok-answer.answer ∷ [])
+    c.into_raw.ensures
+    (subst (λ (es : List Entry). raw_entries c.append.new.entries.items
+    ≡ raw_entries es ++ entry_of (raw_event c.into_raw.result) c.in_ok-answer.answer ∷ [])
+    c.in_ok-reserve.ensures.items c.append.ensures.put)
 
 pub invariant_of-self-2 : goal.invariant_of-self-2
 invariant_of-self-2 c =
-    handled_log c.self.inside.base c.self.inside.state c.step.new.self c.self.inside.entries.items c.push_reserved.new.self.items
+    handled_log c.self.inside.base c.self.inside.state c.step.new.self c.self.inside.entries.items c.append.new.entries.items
     (raw_of c.args.event) c.in_ok-answer.answer
     c.self.invariant (put c) c.in_ok-answer.ensures.routed c.in_ok-answer.ensures.stepped c.in_ok-answer.ensures.same_shard (search rules)
 
 pub returns-clause-handles : goal.returns-clause-handles
 returns-clause-handles c =
-    handles c.args.self.now c.self.inside.base c.self.inside.state c.step.new.self c.self.inside.entries.items c.push_reserved.new.self.items
+    handles c.args.self.now c.self.inside.base c.self.inside.state c.step.new.self c.self.inside.entries.items c.append.new.entries.items
     (raw_of c.args.event)
-    c.in_ok-answer.answer _ c.self.view_is (put c) c.in_ok-answer.ensures.stepped c.into_both-outs.ensures.sent (search rules)
+    c.in_ok-answer.answer _ c.self.view_is (put c) c.in_ok-answer.ensures.stepped c.append.ensures.outs (search rules)
 
 pub returns-clause-keeps : goal.returns-clause-keeps
 returns-clause-keeps c = log_keeps _ (invariant_of-self-2 c)

@@ -1,85 +1,11 @@
-use Rattle.std.proofs.Common.{◌≡◌, ◌<◌, rules, sym, ap, subst, ◌∙◌}
-use Rattle.std.specs.Prelude.{Err}
-use Rattle.std.specs.Arc.{arc_value}
-use Rattle.std.proofs.lemmas.Option.{slice_get_read}
-use Rattle.machine.specs.Routing.{route}
-use Rattle.frames.specs.Octets.{RawEvent}
-use Rattle.hlrcore.specs.Events.{event_of, raw_event, raw_of}
-use Rattle.shard_state.specs.Shards.{directory_of}
-use Rattle.shardlog.specs.declared.fault.ShardFault.{ShardFault}
-use Rattle.shardlog.specs.Handling.{Handles}
-use Rattle.wholenode.specs.declared.fault.Cause.{Cause}
+use Rattle.std.proofs.Common.{sym, subst}
+use Rattle.std.specs.Prelude.{IfErr}
+use Rattle.hlrcore.specs.declared.event.RawEvent as code
+use Rattle.hlrcore.specs.Events.{raw_event}
 use Rattle.wholenode.specs.Handling.{Refuses}
-use Rattle.wholenode.proofs.CutLemmas.{is_mine, took_or_not}
-use Rattle.wholenode.proofs.RunLemmas.{refuses, takes}
-use Rattle.wholenode.proofs.WholeLemmas.{keeps_seen, node_keeps}
 use Rattle.wholenode.proofs.node.Node.handle_owned.Goals as goal
-use Rattle.wholenode.proofs.node.Node.handle_owned.Goals.{in-Ok, in-Err}
 
-pub returns-in_err-event-clause-keeps : goal.returns-in_err-event-clause-keeps
-returns-in_err-event-clause-keeps c = keeps_seen _ _ _ c.self.view_is c.self.invariant
-
-pub refusal-requires : goal.refusal-requires
-refusal-requires c =
-    let small : c.from-place.result < 16 = search rules in
-    let routed : c.from-place.result ≡ route (directory_of (arc_value c.self.inside.directory))
-    (event_of c.in_ok-event.event) = search rules in
-    let at = slice_get_read c.self.inside.shards.items 16 c.from-place.result c.index_mut-shard.result.now
-    (sym c.self.invariant.count) small c.index_mut-shard.ensures.value in
-    λ e. c.handle_owned.ensures.not_mine (c.in-Err.is ∙ ap (λ (f : ShardFault). Err f) e)
-    (is_mine (arc_value c.self.inside.directory) c.self.inside.shards.items
-    (event_of c.in_ok-event.event) c.from-place.result c.index_mut-shard.result.now c.self.invariant routed at)
-
-pub invariant_of-self : goal.invariant_of-self
-invariant_of-self c =
-    let small : c.from-place.result < 16 = search rules in
-    let at = slice_get_read c.self.inside.shards.items 16 c.from-place.result c.index_mut-shard.result.now
-    (sym c.self.invariant.count) small c.index_mut-shard.ensures.value in
-    took_or_not (arc_value c.self.inside.directory) c.self.inside.shards.items c.from-place.result c.index_mut-shard.result.now
-    c.handle_owned.new.self (raw_of c.in_ok-event.event) c.handle_owned.result
-    c.self.invariant at c.handle_owned.ensures.keeps c.handle_owned.ensures.handles c.handle_owned.ensures.err
-
-pub returns-clause-takes : goal.returns-clause-takes
-returns-clause-takes c =
-    let small : c.from-place.result < 16 = search rules in
-    let routed : c.from-place.result ≡ route (directory_of (arc_value c.self.inside.directory))
-    (event_of c.in_ok-event.event) = search rules in
-    let at = slice_get_read c.self.inside.shards.items 16 c.from-place.result c.index_mut-shard.result.now
-    (sym c.self.invariant.count) small c.index_mut-shard.ensures.value in
-    elim c.match-handle_owned.branch [
-      | in-Ok w ↦ rw w.result-is
-          (takes c.args.self.now (arc_value c.self.inside.directory) c.self.inside.shards.items
-          (raw_event c.args.raw) w.in-Ok.handled c.from-place.result c.index_mut-shard.result.now
-          c.handle_owned.new.self c.self.view_is c.self.invariant at (event_of c.in_ok-event.event, c.in_ok-event.ensures.read, sym routed)
-          (subst (λ (r : RawEvent). Handles c.index_mut-shard.result.now r w.in-Ok.handled c.handle_owned.new.self) c.in_ok-event.ensures.same
-          w.in-Ok.ensures.handles))
-      | in-Err w ↦ rw w.result-is tt
-    ]
-
-pub returns-clause-refused : goal.returns-clause-refused
-returns-clause-refused c =
-    let small : c.from-place.result < 16 = search rules in
-    let routed : c.from-place.result ≡ route (directory_of (arc_value c.self.inside.directory))
-    (event_of c.in_ok-event.event) = search rules in
-    let at = slice_get_read c.self.inside.shards.items 16 c.from-place.result c.index_mut-shard.result.now
-    (sym c.self.invariant.count) small c.index_mut-shard.ensures.value in
-    elim c.match-handle_owned.branch [
-      | in-Ok w ↦ rw w.result-is tt
-      | in-Err w ↦ rw w.result-is
-          (subst (λ (cause : Cause). Refuses c.args.self.now (raw_event c.args.raw) cause) (sym w.refusal.ensures)
-          (refuses c.args.self.now (arc_value c.self.inside.directory) c.self.inside.shards.items (raw_event c.args.raw)
-          (event_of c.in_ok-event.event) w.in-Err.fault c.from-place.result
-          c.index_mut-shard.result.now c.self.view_is c.self.invariant at c.in_ok-event.ensures.read (sym routed)
-          (λ e. (c.handle_owned.ensures.full (w.in-Err.is ∙ ap (λ (f : ShardFault). Err f) e)).1)
-          (λ e. c.handle_owned.ensures.no_room (w.in-Err.is ∙ ap (λ (f : ShardFault). Err f) e))))
-    ]
-
-pub returns-clause-keeps : goal.returns-clause-keeps
-returns-clause-keeps c =
-    let small : c.from-place.result < 16 = search rules in
-    let at = slice_get_read c.self.inside.shards.items 16 c.from-place.result c.index_mut-shard.result.now
-    (sym c.self.invariant.count) small c.index_mut-shard.ensures.value in
-    node_keeps _ _
-    (took_or_not (arc_value c.self.inside.directory) c.self.inside.shards.items c.from-place.result c.index_mut-shard.result.now
-    c.handle_owned.new.self (raw_of c.in_ok-event.event) c.handle_owned.result
-    c.self.invariant at c.handle_owned.ensures.keeps c.handle_owned.ensures.handles c.handle_owned.ensures.err)
+pub returns-in-Expire-clause-refused : goal.returns-in-Expire-clause-refused
+returns-in-Expire-clause-refused c =
+    subst (λ (raw : code.RawEvent). IfErr c.expire.result (λ cause. Refuses c.args.self.now (raw_event raw) cause)) (sym c.in-Expire.is)
+    c.expire.ensures.refused

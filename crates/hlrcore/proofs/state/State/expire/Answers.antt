@@ -1,0 +1,16 @@
+use Rattle.std.proofs.Common.{IfOk, subst}
+use Rattle.frames.specs.Octets.{RawExpire}
+use Rattle.shard_state.specs.Shards.{ShardState}
+use Rattle.hlrcore.specs.Leading.{Leads}
+use Rattle.hlrcore.proofs.SoundLemmas.{expiry_is_routed, sound_after}
+use Rattle.hlrcore.proofs.state.State.expire.Goals as goal
+
+pub invariant_of-self : goal.invariant_of-self
+invariant_of-self c =
+    sound_after c.expire.result c.self.inside.stepper c.expire.new.self
+    (RawExpire c.self.inside.stepper.shard) c.self.invariant c.expire.ensures.expired
+    (expiry_is_routed c.self.inside.stepper c.expire.result) c.expire.ensures.err c.expire.ensures.same_shard
+
+pub returns-clause-stepped : goal.returns-clause-stepped
+returns-clause-stepped c =
+    subst (λ (s : ShardState). IfOk c.expire.result (λ a. Leads s (RawExpire s.shard) a c.expire.new.self)) c.self.view_is c.expire.ensures.expired
