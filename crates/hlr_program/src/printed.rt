@@ -23,9 +23,6 @@ const MAX_TOLD: usize = 64;
 /// The most octets of a sent frame's line beside the octets of the frame: `S`, an address of 16 digits, two spaces, the line feed.
 const MAX_HEAD: usize = 20;
 
-/// Room for the digits of all frames but long ones; of these the arena makes more.
-const DIGITS: usize = 1024;
-
 /// The lines of the frames that a batch has sent; the local ids in them are recorded. Nothing is printed yet, so that a batch with
 /// a fault prints nothing.
 pub fn lines_of(alloc: Global, sent: &[Out], letters: &mut Letters) -> Result<Vec<u8>, AllocError>
@@ -33,7 +30,8 @@ pub fn lines_of(alloc: Global, sent: &[Out], letters: &mut Letters) -> Result<Ve
     ensures noted { OnOk result (letters.new ≡ noted_in letters.old (map raw_out sent.now)) }
 {
     let mut text = Vec::with_capacity(alloc, room_for(sent))?;
-    let mut digits = Bump::try_with_capacity(alloc, DIGITS)?;
+    // Takes memory only once a frame needs some: a batch may send nothing.
+    let mut digits = Bump::new(alloc);
     for frame in sent {
         push_sent(&digits, &mut text, frame)?;
         letters.note(&frame.octets)?;
