@@ -1,15 +1,17 @@
 -- The lists of the dialogues, by look-ups.
-use Rattle.std.proofs.Common.{arith, ◌==◌, length, ◌≡◌, ℕ, ℤ, List, [], ◌∷◌, ◌++◌, map, Bool, true, false, cond, Option, Some, None, Vec, vec_len, refl, sym, ap, ◌∙◌, subst, is_eq}
+use Rattle.std.proofs.Common.{arith, ◌==◌, eqb, length, ◌≡◌, ℕ, ℤ, List, [], ◌∷◌, ◌++◌, map, Bool, true, false, cond, Option, Some, None, Vec, vec_len, refl, sym, ap, ◌∙◌, subst, is_eq}
 use Rattle.std.specs.Prelude.{IfSome, IfNone, option_map}
+use Rattle.std.specs.Array.{AllZipBelow}
 use Rattle.std.specs.Option.{IsSome}
 use Rattle.std.specs.List.{position, remove, AllZip, each_same}
 use Rattle.std.specs.Cmp.{eq_by_cmp_equiv, Equal-is, tied_itself}
+use Rattle.std.specs.Cmp.Lexicographic.{pointwise}
 use Rattle.std.specs.Map.{lookup}
-use Rattle.std.specs.BTreeMap as tree
 use Rattle.std.specs.BTreeMap.{is_at}
 use Rattle.std.specs.FinMap as finite
+use Rattle.std.specs.HashMap as hash
 use Rattle.hlr_types.specs.Orders.{octets_cmp}
-use Rattle.hlr_types.proofs.OrderLemmas.{octets_total, octets_exact}
+use Rattle.hlr_types.proofs.OrderLemmas.{octets_total, octets_exact, pointwise-octets}
 use Rattle.machine.specs.State.{Invocation}
 use Rattle.machine.specs.Effect.{AreRising}
 use Rattle.machine.specs.Expiries.{without}
@@ -83,93 +85,102 @@ at-put_list lists id vs q = ap list_in (get-put_list lists id vs q) ∙ by (is_i
     by true (u ∷ us) = refl
     by false us = refl
 
--- the tree map behind them
+-- the hash map behind them
+
+-- `==` of two keys, which is `is_its` by `pointwise-octets`
+abbrev pub is_key : List ℕ → List ℕ → Bool
+is_key = pointwise eqb
 
 module _ {A : Type 0} where
   abbrev pub items_in : Option (Vec Invocation A) → Option (List Invocation)
   items_in o = option_map (λ (l : Vec Invocation A). l.items) o
 
-  lookup_items : (es : List (List ℕ × Vec Invocation A)) (q : List ℕ) → finite.find octets_cmp q (map items_of es) ≡ items_in (lookup (is_at (octets_cmp q)) es)
+  lookup_items : (es : List (List ℕ × Vec Invocation A)) (q : List ℕ) → finite.find octets_cmp q (map items_of es) ≡ items_in (lookup (is_key q) es)
   lookup_items [] q = refl
-  lookup_items (e ∷ es) q = ap (cond (is_at (octets_cmp q) e.0) (Some e.1.items)) (lookup_items es q) ∙ by (is_at (octets_cmp q) e.0)
+  lookup_items (e ∷ es) q = ap (cond (is_its q e.0) (Some e.1.items)) (lookup_items es q)
+      ∙ ap (λ b. cond b (Some e.1.items) (items_in (lookup (is_key q) es))) (sym (pointwise-octets q e.0)) ∙ by (is_key q e.0)
     where
-      by : (b : Bool) → cond b (Some e.1.items) (items_in (lookup (is_at (octets_cmp q)) es)) ≡ items_in (cond b (Some e.1) (lookup (is_at (octets_cmp q)) es))
+      by : (b : Bool) → cond b (Some e.1.items) (items_in (lookup (is_key q) es)) ≡ items_in (cond b (Some e.1) (lookup (is_key q) es))
       by true = refl
       by false = refl
 
-  pub get_lists : (m : tree.BTreeMap (List ℕ) (Vec Invocation A)) (q : List ℕ) → finite.get (lists_of m) q ≡ items_in (tree.get octets_cmp m q)
+module _ {A S : Type 0} where
+  pub get_lists : (m : hash.HashMap (List ℕ) (Vec Invocation A) S) (q : List ℕ) → finite.get (lists_of m) q ≡ items_in (hash.get is_key m q)
   get_lists m q = finite.get-from_entries octets_total (map items_of m.entries) q ∙ lookup_items m.entries q
 
   -- a list is written or removed
-  pub is_written : (m n : tree.BTreeMap (List ℕ) (Vec Invocation A)) (id : List ℕ) (w : Option (Vec Invocation A)) (vs : List Invocation)
-      → ((q : List ℕ) → tree.get octets_cmp n q ≡ cond (is_its id q) w (tree.get octets_cmp m q)) → items_in w ≡ stored_list vs
+  pub is_written : (m n : hash.HashMap (List ℕ) (Vec Invocation A) S) (id : List ℕ) (w : Option (Vec Invocation A)) (vs : List Invocation)
+      → ((q : List ℕ) → hash.get is_key n q ≡ cond (is_key id q) w (hash.get is_key m q)) → items_in w ≡ stored_list vs
       → lists_of n ≡ put_list (lists_of m) id vs
-  is_written m n id w vs h e = is_put (lists_of m) (lists_of n) id vs (λ q. get_lists n q ∙ ap items_in (h q) ∙ by (is_its id q) q)
+  is_written m n id w vs h e = is_put (lists_of m) (lists_of n) id vs (λ q. get_lists n q ∙ ap items_in (h q)
+      ∙ ap (λ b. items_in (cond b w (hash.get is_key m q))) (pointwise-octets id q) ∙ by (is_its id q) q)
     where
-      by : (b : Bool) (q : List ℕ) → items_in (cond b w (tree.get octets_cmp m q)) ≡ cond b (stored_list vs) (finite.get (lists_of m) q)
+      by : (b : Bool) (q : List ℕ) → items_in (cond b w (hash.get is_key m q)) ≡ cond b (stored_list vs) (finite.get (lists_of m) q)
       by true q = e
       by false q = sym (get_lists m q)
 
   -- the result of a look-up
-  pub list_got : (m : tree.BTreeMap (List ℕ) (Vec Invocation A)) (lists : InvocationLists) (id : List ℕ) (o : Option (Vec Invocation A))
-      → o ≡ tree.get octets_cmp m id → lists_of m ≡ lists
+  pub list_got : {key : List ℕ} (m : hash.HashMap (List ℕ) (Vec Invocation A) S) (lists : InvocationLists) (id : List ℕ) (o : Option (Vec Invocation A))
+      → o ≡ hash.get is_key m key → lists_of m ≡ lists → key ≡ id
       → list_in (items_in o) ≡ invocations_at lists id
-  list_got m lists id o e view = ap (λ r. list_in (items_in r)) e ∙ ap list_in (sym (get_lists m id)) ∙ ap (λ (l : InvocationLists). invocations_at l id) view
+  list_got {key = key} m lists id o e view own = ap (λ r. list_in (items_in r)) e ∙ ap list_in (sym (get_lists m key)) ∙ λ i. invocations_at (view i) (own i)
 
-  pub was_removed : (m : tree.BTreeMap (List ℕ) (Vec Invocation A)) (lists : InvocationLists) (id : List ℕ) (o : Option (Vec Invocation A))
-      → o ≡ tree.get octets_cmp m id → lists_of m ≡ lists
+  pub was_removed : {key : List ℕ} (m : hash.HashMap (List ℕ) (Vec Invocation A) S) (lists : InvocationLists) (id : List ℕ) (o : Option (Vec Invocation A))
+      → o ≡ hash.get is_key m key → lists_of m ≡ lists → key ≡ id
       → IfSome o (λ list. list.items ≡ invocations_at lists id)
-  was_removed m lists id None e view = tt
-  was_removed m lists id (Some l) e view = list_got m lists id (Some l) e view
+  was_removed m lists id None e view own = tt
+  was_removed m lists id (Some l) e view own = list_got m lists id (Some l) e view own
 
-  pub was_not_there : (m : tree.BTreeMap (List ℕ) (Vec Invocation A)) (lists : InvocationLists) (id : List ℕ) (o : Option (Vec Invocation A))
-      → o ≡ tree.get octets_cmp m id → lists_of m ≡ lists
+  pub was_not_there : {key : List ℕ} (m : hash.HashMap (List ℕ) (Vec Invocation A) S) (lists : InvocationLists) (id : List ℕ) (o : Option (Vec Invocation A))
+      → o ≡ hash.get is_key m key → lists_of m ≡ lists → key ≡ id
       → IfNone o (invocations_at lists id ≡ [])
-  was_not_there m lists id None e view = sym (list_got m lists id None e view)
-  was_not_there m lists id (Some l) e view = tt
+  was_not_there m lists id None e view own = sym (list_got m lists id None e view own)
+  was_not_there m lists id (Some l) e view own = tt
 
   -- a list is written in place
-  pub through : (m n : tree.BTreeMap (List ℕ) (Vec Invocation A)) (id : List ℕ) (l w : Vec Invocation A) → Some l ≡ tree.get octets_cmp m id
-      → tree.WritesThrough octets_cmp (octets_cmp id) m w n
-      → (q : List ℕ) → tree.get octets_cmp n q ≡ cond (is_its id q) (Some w) (tree.get octets_cmp m q)
+  pub through : (m n : hash.HashMap (List ℕ) (Vec Invocation A) S) (id : List ℕ) (l w : Vec Invocation A) → Some l ≡ hash.get is_key m id
+      → hash.WritesThrough is_key (is_key id) m w n
+      → (q : List ℕ) → hash.get is_key n q ≡ cond (is_key id q) (Some w) (hash.get is_key m q)
   through m n id l w had h = (h.3 (subst IsSome had refl)).0
 
-  pub unwritten : (m n : tree.BTreeMap (List ℕ) (Vec Invocation A)) (id : List ℕ) (l : Vec Invocation A) → Some l ≡ tree.get octets_cmp m id
-      → tree.WritesThrough octets_cmp (octets_cmp id) m l n → lists_of n ≡ lists_of m
+  pub unwritten : (m n : hash.HashMap (List ℕ) (Vec Invocation A) S) (id : List ℕ) (l : Vec Invocation A) → Some l ≡ hash.get is_key m id
+      → hash.WritesThrough is_key (is_key id) m l n → lists_of n ≡ lists_of m
   unwritten m n id l had h = finite.same_map octets_total octets_exact (lists_of n) (lists_of m)
-      (λ q. get_lists n q ∙ ap items_in (through m n id l l had h q ∙ by (is_its id q) q refl) ∙ sym (get_lists m q))
+      (λ q. get_lists n q ∙ ap items_in (through m n id l l had h q ∙ by (is_key id q) q refl) ∙ sym (get_lists m q))
     where
-      by : (b : Bool) (q : List ℕ) → is_its id q ≡ b → cond b (Some l) (tree.get octets_cmp m q) ≡ tree.get octets_cmp m q
-      by true q e = had ∙ ap (tree.get octets_cmp m) (same_id id q e)
+      by : (b : Bool) (q : List ℕ) → is_key id q ≡ b → cond b (Some l) (hash.get is_key m q) ≡ hash.get is_key m q
+      by true q e = had ∙ ap (hash.get is_key m) (same_id id q (sym (pointwise-octets id q) ∙ e))
       by false q e = refl
 
   -- and removed afterwards
-  pub emptied : (m n o : tree.BTreeMap (List ℕ) (Vec Invocation A)) (id : List ℕ) (l w : Vec Invocation A) → Some l ≡ tree.get octets_cmp m id
-      → tree.WritesThrough octets_cmp (octets_cmp id) m w n
-      → ((q : List ℕ) → tree.get octets_cmp o q ≡ cond (is_its id q) None (tree.get octets_cmp n q)) → lists_of o ≡ put_list (lists_of m) id []
-  emptied m n o id l w had h gone = is_written m o id None [] (λ q. gone q ∙ ap (cond (is_its id q) None) (through m n id l w had h q)
-      ∙ by (is_its id q) q) refl
+  pub emptied : (m n o : hash.HashMap (List ℕ) (Vec Invocation A) S) (id : List ℕ) (l w : Vec Invocation A) → Some l ≡ hash.get is_key m id
+      → hash.WritesThrough is_key (is_key id) m w n
+      → ((q : List ℕ) → hash.get is_key o q ≡ cond (is_key id q) None (hash.get is_key n q)) → lists_of o ≡ put_list (lists_of m) id []
+  emptied m n o id l w had h gone = is_written m o id None [] (λ q. gone q ∙ ap (cond (is_key id q) None) (through m n id l w had h q)
+      ∙ by (is_key id q) q) refl
     where
-      by : (b : Bool) (q : List ℕ) → cond b None (cond b (Some w) (tree.get octets_cmp m q)) ≡ cond b None (tree.get octets_cmp m q)
+      by : (b : Bool) (q : List ℕ) → cond b None (cond b (Some w) (hash.get is_key m q)) ≡ cond b None (hash.get is_key m q)
       by true q = refl
       by false q = refl
 
-  -- a copy
+-- a copy
 
+module _ {A : Type 0} where
   abbrev pub IsCopied : List ℕ × Vec Invocation A → List ℕ × Vec Invocation A → Type 0
-  IsCopied e f = (f.0 ≡ e.0) × (AllZip (λ x y. y ≡ x) e.1.items f.1.items × (vec_len f.1 ≡ vec_len e.1))
+  IsCopied e f = AllZipBelow (λ x y. y ≡ x) e.0 f.0 4 × (AllZip (λ x y. y ≡ x) e.1.items f.1.items × (vec_len f.1 ≡ vec_len e.1))
 
   copied_entries : (es fs : List (List ℕ × Vec Invocation A)) → AllZip IsCopied es fs → map items_of fs ≡ map items_of es
   copied_entries [] [] h = refl
   copied_entries [] (f ∷ fs) h = absurd h
   copied_entries (e ∷ es) [] h = absurd h
   copied_entries (e ∷ es) (f ∷ fs) h =
+      let key : f.0 ≡ e.0 = each_same e.0 f.0 h.0.0.whole in
       let items : f.1.items ≡ e.1.items = each_same e.1.items f.1.items h.0.1.0 in
       let rest : map items_of fs ≡ map items_of es = copied_entries es fs h.1 in
-      λ i. (h.0.0 i, items i) ∷ rest i
+      λ i. (key i, items i) ∷ rest i
 
-  pub copied_lists : (m n : tree.BTreeMap (List ℕ) (Vec Invocation A)) → AllZip IsCopied m.entries n.entries → lists_of n ≡ lists_of m
-  copied_lists m n h = ap (λ es. finite.from_entries es) (copied_entries m.entries n.entries h)
+pub copied_lists : {A S : Type 0} → (m n : hash.HashMap (List ℕ) (Vec Invocation A) S) → AllZip IsCopied m.entries n.entries → lists_of n ≡ lists_of m
+copied_lists m n h = ap (λ es. finite.from_entries es) (copied_entries m.entries n.entries h)
 
 -- an empty list, by its length
 

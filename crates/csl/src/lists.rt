@@ -11,13 +11,15 @@ use crate::invocation::Invocation;
 use crate::list::place_of;
 use hlr_types::Tid;
 use std::alloc::{AllocError, Global};
-use std::collections::BTreeMap;
+use std::collections::HashMap;
 use std::marker::Model;
 
 /// The invocations of each dialogue that has some, by ascending invoke id.
 #[derive(Drop)]
 pub(crate) struct Lists {
-    by_dialogue: BTreeMap<Tid, Vec<Invocation>>,
+    // By the octets of the local id. The register itself hands these ids out, and at most 4,096 of a shard are open at once: no peer
+    // chooses keys that collide.
+    by_dialogue: HashMap<[u8; 4], Vec<Invocation>>,
 }
 
 impl Model for Lists {
@@ -38,7 +40,7 @@ impl Lists {
         ensures { result ≡ finite.empty }
     {
         Lists {
-            by_dialogue: BTreeMap::new(alloc),
+            by_dialogue: HashMap::new(alloc),
         }
     }
 
@@ -47,7 +49,7 @@ impl Lists {
         ensures value { result.now ≡ invocations_at self.now id }
         ensures rising { AreRising result.now }
     {
-        match self.by_dialogue.get(&id) {
+        match self.by_dialogue.get(&id.0) {
             Some(list) => list.as_slice(),
             None => &[],
         }
@@ -70,9 +72,9 @@ impl Lists {
         ensures err { OnErr result (self.new ≡ self.old) }
     {
         if list.is_empty() {
-            return Ok(self.by_dialogue.remove(&id));
+            return Ok(self.by_dialogue.remove(&id.0));
         }
-        match self.by_dialogue.insert(id, list) {
+        match self.by_dialogue.insert(id.0, list) {
             Ok(were) => Ok(were),
             Err(refused) => Err(refused.value.1),
         }
@@ -84,7 +86,7 @@ impl Lists {
         ensures were { IfSome result (λ list. list.items ≡ invocations_at self.old id) }
         ensures none { IfNone result (invocations_at self.old id ≡ []) }
     {
-        self.by_dialogue.remove(&id)
+        self.by_dialogue.remove(&id.0)
     }
 
     /// Removes one invocation, if it is there.
@@ -94,7 +96,7 @@ impl Lists {
         ensures was { result ≡ invocation_of invoke (invocations_at self.old id) }
         ensures rising { AreRising (invocations_at self.old id) }
     {
-        let Some(list) = self.by_dialogue.get_mut(&id) else {
+        let Some(list) = self.by_dialogue.get_mut(&id.0) else {
             return None;
         };
         let Some(place) = place_of(list, invoke) else {
@@ -104,7 +106,7 @@ impl Lists {
         if !list.is_empty() {
             return Some(own);
         }
-        self.by_dialogue.remove(&id);
+        self.by_dialogue.remove(&id.0);
         Some(own)
     }
 
