@@ -1,5 +1,5 @@
 -- The expiry of a timer of an open dialogue.
-use Rattle.std.proofs.Common.{◌≡◌, ℕ, List, [], cond, Option, Some, None, refl, sym, ap, ◌∙◌, subst, eq-eqb}
+use Rattle.std.proofs.Common.{◌≡◌, ◌≢◌, ℕ, List, [], cond, Option, Some, None, refl, sym, ap, ◌∙◌, subst, eq-eqb}
 use Rattle.std.specs.Prelude.{IfSome, option_copied, option_map}
 use Rattle.std.specs.Borrow.{Bor}
 use Rattle.std.specs.FinMap as finite
@@ -8,6 +8,7 @@ use Rattle.machine.specs.Expiries.{current_register, expires, register_of}
 use Rattle.machine.specs.State as machine
 use Rattle.machine.specs.State.{Invocation, Local, State, if_of, local_of}
 use Rattle.machine.specs.Turns.{Turn, Dismissed, Expires, Expiry}
+use Rattle.machine_laws.proofs.Determined.{expiry_one}
 use Rattle.csl.specs.declared.offer.Due.{Due}
 use Rattle.csl.specs.Seen.{was}
 use Rattle.records.specs.Subscriber.{Subscriber}
@@ -51,6 +52,20 @@ expiry_here s told_in now due same clock own told =
 -- Nothing is due.
 pub nothing_expires : (s : ShardState) → Expiry (state_of s) s.shard (Dismissed []) → IsExpiry s None
 nothing_expires s none = record { turn = Dismissed []; expiry = none; planned = refl }
+
+-- Something is due: the turn of an expiry is determined, and that of an open dialogue's timer is not that nothing happens.
+pub something_expires : (s : ShardState) (told_in : OpenDialogues) (due : Due) → told_in ≡ s.dialogues
+    → dialogues_of told_in due.id ≢ None → Expiry (state_of s) s.shard (expiry_turn s.dialogues (Some due)) → IsExpiry s None → ⊥
+something_expires s told_in due same is_open expiry none = by (dialogues_of s.dialogues due.id) refl
+  where
+    one : expiry_turn s.dialogues (Some due) ≡ Dismissed []
+    one = expiry_one (state_of s) s.shard _ (Dismissed []) expiry (subst (λ (t : Turn). Expiry (state_of s) s.shard t) none.planned none.expiry)
+
+    by : (d : Option machine.Dialogue) → dialogues_of s.dialogues due.id ≡ d → ⊥
+    by None e = is_open (ap (λ (x : OpenDialogues). dialogues_of x due.id) same ∙ e)
+    by (Some d) e =
+        let expires : Expires due.id d due.invoke (was due.was) ≡ Dismissed [] = sym (ap (λ (x : Option machine.Dialogue). expiry_of x due) e) ∙ one in
+        cc
 
 -- The register of the current update, by the dialogue that is open under its id.
 pub current_is : (s : ShardState) (imsi current : List ℕ) (told_in : OpenDialogues) (d : Option Dialogue) (r : Option Register)

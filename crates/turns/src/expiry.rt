@@ -1,7 +1,7 @@
 //! The expiry of a shard's least timer that is due (Q.774).
 
 ghost use Rattle.std.specs.Prelude.{◌≡◌, IfSome, None, option_map};
-ghost use Rattle.std.specs.Bool.{OnTrue};
+ghost use Rattle.std.specs.Bool.{OnFalse, OnTrue};
 ghost use Rattle.machine.specs.State.{local_of};
 ghost use Rattle.machine.specs.Expiries.{current_register};
 ghost use Rattle.smroute.specs.Seen.{machine_register};
@@ -31,7 +31,8 @@ fn current_register(
 
 /// Whether nothing is due.
 pub fn nothing_is_due(shard: &ShardParts) -> bool
-    ensures { OnTrue result (IsExpiry shard.now None) }
+    ensures none { OnTrue result (IsExpiry shard.now None) }
+    ensures due { OnFalse result (IsExpiry shard.now None → ⊥) }
 {
     match shard.dialogues().least_due(shard.clock()) {
         Some(_) => false,

@@ -8,4 +8,4 @@ pub returns-then-nothing_is_due-clause-expired : goal.returns-then-nothing_is_du
 returns-then-nothing_is_due-clause-expired c =
     let none : c.nothing_is_due.result ≡ true = search rules in
     expiry_left c.self.inside.shard c.args.self.now None c.silent.result c.self.view_is
-    (subst (λ b. OnTrue b (IsExpiry c.self.inside.shard None)) none c.nothing_is_due.ensures) refl c.silent.ensures
+    (subst (λ b. OnTrue b (IsExpiry c.self.inside.shard None)) none c.nothing_is_due.ensures.none) refl c.silent.ensures
