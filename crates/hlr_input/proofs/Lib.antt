@@ -3,6 +3,7 @@ pub mod OctetLaws
 pub mod DigitLaws
 pub mod LineLaws
 pub mod SpaceLaws
+pub mod FrameLaws
 pub mod LetteredLaws
 pub mod TickLaws
 pub mod LetterLemmas

@@ -1,6 +1,6 @@
 -- Lines that are read without a look for spaces in a frame's octets.
 use Rattle.std.proofs.Common.{◌≡◌, ℕ, ◌+◌, Bool, true, false, List, [], ◌∷◌, refl, sym, ap, subst, ◌∙◌, arith, inl, inr}
-use Rattle.std.specs.Prelude.{◌==◌, ◌⊎◌, not, Result, Ok, Err, IfOk, IfErr, OnOk, MatchResult, codes}
+use Rattle.std.specs.Prelude.{◌==◌, ◌⊎◌, not, Result, Ok, Err, IfOk, IfErr, MatchResult, codes}
 use Rattle.std.specs.List.{AllByRecursion, onto_first}
 use Rattle.std.proofs.lemmas.Bool.{cases_Bool, false≢true, or_parts}
 use Rattle.std.proofs.lemmas.List.Elements.{recursion_from_All}
@@ -14,7 +14,7 @@ use Rattle.hlr_input.specs.declared.item.Item.{Item}
 use Rattle.hlr_input.specs.declared.item.LineFault.{LineFault}
 use Rattle.hlr_input.specs.declared.item.LineFault.TheVariants.{Bad, Memory}
 use Rattle.hlr_input.specs.Octets.{AreGroups, IsOctets}
-use Rattle.hlr_input.specs.Script.{Line, Frame, Clock, Expire, Batch, Codes, Withdraw, Say, IsLine, IsGoodLine, line_of}
+use Rattle.hlr_input.specs.Script.{Line, Frame, Clock, Expire, Batch, Codes, Withdraw, Say, IsLine, line_of}
 use Rattle.hlr_input.specs.Reading.{Reads, has_space, is_closed, says_three}
 use Rattle.hlr_input.proofs.LineLaws.{frame_fields, o_is_not_f, too_many}
 
@@ -36,7 +36,7 @@ parts_free (x ∷ xs) =
     ]
 
 -- a text without a space is its one part
-one_part : (text : List ℕ) → has_space text ≡ false → parts 32 text ≡ text ∷ []
+pub one_part : (text : List ℕ) → has_space text ≡ false → parts 32 text ≡ text ∷ []
 one_part [] free = refl
 one_part (x ∷ xs) free =
     let p = or_parts (x == 32) (has_space xs) free in
@@ -103,14 +103,9 @@ groups_free (a ∷ b ∷ more) (Letter place ∷ gs) h =
     let second : b ≡ 65 + place = cc (h.0.0) in
     rw (first, second, no_space_is_letter place) (groups_free more gs h.1)
 
-octets_free : (text : List ℕ) (groups : List Group) → IsOctets text groups → has_space text ≡ false
+pub octets_free : (text : List ℕ) (groups : List Group) → IsOctets text groups → has_space text ≡ false
 octets_free text [] h = rw h refl
 octets_free text (g ∷ gs) h = groups_free text (g ∷ gs) h
-
-pub good_frame : {A : Type 0} (line from field : List ℕ) (r : Result A LineFault) → (is_closed (Frame from field) ≡ true → IsLine line (Frame from field))
-    → OnOk r ((groups : List Group) × IsOctets field groups) → OnOk r ((said : Line) × IsGoodLine line said)
-good_frame line from field (Ok x) found (groups, are) = (Frame from field, (found (ap not (octets_free field groups are)), (groups, are)))
-good_frame line from field (Err e) found are = tt
 
 -- ---- a line of one or two fields
 

@@ -4,6 +4,7 @@
 //! them have their ids (`Letters`, `read_octets`).
 #![tactic(auto)]
 
+mod frame_line;
 mod frame_octets;
 mod group;
 mod input;
@@ -15,6 +16,7 @@ mod place;
 mod ticks;
 mod words;
 
+pub use frame_line::{FrameLine, read_frame_line};
 pub use frame_octets::{has_letter, have_ids, read_octets};
 pub use group::Group;
 pub use input::{InputFault, MAX_FILE_OCTETS, read_all};

@@ -10,6 +10,7 @@ ghost use Rattle.hlr_input.specs.Reading.{Reads, is_closed, says_word, says_two,
 ghost use Rattle.records.specs.Reading.{imsi_in, parts_left};
 ghost use Rattle.hlr_input.specs.declared.item.LineFault.TheVariants.{Bad, Memory};
 
+use crate::frame_line::read_frame_line;
 use crate::frame_octets::are_octets;
 use crate::item::{Item, LineFault};
 use crate::ticks::ticks;
@@ -59,8 +60,11 @@ pub fn check_line(_alloc: Global, line: &[u8]) -> Result<(), LineFault>
     ensures good { OnOk result ((said : Line) × IsGoodLine line.now said) }
     ensures bad { result ≡ Err LineFault.Bad → (said : Line) → IsGoodLine line.now said → ⊥ }
 {
+    if let Some(frame) = read_frame_line(line) {
+        return check_octets(frame.octets);
+    }
     match read_open(line) {
-        Ok(Item::Frame { octets, .. }) => check_octets(octets),
+        Ok(Item::Frame { .. }) => Err(LineFault::Bad),
         Ok(_) => Ok(()),
         Err(fault) => Err(fault),
     }

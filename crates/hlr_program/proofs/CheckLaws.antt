@@ -1,12 +1,12 @@
 -- What is checked line by line.
-use Rattle.std.proofs.Common.{◌≡◌, ℕ, ◌+◌, Bool, true, false, List, [], ◌∷◌, ◌++◌, sym, ap, subst, ◌∙◌, inl, inr, refl}
+use Rattle.std.proofs.Common.{◌≡◌, ℕ, ◌+◌, true, false, List, [], ◌∷◌, ◌++◌, sym, ap, subst, ◌∙◌, inl, inr, refl}
 use Rattle.std.specs.List.{AllByRecursion, list_any, join_with_byte}
 use Rattle.std.proofs.lemmas.Bool.{cases_Bool, or_parts, cond-true, cond-false}
 use Rattle.std.specs.Prelude.{◌==◌, codes}
 use Rattle.records.specs.Reading.{is_text}
 use Rattle.hlr_program.specs.Batches.{HasIds, IsFirst, batch_of, behind_batch}
 use Rattle.hlr_input.specs.Lettered.{has_letter, have_letters}
-use Rattle.hlr_input.specs.Script.{Say, Frame, IsLine}
+use Rattle.hlr_input.specs.Script.{Frame, IsLine}
 use Rattle.hlr_input.proofs.LineLaws.{frame_fields}
 use Rattle.hlr_input.proofs.OctetLaws.{known_without}
 use Rattle.records.specs.File.{parts}

@@ -210,12 +210,6 @@ pub adds_frame : (ids : List (List ℕ)) (item : Line) (from field : List ℕ) (
 adds_frame ids item from field raw before after is read h = adds_said ids item (Frame from field) (raw ∷ []) before after is
     (frame_events ids from field raw read) h
 
-pub frame_stops : (ids : List (List ℕ)) (item : Line) (from field : List ℕ) (raw : RawEvent) (before : Progress) (fault : Fault) → item ≡ Frame from field
-    → ReadsFrame ids from field raw
-    → AddingStops before (raw ∷ []) fault → SaidStops ids before item fault
-frame_stops ids item from field raw before fault is read h = said_stops ids item (Frame from field) (raw ∷ []) before fault is
-    (frame_events ids from field raw read) h
-
 -- ---- lines whose letters have ids stand for events
 
 known_group : (ids : List (List ℕ)) (g : Group) → is_known (length ids) g ≡ true → (front : List ℕ) × (octets_of_group ids g ≡ Some front)

@@ -9,7 +9,7 @@ ghost use Rattle.hlrcore.specs.Events.{raw_event};
 ghost use Rattle.shard_state.specs.Frames.{raw_out};
 ghost use Rattle.hlr_input.specs.declared.group.Group.{Group};
 ghost use Rattle.hlr_input.specs.Octets.{IsOctets, octets_of};
-ghost use Rattle.hlr_input.specs.Script.{line_of};
+ghost use Rattle.hlr_input.specs.Script.{Frame, line_of};
 ghost use Rattle.hlr_program.specs.Batches.{IsGood, HasIds, batch_of, behind_batch};
 ghost use Rattle.hlr_program.specs.Gathering.{Adds, AddsSaid, AddsLine, AddsLines, AddingStops, SaidStops, LineStops, LinesStop, Handles, progress};
 ghost use Rattle.hlr_program.specs.Registers.{state_known};
@@ -19,7 +19,7 @@ ghost use Rattle.hlr_program.specs.Stopping.{BatchStops};
 use crate::check::{check_letters, is_end};
 use crate::fault::Fault;
 use crate::register::Register;
-use hlr_input::{Item, Place, read_checked, read_octets};
+use hlr_input::{FrameLine, Item, Place, read_checked, read_frame_line, read_octets};
 use hlr_types::{Peer, Tid};
 use hlrcore::{Change, Out, RawEvent, ShardNumber};
 use machine::numbers::{MAX_ENTRIES, SHARDS};
@@ -170,6 +170,53 @@ fn add_line<R: Threads + Wait + Sync>(
     ensures few { OnOk result (length batch.new.part.items ≤ MAX_ENTRIES) }
     ensures stops { IfErr result (LineStops ids.now (progress register.old batch.old) line.now) }
 {
+    match read_frame_line(line) {
+        Some(frame) => add_frame(rt, alloc, register, batch, frame, ids),
+        None => add_other(rt, alloc, register, batch, line, ids),
+    }
+}
+
+/// Adds the event of a frame's line.
+fn add_frame<R: Threads + Wait + Sync>(
+    rt: &R,
+    alloc: Global,
+    register: &mut Register,
+    batch: &mut Pending,
+    read: FrameLine,
+    ids: &[Tid],
+) -> Result<(), Fault>
+    requires few { length batch.now.part.items ≤ MAX_ENTRIES }
+    requires known { (events : List Event)
+        × AreEvents ids.now (Frame read.from read.octets.now) events }
+    ensures adds { OnOk result (AddsSaid ids.now (progress register.old batch.old)
+        (Frame read.entry.from read.entry.octets.now) (progress register.new batch.new)) }
+    ensures few { OnOk result (length batch.new.part.items ≤ MAX_ENTRIES) }
+    ensures stops { IfErr result (SaidStops ids.now (progress register.old batch.old)
+        (Frame read.entry.from read.entry.octets.now)) }
+{
+    let event = frame(alloc, read.from, read.octets, ids)?;
+    batch.add(rt, register, event)
+}
+
+/// Adds the events of another line. It stands apart, never inlined, since nearly each line is a frame's: only here is room made for
+/// what the others say.
+#[inline(never)]
+fn add_other<R: Threads + Wait + Sync>(
+    rt: &R,
+    alloc: Global,
+    register: &mut Register,
+    batch: &mut Pending,
+    line: &[u8],
+    ids: &[Tid],
+) -> Result<(), Fault>
+    requires few { length batch.now.part.items ≤ MAX_ENTRIES }
+    requires good { IsGood line.now }
+    requires known { HasIds (length ids.now) line.now }
+    ensures adds { OnOk result (AddsLine ids.now (progress register.old batch.old) line.now
+        (progress register.new batch.new)) }
+    ensures few { OnOk result (length batch.new.part.items ≤ MAX_ENTRIES) }
+    ensures stops { IfErr result (LineStops ids.now (progress register.old batch.old) line.now) }
+{
     let item = read_checked(line);
     add_item(rt, alloc, register, batch, item, ids)
 }
@@ -193,8 +240,8 @@ fn add_item<R: Threads + Wait + Sync>(
 {
     match item {
         Item::Frame { from, octets } => {
-            let event = frame(alloc, from, octets, ids)?;
-            batch.add(rt, register, event)
+            let frame = FrameLine { from, octets };
+            add_frame(rt, alloc, register, batch, frame, ids)
         }
         Item::Clock(now) => add_clocks(rt, register, batch, now),
         Item::Expire => add_expiries(rt, register, batch),
