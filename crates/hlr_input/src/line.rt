@@ -64,6 +64,7 @@ pub fn check_line(_alloc: Global, line: &[u8]) -> Result<(), LineFault>
         return check_octets(frame.octets);
     }
     match read_open(line) {
+        // A good line that is a frame's is read above.
         Ok(Item::Frame { .. }) => Err(LineFault::Bad),
         Ok(_) => Ok(()),
         Err(fault) => Err(fault),
