@@ -17,8 +17,8 @@ use std::marker::Model;
 /// The invocations of each dialogue that has some, by ascending invoke id.
 #[derive(Drop)]
 pub(crate) struct Lists {
-    // By the octets of the local id. The register itself hands these ids out, and at most 4,096 of a shard are open at once: no peer
-    // chooses keys that collide.
+    // By the octets of the local id. The register itself hands these ids out; a peer only chooses which of them stay open, and these
+    // are at most 4,096 in a shard.
     by_dialogue: HashMap<[u8; 4], Vec<Invocation>>,
 }
 
