@@ -21,16 +21,18 @@ use Rattle.hlr_program.specs.Batches.{IsGood, HasIds}
 use Rattle.hlr_program.specs.Gathering.{Progress, Adds, AddsLine, AddsLines, AddsSaid, AddingStops, Handles, LineStops, LinesMeetNoRoom, LinesStop, SaidStops, state_in}
 use Rattle.hlr_program.specs.declared.register.Register.{Register}
 use Rattle.hlr_program.specs.declared.register.Register.TheVariants.{Alone, Shared}
+use Rattle.hlr_program.specs.Printed.{Prints, SoFar}
 use Rattle.hlr_program.specs.Registers.{RunsTo, state_known}
 use Rattle.hlr_program.specs.Runs.{AreEvents, LineEvents, LinesEvents}
 use Rattle.hlr_program.specs.Stopping.{BatchMeetsNoRoom, BatchStops, EventsStop, IsUnknown, MeetsNoRoom, MeetsNoRoomFrom, StopsWhere}
+use Rattle.hlr_program.proofs.PrintLemmas.{prints_join, prints_none}
 use Rattle.hlr_program.proofs.RegisterLemmas.{ran_each, ran_join, ran_none, unknown_before}
 use Rattle.hlr_program.proofs.RunLemmas.{flat_join, runs_join}
 
 -- ---- events behind events
 
 pub adds_none : (a : Progress) → Adds a [] a
-adds_none a = record { handled = []; outs = []; order = append-nil a.part; ran = ran_none a.register; sent = sym (append-nil a.sent) }
+adds_none a = record { handled = []; outs = []; order = append-nil a.part; ran = ran_none a.register; prints = prints_none a.answers }
 
 pub adds_join : (a b c : Progress) (r s : List RawEvent) → Adds a r b → Adds b s c → Adds a (r ++ s) c
 adds_join a b c r s h k = record {
@@ -39,29 +41,39 @@ adds_join a b c r s h k = record {
   order = sym (append_assoc a.part r s) ∙ ap (λ (l : List RawEvent). l ++ s) h.order ∙ append_assoc h.handled b.part s
       ∙ ap (λ (l : List RawEvent). h.handled ++ l) k.order ∙ sym (append_assoc h.handled k.handled c.part);
   ran = ran_join a.register b.register c.register h.handled k.handled h.outs k.outs h.ran k.ran;
-  sent = k.sent ∙ ap (λ (l : List RawOut). l ++ flat_map (λ o. o) k.outs) h.sent ∙ append_assoc a.sent (flat_map (λ o. o) h.outs) (flat_map (λ o. o) k.outs)
-      ∙ ap (λ (l : List RawOut). a.sent ++ l) (sym (flat_join h.outs k.outs));
+  prints = subst (λ (frames : List RawOut). Prints a.answers frames c.answers) (sym (flat_join h.outs k.outs))
+      (prints_join a.answers b.answers c.answers (flat_map (λ o. o) h.outs) (flat_map (λ o. o) k.outs) h.prints k.prints);
 }
 
 -- an event is appended to the part
-pub adds_one : (a b : Progress) (raw : RawEvent) → b.register ≡ a.register → b.part ≡ a.part ++ raw ∷ [] → b.sent ≡ a.sent → Adds a (raw ∷ []) b
+pub adds_one : (a b : Progress) (raw : RawEvent) → b.register ≡ a.register → b.part ≡ a.part ++ raw ∷ [] → b.answers ≡ a.answers → Adds a (raw ∷ []) b
 adds_one a b raw same put sends = record {
   handled = [];
   outs = [];
   order = sym put;
   ran = subst (λ (r : Register). RunsTo a.register [] [] r) (sym same) (ran_none a.register);
-  sent = sends ∙ sym (append-nil a.sent);
+  prints = subst (λ (s : SoFar). Prints a.answers [] s) (sym sends) (prints_none a.answers);
 }
 
 -- the part is handled
 pub adds_part : (a b : Progress) (outs : List (List RawOut)) → RunsTo a.register a.part outs b.register → b.part ≡ []
-    → b.sent ≡ a.sent ++ flat_map (λ o. o) outs → Adds a [] b
+    → Prints a.answers (flat_map (λ o. o) outs) b.answers → Adds a [] b
 adds_part a b outs ran none sends = record {
   handled = a.part;
   outs = outs;
   order = ap (λ (l : List RawEvent). a.part ++ l) (sym none);
   ran = ran;
-  sent = sends;
+  prints = sends;
+}
+
+-- room is made in the journals
+pub adds_room : (a b : Progress) → RunsTo a.register [] [] b.register → b.part ≡ a.part → b.answers ≡ a.answers → Adds a [] b
+adds_room a b ran part answers = record {
+  handled = [];
+  outs = [];
+  order = append-nil a.part ∙ sym part;
+  ran = ran;
+  prints = subst (λ (s : SoFar). Prints a.answers [] s) (sym answers) (prints_none a.answers);
 }
 
 -- ---- events that stop
@@ -316,20 +328,23 @@ adding_stops ids start ls here rest line more fault h is stops = stops_weaker fa
 -- ---- a batch
 
 -- a batch begins with an empty part, and ends with one
-pub handles : (ids : List (List ℕ)) (a b c : Progress) (ls : List (List ℕ)) → a.part ≡ [] → a.sent ≡ [] → AddsLines ids a ls b → Adds b [] c → c.part ≡ []
-    → Handles ids a.register ls c.sent c.register
-handles ids a b c ls none nothing (raws, are, adds) last empty =
+pub handles : (ids : List (List ℕ)) (a b c : Progress) (ls : List (List ℕ)) → a.part ≡ [] → AddsLines ids a ls b → Adds b [] c → c.part ≡ []
+    → (sent : List RawOut) × Handles ids a.register ls sent c.register × Prints a.answers sent c.answers
+handles ids a b c ls none (raws, are, adds) last empty =
     let all = adds_join a b c raws [] adds last in
     let events : raws ≡ all.handled =
     sym (append-nil raws) ∙ sym (ap (λ (l : List RawEvent). l ++ (raws ++ [])) none) ∙ all.order ∙ ap (λ (l : List RawEvent). all.handled ++ l) empty
-    ∙ append-nil all.handled in
-    record {
-      batch = record { events = all.handled; sent = all.outs };
-      are_events = subst (λ (es : List RawEvent). LinesEvents ids ls es) events are;
-      one_each = ran_each a.register c.register all.handled all.outs all.ran;
-      ran = all.ran;
-      sent_is = all.sent ∙ ap (λ (l : List RawOut). l ++ flat_map (λ o. o) all.outs) nothing;
-    }
+    ∙ append-nil all.handled in (
+      flat_map (λ o. o) all.outs,
+      record {
+        batch = record { events = all.handled; sent = all.outs };
+        are_events = subst (λ (es : List RawEvent). LinesEvents ids ls es) events are;
+        one_each = ran_each a.register c.register all.handled all.outs all.ran;
+        ran = all.ran;
+        sent_is = refl;
+      },
+      all.prints,
+    )
 
 batch_meets : (ids : List (List ℕ)) (a : Progress) (ls : List (List ℕ)) → a.part ≡ [] → AllByRecursion (HasIds (length ids)) ls → LinesMeetNoRoom ids a ls
     → BatchMeetsNoRoom ids (state_in a) ls

@@ -1,27 +1,34 @@
 -- Room in the journals, and the cuts that make it.
-use Rattle.std.proofs.Common.{◌≡◌, ℕ, suc, ◌+◌, ◌<◌, ◌≤◌, List, [], ◌∷◌, ◌++◌, map, length, length-append, set, refl, sym, ap, subst, ◌∙◌, arith, inl, inr}
+use Rattle.std.proofs.Common.{◌≡◌, ℕ, suc, ◌+◌, ◌<◌, ◌≤◌, List, [], ◌∷◌, ◌++◌, map, length, length-append, append_assoc, set, refl, sym, ap, subst, ◌∙◌, arith, inl, inr}
 use Rattle.std.specs.List.{flat_map}
 use Rattle.std.specs.Prelude.{◌⊎◌, Option, Some, None, option_map, slice_get}
 use Rattle.std.proofs.lemmas.Bool.{cases_eq, cases_order}
+use Rattle.std.proofs.lemmas.List.{append-nil}
 use Rattle.std.proofs.lemmas.Option.{slice_get_past, slice_get_within}
 use Rattle.machine.specs.declared.numbers.TheConstants.{MAX_ENTRIES}
 use Rattle.frames.specs.Octets.{RawEvent, RawOut}
 use Rattle.machine.specs.State.{State}
-use Rattle.shardlog.specs.declared.entry.Epoch.{Epoch}
+use Rattle.hlrcore.specs.declared.event.RawEvent as code
+use Rattle.hlrcore.specs.Events.{raw_event}
+use Rattle.records.proofs.TakenLemmas.{none_left}
 use Rattle.shardlog.specs.declared.entry.Handled.{Handled}
 use Rattle.shardlog.specs.Log.{Log}
 use Rattle.wholenode.specs.declared.fault.Cause.{Cause}
 use Rattle.wholenode.specs.declared.fault.Cause.TheVariants as cause
-use Rattle.wholenode.specs.Handling.{Cuts, IsRun, Refuses, Runs, Stops, Takes, sent_of}
+use Rattle.wholenode.specs.Handling.{Drops, IsRun, Refuses, Runs, Stops, Takes, sent_of}
 use Rattle.wholenode.specs.Keeping.{NodeKeeps}
 use Rattle.wholenode.specs.Nodes.{NodeState, whole}
 use Rattle.wholenode.proofs.Places.{set_elsewhere, set_or_not, set_there}
+use Rattle.wholenode.proofs.RunLemmas.{handled_next, is_run, stops_at}
 use Rattle.hlr_program.specs.declared.fault.Fault.{Fault}
-use Rattle.hlr_program.specs.Journals.{Continues, RunsAlone}
-use Rattle.hlr_program.specs.Parts.{AreCut, HasRoom, MakesRoom, RunsPart, cut_log}
+use Rattle.hlr_program.specs.Journals.{RunsAlone}
+use Rattle.hlr_program.specs.Parts.{AreCut, HasRoom, MakesRoom, cut_log}
+use Rattle.hlr_program.specs.Printed.{Prints, SoFar}
 use Rattle.hlr_program.specs.Statuses.{stopped_by}
 use Rattle.hlr_program.specs.Stopping.{EventsStop}
 use Rattle.hlr_program.proofs.JournalLemmas.{made_whole, part_continues}
+use Rattle.hlr_program.proofs.PrintLemmas.{prints_join, prints_none}
+use Rattle.hlr_program.proofs.RunLemmas.{no_run}
 
 -- ---- all journals are cut, one after the other
 
@@ -35,9 +42,9 @@ pub record Cutting (before : NodeState) (count : ℕ) (here : NodeState) : Type 
 pub cutting_begins : (before : NodeState) → NodeKeeps before → Cutting before 0 before
 cutting_begins before keeps = record { directory = refl; cut = λ n lt. absurd (omega (arith, lt)); uncut = λ n le. refl; keeps = keeps }
 
-pub cutting_goes_on : (before here next : NodeState) (count : ℕ) (epoch : Epoch) → Cutting before count here → Cuts here count epoch next → NodeKeeps next
+pub cutting_goes_on : (before here next : NodeState) (count : ℕ) → Cutting before count here → Drops here count next → NodeKeeps next
     → Cutting before (count + 1) next
-cutting_goes_on before here next count epoch h c keeps = record {
+cutting_goes_on before here next count h c keeps = record {
   directory = ap (λ (n : NodeState). n.directory) c.changed ∙ h.directory;
   cut = λ n lt. ap (λ (m : NodeState). slice_get m.shards n) c.changed ∙ at n lt (cases_eq count n);
   uncut = λ n le. ap (λ (m : NodeState). slice_get m.shards n) c.changed
@@ -141,36 +148,68 @@ part_stops before ready raws done c after same stops = subst (λ (S : State). Ev
       no_room = refused.2;
     }
 
--- ---- in the code: the register before, the one in whose journals room is made, and the same as the code has it then
+-- ---- events are handled one by one, and the lines of what they send appended
 
-module _ (before made ready : NodeState) (count : ℕ) (makes : MakesRoom before count made) (seen : ready ≡ made) (raws : List RawEvent)
-    (counted : length raws ≡ count) where
-  ready_made : MakesRoom before count ready
-  ready_made = subst (λ (n : NodeState). MakesRoom before count n) (sym seen) makes
+pub record Sending (before : NodeState) (events : List code.RawEvent) (printed : SoFar) (front back : List code.RawEvent) (here : NodeState)
+    (answers : SoFar) : Type 0 where
+  pub split : front ++ back ≡ events
+  pub done : List Handled
+  pub runs : Runs before (map raw_event front) done here
+  pub prints : Prints printed (flat_map sent_of done) answers
+  pub keeps : NodeKeeps here
 
-  same_whole : whole ready.shards ≡ whole before.shards
-  same_whole = made_whole before ready count ready_made
+pub sending_begins : (before here : NodeState) (events back : List code.RawEvent) (printed : SoFar) → here ≡ before → back ≡ events → NodeKeeps before
+    → Sending before events printed [] back here printed
+sending_begins before here events back printed same whole_is keeps = record {
+  split = whole_is;
+  done = [];
+  runs = same;
+  prints = prints_none printed;
+  keeps = subst NodeKeeps (sym same) keeps;
+}
 
-  pub part_runs : (done : List Handled) (after : NodeState) → Runs ready raws done after → RunsPart before raws done after
-  part_runs done after runs = record { ready = ready; makes = subst (λ (n : ℕ). MakesRoom before n ready) (sym counted) ready_made; runs = runs }
+flat_more : (done : List Handled) (handled : Handled) → flat_map sent_of (done ++ handled ∷ []) ≡ flat_map sent_of done ++ sent_of handled
+flat_more [] handled = append-nil (sent_of handled)
+flat_more (d ∷ ds) handled =
+    ap (λ (l : List RawOut). sent_of d ++ l) (flat_more ds handled) ∙ sym (append_assoc (sent_of d) (flat_map sent_of ds) (sent_of handled))
 
-  pub part_run : (done : List Handled) (after : NodeState) → IsRun (whole ready.shards) raws (map sent_of done) (whole after.shards)
-      → IsRun (whole before.shards) raws (map sent_of done) (whole after.shards)
-  part_run done after run = subst (λ (S : State). IsRun S raws (map sent_of done) (whole after.shards)) same_whole run
+pub sending_goes_on : (before : NodeState) (events : List code.RawEvent) (printed : SoFar) (front all back : List code.RawEvent) (event : code.RawEvent)
+    (here next : NodeState) (answers more : SoFar) (handled : Handled)
+    → Sending before events printed front all here answers → all ≡ event ∷ back → Takes here (raw_event event) handled next → NodeKeeps next
+    → Prints answers (sent_of handled) more → Sending before events printed (front ++ event ∷ []) back next more
+sending_goes_on before events printed front all back event here next answers more handled h left takes keeps prints = record {
+  split = append_assoc front (event ∷ []) back ∙ ap (λ (l : List code.RawEvent). front ++ l) (sym left) ∙ h.split;
+  done = h.done ++ handled ∷ [];
+  runs = handled_next before here next front event h.done handled h.runs takes;
+  prints = subst (λ (frames : List RawOut). Prints printed frames more) (sym (flat_more h.done handled))
+      (prints_join printed answers more (flat_map sent_of h.done) (sent_of handled) h.prints prints);
+  keeps = keeps;
+}
 
-  pub part_goes_on : (done : List Handled) (after : NodeState) → NodeKeeps made → Runs ready raws done after → Continues before raws (map sent_of done) after
-  part_goes_on done after keeps runs = part_continues before ready count raws done after ready_made
-      (ap (λ (n : NodeState). length n.shards) seen ∙ keeps.shards.count) runs
+pub sending_stops : (before : NodeState) (events : List code.RawEvent) (printed : SoFar) (front back : List code.RawEvent) (event : code.RawEvent)
+    (here : NodeState) (answers : SoFar) (c : Cause)
+    → (h : Sending before events printed front (event ∷ back) here answers) → Refuses here (raw_event event) c
+    → Stops before (map raw_event events) h.done c here
+sending_stops before events printed front back event here answers c h refused =
+    stops_at before here events front back event h.done c h.split h.runs refused
 
-  pub part_not_full : (done : List Handled) (c : Cause) (after : NodeState) → HasRoom made count → Stops ready raws done c after → c ≡ cause.JournalFull → ⊥
-  part_not_full done c after room stops full =
-      never_full ready raws done c after (subst (λ (n : ℕ). HasRoom ready n) (sym counted)
-      (subst (λ (n : NodeState). HasRoom n count) (sym seen) room)) stops full
+pub sending_ends : (before : NodeState) (events : List code.RawEvent) (printed : SoFar) (front back : List code.RawEvent) (here : NodeState)
+    (answers : SoFar)
+    → Sending before events printed front back here answers → length back ≡ 0
+    → (done : List Handled) × Runs before (map raw_event events) done here × Prints printed (flat_map sent_of done) answers
+sending_ends before events printed front back here answers h none = (
+  h.done,
+  subst (λ (es : List code.RawEvent). Runs before (map raw_event es) h.done here) (none_left front back events h.split none) h.runs,
+  h.prints,
+)
 
-  pub part_stopped : (done : List Handled) (c : Cause) (after : NodeState) (fault : Fault) → fault ≡ stopped_by c → Stops ready raws done c after
-      → EventsStop (Some (whole before.shards)) raws fault
-  part_stopped done c after fault is stops = subst (λ (f : Fault). EventsStop (Some (whole before.shards)) raws f) (sym is)
-      (part_stops before ready raws done c after same_whole stops)
+-- ---- room is made for a part
+
+pub room_runs : (before ready : NodeState) (count : ℕ) → MakesRoom before count ready → NodeKeeps ready → RunsAlone before [] [] ready
+room_runs before ready count makes keeps = (
+  subst (λ (S : State). IsRun S [] [] (whole ready.shards)) (made_whole before ready count makes) (no_run (whole ready.shards)),
+  part_continues before ready count [] [] ready makes keeps.shards.count refl,
+)
 
 -- ---- what a part sends
 
@@ -178,13 +217,21 @@ flat_of : (done : List Handled) → flat_map (λ o. o) (map sent_of done) ≡ fl
 flat_of [] = refl
 flat_of (d ∷ ds) = ap (λ (l : List RawOut). sent_of d ++ l) (flat_of ds)
 
-pub part_sends : (before after : NodeState) (raws : List RawEvent) (done : List Handled) (sent sent_after : List RawOut)
-    → IsRun (whole before.shards) raws (map sent_of done) (whole after.shards)
-    → Continues before raws (map sent_of done) after → sent_after ≡ sent ++ flat_map sent_of done
-    → (outs : List (List RawOut)) × RunsAlone before raws outs after × (sent_after ≡ sent ++ flat_map (λ o. o) outs)
-part_sends before after raws done sent sent_after run continues sends = (
+-- room is made, and then the part is handled
+pub part_sends : (before ready after : NodeState) (count : ℕ) (raws : List RawEvent) (done : List Handled) (a b : SoFar) → MakesRoom before count ready
+    → NodeKeeps ready → Runs ready raws done after → Prints a (flat_map sent_of done) b
+    → (outs : List (List RawOut)) × RunsAlone before raws outs after × Prints a (flat_map (λ o. o) outs) b
+part_sends before ready after count raws done a b makes keeps runs prints = (
   map sent_of done,
-  (run, continues),
-  sends
-      ∙ ap (λ (l : List RawOut). sent ++ l) (sym (flat_of done)),
+  (
+    subst (λ (S : State). IsRun S raws (map sent_of done) (whole after.shards)) (made_whole before ready count makes) (is_run ready after raws done runs),
+    part_continues before ready count raws done after makes keeps.shards.count runs,
+  ),
+  subst (λ (frames : List RawOut). Prints a frames b) (sym (flat_of done)) prints,
 )
+
+pub part_stopped : (before ready : NodeState) (count : ℕ) (raws : List RawEvent) (fault : Fault) → MakesRoom before count ready
+    → EventsStop (Some (whole ready.shards)) raws fault
+    → EventsStop (Some (whole before.shards)) raws fault
+part_stopped before ready count raws fault makes stops =
+    subst (λ (S : State). EventsStop (Some S) raws fault) (made_whole before ready count makes) stops

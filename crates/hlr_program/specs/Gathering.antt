@@ -4,23 +4,24 @@ use Rattle.std.specs.List.{flat_map}
 use Rattle.frames.specs.Octets.{RawEvent, RawOut}
 use Rattle.hlrcore.specs.Events.{raw_event}
 use Rattle.machine.specs.State.{State}
-use Rattle.shard_state.specs.Frames.{raw_out}
 use Rattle.hlr_input.specs.Script.{Line, IsLine}
 use Rattle.hlr_program.specs.declared.batch.Pending.{Pending}
 use Rattle.hlr_program.specs.declared.fault.Fault.{Fault}
 use Rattle.hlr_program.specs.declared.register.Register.{Register}
+use Rattle.hlr_program.specs.Answered.{so_far}
+use Rattle.hlr_program.specs.Printed.{Prints, SoFar}
 use Rattle.hlr_program.specs.Registers.{RunsTo, state_known}
 use Rattle.hlr_program.specs.Runs.{AreEvents, BatchRun, LinesEvents, frames_of}
 use Rattle.hlr_program.specs.Stopping.{EventsStop, IsUnknown, MeetsNoRoomFrom, StopsWhere}
 
--- The register, the events of a batch that are not handled yet, and what the events before them have sent.
+-- The register, the events of a batch that are gathered and not handled yet, and what the events before them have answered.
 pub record Progress : Type 0 where
   pub register : Register
   pub part : List RawEvent
-  pub sent : List RawOut
+  pub answers : SoFar
 
 abbrev pub progress : Register → Pending → Progress
-progress register batch = record { register = register; part = map raw_event batch.part.items; sent = map raw_out batch.sent.items }
+progress register batch = record { register = register; part = map raw_event batch.gathered.items; answers = so_far batch.answers }
 
 -- the whole state of the register, if it is known
 abbrev pub state_in : Progress → Option State
@@ -32,7 +33,7 @@ pub record Adds (before : Progress) (raws : List RawEvent) (after : Progress) : 
   pub outs : List (List RawOut)
   pub order : before.part ++ raws ≡ handled ++ after.part
   pub ran : RunsTo before.register handled outs after.register
-  pub sent : after.sent ≡ before.sent ++ flat_map (λ o. o) outs
+  pub prints : Prints before.answers (flat_map (λ o. o) outs) after.answers
 
 abbrev pub AddsSaid : (ids : List (List ℕ)) → Progress → Line → Progress → Type 0
 AddsSaid ids before said after = (raws : List RawEvent) × AreEvents ids said raws × Adds before raws after

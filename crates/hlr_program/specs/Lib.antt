@@ -1,5 +1,6 @@
 pub mod Printed
 pub mod Statuses
+pub mod Answered
 pub mod Batches
 pub mod Runs
 pub mod Parts

@@ -1,10 +1,7 @@
 -- The parts of a batch, and the cuts between them (profile). A cut changes no state, only which entries a listing shows.
-use Rattle.std.specs.Prelude.{◌≡◌, ◌≤◌, ◌⊎◌, ℕ, ◌+◌, List, [], length, Some, option_map, slice_get}
+use Rattle.std.specs.Prelude.{◌≡◌, ◌≤◌, ◌⊎◌, ℕ, ◌+◌, [], length, Some, option_map, slice_get}
 use Rattle.machine.specs.declared.numbers.TheConstants.{MAX_ENTRIES}
-use Rattle.frames.specs.Octets.{RawEvent}
-use Rattle.shardlog.specs.declared.entry.Handled.{Handled}
 use Rattle.shardlog.specs.Log.{Log, log}
-use Rattle.wholenode.specs.Handling.{Runs}
 use Rattle.wholenode.specs.Nodes.{NodeState}
 
 -- Each journal has room for n more entries.
@@ -23,9 +20,3 @@ pub record AreCut (before after : NodeState) : Type 0 where
 -- If some journal has no room for n more entries, all are cut; otherwise nothing is done.
 abbrev pub MakesRoom : NodeState → ℕ → NodeState → Type 0
 MakesRoom before count after = (HasRoom before count × (after ≡ before)) ⊎ ((HasRoom before count → ⊥) × AreCut before after)
-
--- A part of a batch: room is made for its events, and they are handled.
-pub record RunsPart (before : NodeState) (part : List RawEvent) (done : List Handled) (after : NodeState) : Type 0 where
-  pub ready : NodeState
-  pub makes : MakesRoom before (length part) ready
-  pub runs : Runs ready part done after

@@ -20,6 +20,16 @@ abbrev pub noted_in : List (List ℕ) → List RawOut → List (List ℕ)
 noted_in ids [] = ids
 noted_in ids (frame ∷ more) = noted_in (noted ids (originating_id frame.octets)) more
 
+-- The lines that a batch has so far, and the ids that letters stand for behind it.
+pub record SoFar : Type 0 where
+  pub text : List ℕ
+  pub ids : List (List ℕ)
+
+-- The lines of these frames are appended, and the ids in them recorded.
+pub record Prints (before : SoFar) (frames : List RawOut) (after : SoFar) : Type 0 where
+  pub text : after.text ≡ before.text ++ sent_lines frames
+  pub ids : after.ids ≡ noted_in before.ids frames
+
 -- What was written before is followed by a prefix of a text.
 pub record WritesFront (old : Option (List ℕ)) (all : List ℕ) (new : Option (List ℕ)) : Type 0 where
   pub written : List ℕ

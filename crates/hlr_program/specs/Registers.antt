@@ -1,5 +1,5 @@
 -- The register of a run, in one thread or shared by workers, and what it does with events.
-use Rattle.std.specs.Prelude.{◌≡◌, ℕ, zero, suc, List, [], ◌++◌, Option, Some, None}
+use Rattle.std.specs.Prelude.{◌≡◌, ℕ, zero, suc, List, [], Option, Some, None}
 use Rattle.std.specs.List.{flat_map}
 use Rattle.machine.specs.State.{State}
 use Rattle.frames.specs.Octets.{RawEvent, RawOut}
@@ -12,6 +12,7 @@ use Rattle.workers.specs.Shared.{GoesOn, HandsOut, StandsBehind}
 use Rattle.hlr_program.specs.declared.register.Register.{Register}
 use Rattle.hlr_program.specs.declared.register.Register.TheVariants.{Alone, Shared}
 use Rattle.hlr_program.specs.Journals.{RunsAlone}
+use Rattle.hlr_program.specs.Printed.{Prints, SoFar}
 use Rattle.hlr_program.specs.Runs.{opening_of}
 
 -- The register is shared by this number of workers, or is in one thread if there are none.
@@ -39,9 +40,10 @@ RunsTo (Alone before) events sent (Shared after) = ⊥
 RunsTo (Shared before) events sent (Alone after) = ⊥
 RunsTo (Shared before) events sent (Shared after) = GoesOn before events sent after
 
--- A part of a batch is handled, and what it sends is appended.
-abbrev pub SendsPart : Register → List RawEvent → List RawOut → Register → List RawOut → Type 0
-SendsPart before part sent after sent_after = (outs : List (List RawOut)) × RunsTo before part outs after × (sent_after ≡ sent ++ flat_map (λ o. o) outs)
+-- Events are handled, and the lines of what they send are appended.
+abbrev pub SendsPart : Register → List RawEvent → SoFar → Register → SoFar → Type 0
+SendsPart before part answers after answers_after = (outs : List (List RawOut)) × RunsTo before part outs after
+    × Prints answers (flat_map (λ o. o) outs) answers_after
 
 -- These are the shards that it returns.
 abbrev pub HandsOver : Register → List Log → Type 0

@@ -1,26 +1,29 @@
 //! A register in one thread: its shards with their journals, and the arena in which frames are decoded.
 
-ghost use Rattle.std.specs.Prelude.{◌≡◌, ◌≢◌, ◌≤◌, ◌↔◌, ◌++◌, List, IsTrue, IfOk, IfErr, OnOk, Some, map, length};
+ghost use Rattle.std.specs.Prelude.{◌≡◌, ◌≢◌, ◌≤◌, ◌↔◌, [], List, IsTrue, IfOk, IfErr, OnOk, Some, map, length};
 ghost use Rattle.std.specs.List.{flat_map};
 ghost use Rattle.machine.specs.declared.numbers.TheConstants.{MAX_ENTRIES};
 ghost use Rattle.frames.specs.Octets.{RawOut};
 ghost use Rattle.hlrcore.specs.Events.{raw_event};
-ghost use Rattle.shard_state.specs.Frames.{raw_out};
+ghost use Rattle.shardlog.specs.declared.entry.Handled.{Handled};
 ghost use Rattle.wholenode.specs.Keeping.{NodeKeeps};
 ghost use Rattle.wholenode.specs.Nodes.{whole};
 ghost use Rattle.wholenode.specs.Opening.{BeginsWith};
-ghost use Rattle.wholenode.specs.Handling.{IsRun, sent_of};
-ghost use Rattle.hlr_program.specs.Journals.{Continues, RunsAlone};
-ghost use Rattle.hlr_program.specs.Parts.{AreCut, HasRoom, MakesRoom, RunsPart};
+ghost use Rattle.wholenode.specs.Handling.{Runs, sent_of};
+ghost use Rattle.hlr_program.specs.Answered.{so_far};
+ghost use Rattle.hlr_program.specs.Printed.{Prints};
+ghost use Rattle.hlr_program.specs.Journals.{RunsAlone};
+ghost use Rattle.hlr_program.specs.Parts.{AreCut, HasRoom, MakesRoom};
 ghost use Rattle.hlr_program.specs.Statuses.{stopped_by};
 ghost use Rattle.hlr_program.specs.Stopping.{EventsStop};
 
+use crate::answers::Answers;
 use crate::fault::Fault;
 use bumpalo::Bump;
-use hlrcore::{Out, RawEvent};
+use hlrcore::RawEvent;
 use machine::numbers::{MAX_ENTRIES, SHARDS};
 use records::Loaded;
-use shardlog::{Handled, Shard};
+use shardlog::Shard;
 use std::alloc::{AllocError, Global};
 use std::marker::Model;
 use wholenode::{Cause, Node};
@@ -62,40 +65,47 @@ impl Alone {
         node.into_shards()
     }
 
-    /// Handles a part of a batch, and appends what it sends.
-    pub fn send_part(&mut self, part: Vec<RawEvent>, sent: &mut Vec<Out>) -> Result<(), Fault>
-        requires { length part.items ≤ MAX_ENTRIES }
-        ensures sends { OnOk result ((outs : List (List RawOut))
-            × RunsAlone self.old (map raw_event part.items) outs self.new
-            × (map raw_out sent.new.items ≡ map raw_out sent.old.items ++ flat_map (λ o. o) outs)) }
-        ensures stops { IfErr result (EventsStop (Some (whole self.old.shards))
-            (map raw_event part.items)) }
+    /// Before a part of a batch, of so many events: cuts all journals, if one of them has no room for as many more entries.
+    pub fn begin_part(&mut self, count: usize) -> Result<(), AllocError>
+        requires { count ≤ MAX_ENTRIES }
+        ensures { OnOk result (RunsAlone self.old [] [] self.new) }
     {
-        let done = self.run_part(part)?;
-        push_outs(sent, done)?;
+        self.make_room(count)?;
         Ok(())
     }
 
-    /// Handles a part of a batch, of at most 65,536 events. If a journal has no room for that many more entries, all journals are
-    /// cut first, so no journal is ever full.
-    fn run_part(&mut self, part: Vec<RawEvent>) -> Result<Vec<Handled>, Fault>
+    /// Handles events, at most 65,536, and appends the lines of what they send. If a journal has no room for that many more entries, all
+    /// journals are cut first, so no journal is ever full.
+    pub fn send_part(&mut self, part: Vec<RawEvent>, answers: &mut Answers) -> Result<(), Fault>
         requires { length part.items ≤ MAX_ENTRIES }
-        ensures runs { IfOk result (λ done. RunsPart self.old
-            (map raw_event part.items) done.items self.new) }
-        // For the whole state they are a run of the machine, and the journals have its last entries.
-        ensures run { IfOk result (λ done. IsRun (whole self.old.shards) (map raw_event part.items)
-            (map sent_of done.items) (whole self.new.shards)) }
-        ensures continues { IfOk result (λ done. Continues self.old (map raw_event part.items)
-            (map sent_of done.items) self.new) }
+        ensures sends { OnOk result ((outs : List (List RawOut))
+            × RunsAlone self.old (map raw_event part.items) outs self.new
+            × Prints (so_far answers.old) (flat_map (λ o. o) outs) (so_far answers.new)) }
         ensures stops { IfErr result (EventsStop (Some (whole self.old.shards))
             (map raw_event part.items)) }
     {
         self.make_room(part.len())?;
-        let fault = match self.node.run_owned(&mut self.bump, part) {
-            Ok(done) => return Ok(done),
-            Err(fault) => fault,
-        };
-        Err(stopped(fault.cause))
+        self.send_all(part, answers)
+    }
+
+    /// Handles events, for each of which its journal has room. The line of what is sent is made at once, while its octets are near.
+    fn send_all(&mut self, part: Vec<RawEvent>, answers: &mut Answers) -> Result<(), Fault>
+        requires room { HasRoom self.now (length part.items) }
+        requires keeps { NodeKeeps self.now }
+        ensures sends { OnOk result ((done : List Handled)
+            × Runs self.old (map raw_event part.items) done self.new
+            × Prints (so_far answers.old) (flat_map sent_of done) (so_far answers.new)) }
+        ensures stops { IfErr result (EventsStop (Some (whole self.old.shards))
+            (map raw_event part.items)) }
+    {
+        for raw in part {
+            let handled = match self.node.handle_owned(&mut self.bump, raw) {
+                Ok(handled) => handled,
+                Err(cause) => return Err(stopped(cause)),
+            };
+            answers.push_all(handled.outs.as_slice())?;
+        }
+        Ok(())
     }
 
     /// Cuts all journals, if one of them has no room for `count` more entries.
@@ -125,14 +135,14 @@ impl Alone {
         true
     }
 
-    /// Cuts the journal of each shard, and drops the epochs.
+    /// Cuts the journal of each shard, and drops it.
     fn cut_all(&mut self) -> Result<(), AllocError>
         requires { NodeKeeps self.now }
         ensures cut { OnOk result (AreCut self.old self.new) }
         ensures keeps { OnOk result (NodeKeeps self.new) }
     {
         for shard in 0..SHARDS {
-            let _epoch = self.node.cut(shard)?;
+            self.node.drop_journal(shard)?;
         }
         Ok(())
     }
@@ -148,17 +158,4 @@ fn stopped(cause: Cause) -> Fault
         Cause::NoRoom => Fault::NoRoom,
         Cause::JournalFull => unreachable!(),
     }
-}
-
-/// Appends what was sent for several events.
-fn push_outs(sent: &mut Vec<Out>, done: Vec<Handled>) -> Result<(), AllocError>
-    ensures { OnOk result (map raw_out sent.new.items
-        ≡ map raw_out sent.old.items ++ flat_map sent_of done.items) }
-{
-    // Room for all at once, where memory suffices, so that none is moved as their list grows.
-    let _has_room = sent.reserve(done.len()).is_ok();
-    for handled in done {
-        handled.outs.append_to(sent)?;
-    }
-    Ok(())
 }

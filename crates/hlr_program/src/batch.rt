@@ -3,105 +3,138 @@
 ghost use Rattle.std.specs.Prelude.{◌≡◌, ◌<◌, ◌≤◌, ◌∷◌, ◌+◌, [], ℕ, List, length, map, Some, IfOk, IfErr, OnOk};
 ghost use Rattle.std.specs.List.{AllByRecursion, range_with_len};
 ghost use Rattle.machine.specs.declared.numbers.TheConstants.{MAX_ENTRIES};
-ghost use Rattle.frames.specs.Octets.{RawEvent as Event, RawFrame, RawClock, RawExpire};
+ghost use Rattle.frames.specs.Octets.{RawEvent as Event, RawFrame, RawClock, RawExpire, RawOut};
 ghost use Rattle.records.specs.File.{lines};
 ghost use Rattle.hlrcore.specs.Events.{raw_event};
-ghost use Rattle.shard_state.specs.Frames.{raw_out};
 ghost use Rattle.hlr_input.specs.declared.group.Group.{Group};
 ghost use Rattle.hlr_input.specs.Octets.{IsOctets, octets_of};
 ghost use Rattle.hlr_input.specs.Script.{Frame, line_of};
+ghost use Rattle.hlr_program.specs.Answered.{so_far};
 ghost use Rattle.hlr_program.specs.Batches.{IsGood, HasIds, batch_of, behind_batch};
 ghost use Rattle.hlr_program.specs.Gathering.{Adds, AddsSaid, AddsLine, AddsLines, AddingStops, SaidStops, LineStops, LinesStop, Handles, progress};
+ghost use Rattle.hlr_program.specs.Printed.{Prints};
 ghost use Rattle.hlr_program.specs.Registers.{state_known};
 ghost use Rattle.hlr_program.specs.Runs.{AreEvents};
 ghost use Rattle.hlr_program.specs.Stopping.{BatchStops};
 
+use crate::ahead::count_events;
+use crate::answers::Answers;
 use crate::check::{check_letters, is_end};
 use crate::fault::Fault;
 use crate::register::Register;
 use hlr_input::{FrameLine, Item, Place, read_checked, read_frame_line, read_octets};
 use hlr_types::{Peer, Tid};
-use hlrcore::{Change, Out, RawEvent, ShardNumber};
+use hlrcore::{Change, RawEvent, ShardNumber};
 use machine::numbers::{MAX_ENTRIES, SHARDS};
 use std::alloc::{AllocError, Global};
 use std::mem;
 use std::sync::Wait;
 use std::thread::Threads;
 
-/// A batch that is being handled.
+/// A batch that is being handled. It serves for all batches of a script, so that its room is used again.
 #[derive(Drop)]
 pub struct Pending {
     alloc: Global,
-    /// The events of the part being gathered, which are not handled yet.
-    pub part: Vec<RawEvent>,
-    /// What the parts before it have sent.
-    pub sent: Vec<Out>,
+    /// The events that are gathered, and not handled yet.
+    pub gathered: Vec<RawEvent>,
+    /// The lines of what those before them have sent.
+    pub answers: Answers,
+    /// How many events of the batch are not handled yet.
+    ahead: usize,
+    /// For how many of these there is room in the journals.
+    room: usize,
 }
 
 impl Pending {
     pub fn new(alloc: Global) -> Pending
-        ensures part { result.part.items ≡ [] }
-        ensures sent { result.sent.items ≡ [] }
+        ensures gathered { result.gathered.items ≡ [] }
+        ensures text { result.answers.text.items ≡ [] }
+        ensures letters { result.answers.letters ≡ [] }
     {
         Pending {
             alloc,
-            part: Vec::new(alloc),
-            sent: Vec::new(alloc),
+            gathered: Vec::new(alloc),
+            answers: Answers::new(alloc),
+            ahead: 0,
+            room: 0,
         }
     }
 
-    /// Adds an event. A full part is handled first.
+    /// Adds an event. Those that are gathered are handled first if they are as many as are handled at once.
     fn add<R: Threads + Wait + Sync>(
         &mut self,
         rt: &R,
         register: &mut Register,
         event: RawEvent,
     ) -> Result<(), Fault>
-        requires { length self.now.part.items ≤ MAX_ENTRIES }
+        requires { length self.now.gathered.items ≤ MAX_ENTRIES }
         ensures adds { OnOk result (Adds (progress register.old self.old) (raw_event event ∷ [])
             (progress register.new self.new)) }
-        ensures few { OnOk result (length self.new.part.items ≤ MAX_ENTRIES) }
+        ensures few { OnOk result (length self.new.gathered.items ≤ MAX_ENTRIES) }
         ensures stops { IfErr result (AddingStops (progress register.old self.old)
             (raw_event event ∷ [])) }
     {
-        if self.part.len() >= MAX_ENTRIES {
+        if self.gathered.len() >= register.lot() {
             self.run(rt, register)?;
         }
-        self.part.push(event).map_err(|_| Fault::Memory)?;
+        self.gathered.push(event).map_err(|_| Fault::Memory)?;
         Ok(())
     }
 
-    /// Handles the part, and appends what it sends.
+    /// Handles the events that are gathered, and appends the lines of what they send. The next ones get the room of these.
     fn run<R: Threads + Wait + Sync>(
         &mut self,
         rt: &R,
         register: &mut Register,
     ) -> Result<(), Fault>
-        requires { length self.now.part.items ≤ MAX_ENTRIES }
+        requires { length self.now.gathered.items ≤ MAX_ENTRIES }
         ensures adds { OnOk result (Adds (progress register.old self.old) []
             (progress register.new self.new)) }
-        ensures none { OnOk result (self.new.part.items ≡ []) }
+        ensures none { OnOk result (self.new.gathered.items ≡ []) }
         ensures stops { IfErr result (AddingStops (progress register.old self.old) []) }
     {
-        let part = mem::replace(&mut self.part, Vec::new(self.alloc));
-        register.send_part(rt, part, &mut self.sent)
+        self.begin_part(register)?;
+        let next = Vec::with_capacity(self.alloc, self.gathered.capacity())?;
+        let gathered = mem::replace(&mut self.gathered, next);
+        register.send_part(rt, gathered, &mut self.answers)
+    }
+
+    /// Where the events that are gathered begin a part of the batch: cuts the journals, if one of them has no room for all events of
+    /// the part (profile). A part has 65,536 events, or those that are left.
+    fn begin_part(&mut self, register: &mut Register) -> Result<(), AllocError>
+        ensures adds { OnOk result (Adds (progress register.old self.old) []
+            (progress register.new self.new)) }
+        ensures gathered { self.new.gathered ≡ self.old.gathered }
+    {
+        let count = self.gathered.len();
+        if self.room < count {
+            self.room = self.ahead.min(MAX_ENTRIES);
+            register.begin_part(self.room)?;
+        }
+        self.room = self.room.saturating_sub(count);
+        self.ahead = self.ahead.saturating_sub(count);
+        Ok(())
     }
 }
 
-/// Handles the events of a batch, in the order of its lines, in parts. Returns the place after the batch, and what it sent.
+/// Handles the events of a batch, in the order of its lines, in parts, and appends the lines of what they send. Returns the place
+/// after the batch.
 ///
 /// A letter without an id is found before any event of the batch is handled.
 pub fn handle_batch<'a, R: Threads + Wait + Sync>(
     rt: &R,
     alloc: Global,
     register: &mut Register,
+    batch: &mut Pending,
     from: Place<'a>,
     ids: &[Tid],
-    sent: &mut Vec<Out>,
 ) -> Result<Place<'a>, Fault>
-    requires { AllByRecursion IsGood (batch_of (lines from.rest.now)) }
-    ensures handles { OnOk result (Handles ids.now register.old
-        (batch_of (lines from.entry.rest.now)) (map raw_out sent.new.items) register.new) }
+    requires good { AllByRecursion IsGood (batch_of (lines from.rest.now)) }
+    requires none { batch.now.gathered.items ≡ [] }
+    ensures handles { OnOk result ((sent : List RawOut) × Handles ids.now register.old
+        (batch_of (lines from.entry.rest.now)) sent register.new
+        × Prints (so_far batch.old.answers) sent (so_far batch.new.answers)) }
+    ensures none { OnOk result (batch.new.gathered.items ≡ []) }
     ensures behind { IfOk result (λ place. lines place.rest.now
         ≡ behind_batch (lines from.entry.rest.now)) }
     ensures shorter { 0 < length from.entry.rest.now
@@ -112,10 +145,10 @@ pub fn handle_batch<'a, R: Threads + Wait + Sync>(
         (batch_of (lines from.entry.rest.now))) }
 {
     check_letters(alloc, from, ids.len())?;
-    let mut batch = Pending::new(alloc);
-    let behind = handle_lines(rt, alloc, register, &mut batch, from, ids)?;
+    batch.ahead = count_events(from);
+    batch.room = 0;
+    let behind = handle_lines(rt, alloc, register, batch, from, ids)?;
     batch.run(rt, register)?;
-    *sent = batch.sent;
     Ok(behind)
 }
 
@@ -127,12 +160,12 @@ fn handle_lines<'a, R: Threads + Wait + Sync>(
     from: Place<'a>,
     ids: &[Tid],
 ) -> Result<Place<'a>, Fault>
-    requires few { length batch.now.part.items ≤ MAX_ENTRIES }
+    requires few { length batch.now.gathered.items ≤ MAX_ENTRIES }
     requires good { AllByRecursion IsGood (batch_of (lines from.rest.now)) }
     requires known { AllByRecursion (HasIds (length ids.now)) (batch_of (lines from.rest.now)) }
     ensures adds { OnOk result (AddsLines ids.now (progress register.old batch.old)
         (batch_of (lines from.entry.rest.now)) (progress register.new batch.new)) }
-    ensures few { OnOk result (length batch.new.part.items ≤ MAX_ENTRIES) }
+    ensures few { OnOk result (length batch.new.gathered.items ≤ MAX_ENTRIES) }
     ensures behind { IfOk result (λ place. lines place.rest.now
         ≡ behind_batch (lines from.entry.rest.now)) }
     ensures shorter { 0 < length from.entry.rest.now
@@ -162,12 +195,12 @@ fn add_line<R: Threads + Wait + Sync>(
     line: &[u8],
     ids: &[Tid],
 ) -> Result<(), Fault>
-    requires few { length batch.now.part.items ≤ MAX_ENTRIES }
+    requires few { length batch.now.gathered.items ≤ MAX_ENTRIES }
     requires good { IsGood line.now }
     requires known { HasIds (length ids.now) line.now }
     ensures adds { OnOk result (AddsLine ids.now (progress register.old batch.old) line.now
         (progress register.new batch.new)) }
-    ensures few { OnOk result (length batch.new.part.items ≤ MAX_ENTRIES) }
+    ensures few { OnOk result (length batch.new.gathered.items ≤ MAX_ENTRIES) }
     ensures stops { IfErr result (LineStops ids.now (progress register.old batch.old) line.now) }
 {
     match read_frame_line(line) {
@@ -185,12 +218,12 @@ fn add_frame<R: Threads + Wait + Sync>(
     read: FrameLine,
     ids: &[Tid],
 ) -> Result<(), Fault>
-    requires few { length batch.now.part.items ≤ MAX_ENTRIES }
+    requires few { length batch.now.gathered.items ≤ MAX_ENTRIES }
     requires known { (events : List Event)
         × AreEvents ids.now (Frame read.from read.octets.now) events }
     ensures adds { OnOk result (AddsSaid ids.now (progress register.old batch.old)
         (Frame read.entry.from read.entry.octets.now) (progress register.new batch.new)) }
-    ensures few { OnOk result (length batch.new.part.items ≤ MAX_ENTRIES) }
+    ensures few { OnOk result (length batch.new.gathered.items ≤ MAX_ENTRIES) }
     ensures stops { IfErr result (SaidStops ids.now (progress register.old batch.old)
         (Frame read.entry.from read.entry.octets.now)) }
 {
@@ -209,12 +242,12 @@ fn add_other<R: Threads + Wait + Sync>(
     line: &[u8],
     ids: &[Tid],
 ) -> Result<(), Fault>
-    requires few { length batch.now.part.items ≤ MAX_ENTRIES }
+    requires few { length batch.now.gathered.items ≤ MAX_ENTRIES }
     requires good { IsGood line.now }
     requires known { HasIds (length ids.now) line.now }
     ensures adds { OnOk result (AddsLine ids.now (progress register.old batch.old) line.now
         (progress register.new batch.new)) }
-    ensures few { OnOk result (length batch.new.part.items ≤ MAX_ENTRIES) }
+    ensures few { OnOk result (length batch.new.gathered.items ≤ MAX_ENTRIES) }
     ensures stops { IfErr result (LineStops ids.now (progress register.old batch.old) line.now) }
 {
     let item = read_checked(line);
@@ -230,11 +263,11 @@ fn add_item<R: Threads + Wait + Sync>(
     item: Item,
     ids: &[Tid],
 ) -> Result<(), Fault>
-    requires few { length batch.now.part.items ≤ MAX_ENTRIES }
+    requires few { length batch.now.gathered.items ≤ MAX_ENTRIES }
     requires known { (events : List Event) × AreEvents ids.now (line_of item) events }
     ensures adds { OnOk result (AddsSaid ids.now (progress register.old batch.old)
         (line_of item.entry) (progress register.new batch.new)) }
-    ensures few { OnOk result (length batch.new.part.items ≤ MAX_ENTRIES) }
+    ensures few { OnOk result (length batch.new.gathered.items ≤ MAX_ENTRIES) }
     ensures stops { IfErr result (SaidStops ids.now (progress register.old batch.old)
         (line_of item.entry)) }
 {
@@ -278,10 +311,10 @@ fn add_clocks<R: Threads + Wait + Sync>(
     batch: &mut Pending,
     now: u64,
 ) -> Result<(), Fault>
-    requires few { length batch.now.part.items ≤ MAX_ENTRIES }
+    requires few { length batch.now.gathered.items ≤ MAX_ENTRIES }
     ensures adds { OnOk result (Adds (progress register.old batch.old)
         (map (λ n. RawClock n now) (range_with_len 0 16)) (progress register.new batch.new)) }
-    ensures few { OnOk result (length batch.new.part.items ≤ MAX_ENTRIES) }
+    ensures few { OnOk result (length batch.new.gathered.items ≤ MAX_ENTRIES) }
     ensures stops { IfErr result (AddingStops (progress register.old batch.old)
         (map (λ n. RawClock n now) (range_with_len 0 16))) }
 {
@@ -298,10 +331,10 @@ fn add_expiries<R: Threads + Wait + Sync>(
     register: &mut Register,
     batch: &mut Pending,
 ) -> Result<(), Fault>
-    requires few { length batch.now.part.items ≤ MAX_ENTRIES }
+    requires few { length batch.now.gathered.items ≤ MAX_ENTRIES }
     ensures adds { OnOk result (Adds (progress register.old batch.old)
         (map (λ n. RawExpire n) (range_with_len 0 16)) (progress register.new batch.new)) }
-    ensures few { OnOk result (length batch.new.part.items ≤ MAX_ENTRIES) }
+    ensures few { OnOk result (length batch.new.gathered.items ≤ MAX_ENTRIES) }
     ensures stops { IfErr result (AddingStops (progress register.old batch.old)
         (map (λ n. RawExpire n) (range_with_len 0 16))) }
 {

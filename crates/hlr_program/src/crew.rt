@@ -1,18 +1,20 @@
 //! A register that worker threads share, with their number.
 
-ghost use Rattle.std.specs.Prelude.{◌≡◌, ◌≤◌, ◌++◌, [], List, None, IfOk, IfErr, OnOk, map, length};
+ghost use Rattle.std.specs.Prelude.{◌≤◌, [], List, None, IfOk, IfErr, OnOk, map, length};
 ghost use Rattle.std.specs.List.{flat_map};
 ghost use Rattle.machine.specs.declared.numbers.TheConstants.{MAX_ENTRIES};
 ghost use Rattle.frames.specs.Octets.{RawEvent as Event, RawOut};
 ghost use Rattle.machine.specs.State.{State};
 ghost use Rattle.hlrcore.specs.Events.{raw_event};
-ghost use Rattle.shard_state.specs.Frames.{raw_out};
 ghost use Rattle.workers.specs.Shared.{GoesOn, HandsOut, StandsBehind};
+ghost use Rattle.hlr_program.specs.Answered.{so_far};
+ghost use Rattle.hlr_program.specs.Printed.{Prints};
 ghost use Rattle.hlr_program.specs.Runs.{opening_of};
 ghost use Rattle.hlr_program.specs.Stopping.{EventsStop, HandingOutStops};
 
+use crate::answers::Answers;
 use crate::fault::Fault;
-use hlrcore::{Out, RawEvent};
+use hlrcore::RawEvent;
 use records::Loaded;
 use shardlog::Shard;
 use std::alloc::{AllocError, Global};
@@ -24,6 +26,7 @@ use workers::SharedRegister;
 /// A register whose batches are handled by 1 to 16 workers.
 #[derive(Drop)]
 pub struct Crew {
+    alloc: Global,
     register: SharedRegister,
     workers: usize,
 }
@@ -49,26 +52,28 @@ impl Crew {
     {
         let register = SharedRegister::new(alloc, loaded)?;
         Ok(Crew {
+            alloc,
             register,
             workers: usize::from(workers),
         })
     }
 
-    /// Handles a part of a batch, and appends what it sends, event by event in order.
+    /// Handles a part of a batch, and appends the lines of what it sends, event by event in order.
     pub fn send_part<R: Threads + Wait + Sync>(
         &mut self,
         rt: &R,
         part: Vec<RawEvent>,
-        sent: &mut Vec<Out>,
+        answers: &mut Answers,
     ) -> Result<(), Fault>
         requires { length part.items ≤ MAX_ENTRIES }
         ensures sends { OnOk result ((outs : List (List RawOut))
             × GoesOn self.old (map raw_event part.items) outs self.new
-            × (map raw_out sent.new.items ≡ map raw_out sent.old.items ++ flat_map (λ o. o) outs)) }
+            × Prints (so_far answers.old) (flat_map (λ o. o) outs) (so_far answers.new)) }
         ensures stops { IfErr result (EventsStop None (map raw_event part.items)) }
     {
-        match self.register.run_part(rt, self.workers, part, sent) {
-            Ok(()) => Ok(()),
+        let mut sent = Vec::new(self.alloc);
+        match self.register.run_part(rt, self.workers, part, &mut sent) {
+            Ok(()) => Ok(answers.push_all(&sent)?),
             Err(fault) => Err(Fault::from(fault)),
         }
     }
@@ -81,6 +86,7 @@ impl Crew {
         ensures stops { IfErr result (HandingOutStops None) }
     {
         let Crew {
+            alloc: _,
             register,
             workers: _,
         } = self;

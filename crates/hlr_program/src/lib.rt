@@ -2,7 +2,9 @@
 //! the input. Only `main` is elsewhere, so that a whole run can be tested in memory.
 #![tactic(auto)]
 
+mod ahead;
 mod alone;
+mod answers;
 mod batch;
 mod check;
 mod crew;

@@ -1,53 +1,22 @@
 //! The lines that are printed.
 
-ghost use Rattle.std.specs.Prelude.{◌≡◌, ◌++◌, ◌∷◌, [], map, IfOk, IfErr, OnOk};
-ghost use Rattle.shard_state.specs.Answers.{raw_out};
+ghost use Rattle.std.specs.Prelude.{◌≡◌, ◌++◌, ◌∷◌, [], IfErr, OnOk};
 ghost use Rattle.std.specs.Arc.{arc_slice_items};
 ghost use Rattle.std.specs.Io.KnownBytes.{Appends};
-ghost use Rattle.hlr_program.specs.Printed.{WritesFront, sent_line, sent_lines, noted_in};
+ghost use Rattle.hlr_program.specs.Printed.{WritesFront, sent_line};
 ghost use Rattle.hlr_program.specs.Statuses.{message_of};
 
 use crate::fault::Fault;
 use arrayvec::ArrayString;
 use bumpalo::Bump;
 use hex::encode_upper;
-use hlr_input::Letters;
 use hlrcore::Out;
-use std::alloc::{AllocError, Global};
+use std::alloc::AllocError;
 use std::fmt::Write as _;
 use std::io::{ErrorKind, Write};
 
 /// Room for the longest fault line: the words around a number of 20 digits.
 const MAX_TOLD: usize = 64;
-
-/// The most octets of a sent frame's line beside the octets of the frame: `S`, an address of 16 digits, two spaces, the line feed.
-const MAX_HEAD: usize = 20;
-
-/// The lines of the frames that a batch has sent; the local ids in them are recorded. Nothing is printed yet, so that a batch with
-/// a fault prints nothing.
-pub fn lines_of(alloc: Global, sent: &[Out], letters: &mut Letters) -> Result<Vec<u8>, AllocError>
-    ensures lines { IfOk result (λ text. text.items ≡ sent_lines (map raw_out sent.now)) }
-    ensures noted { OnOk result (letters.new ≡ noted_in letters.old (map raw_out sent.now)) }
-{
-    let mut text = Vec::with_capacity(alloc, room_for(sent))?;
-    // Takes memory only once a frame needs some: a batch may send nothing.
-    let mut digits = Bump::new(alloc);
-    for frame in sent {
-        push_sent(&digits, &mut text, frame)?;
-        letters.note(&frame.octets)?;
-        // Where it is refused, the digits of the frame stay, and the next ones stand behind them.
-        let _is_reset = digits.reset();
-    }
-    Ok(text)
-}
-
-/// How many octets the lines of these frames have, or some more.
-fn room_for(sent: &[Out]) -> usize {
-    sent.iter().fold(0, |room: usize, frame| {
-        let line = frame.octets.len().saturating_mul(2);
-        room.saturating_add(line).saturating_add(MAX_HEAD)
-    })
-}
 
 /// Prints a text. If the writer fails, a prefix of the text was written.
 pub fn print<W: Write>(text: &[u8], out: &mut W) -> Result<(), Fault>

@@ -1,14 +1,19 @@
 //! The register of a run: in one thread, or shared by workers.
 
 use crate::alone::Alone;
+use crate::answers::Answers;
 use crate::crew::Crew;
 use crate::fault::Fault;
-use hlrcore::{Out, RawEvent};
+use hlrcore::RawEvent;
+use machine::numbers::MAX_ENTRIES;
 use records::Loaded;
 use shardlog::Shard;
 use std::alloc::{AllocError, Global};
 use std::sync::Wait;
 use std::thread::Threads;
+
+/// How many events are handled at once in one thread.
+const LOT: usize = 64;
 
 /// The sixteen shards, and who handles their events.
 #[derive(Drop)]
@@ -20,11 +25,11 @@ pub enum Register {
 }
 
 impl Register {
-    ghost use Rattle.std.specs.Prelude.{◌≤◌, IfOk, IfErr, OnOk, map, length};
+    ghost use Rattle.std.specs.Prelude.{◌≤◌, [], IfOk, IfErr, OnOk, map, length};
     ghost use Rattle.machine.specs.declared.numbers.TheConstants.{MAX_ENTRIES};
     ghost use Rattle.hlrcore.specs.Events.{raw_event};
-    ghost use Rattle.shard_state.specs.Frames.{raw_out};
-    ghost use Rattle.hlr_program.specs.Registers.{HandsOver, IsOf, OpensWith, SendsPart, state_known};
+    ghost use Rattle.hlr_program.specs.Answered.{so_far};
+    ghost use Rattle.hlr_program.specs.Registers.{HandsOver, IsOf, OpensWith, RunsTo, SendsPart, state_known};
     ghost use Rattle.hlr_program.specs.Stopping.{EventsStop, HandingOutStops};
 
     /// The register of a records file: in one thread if `workers` is 0.
@@ -41,22 +46,45 @@ impl Register {
         Ok(Register::Shared(crew))
     }
 
-    /// Handles a part of a batch, and appends what it sends.
+    /// How many events are handled at once: in one thread a few, which are near then, and with workers a whole part of a batch.
+    pub fn lot(&self) -> usize
+        ensures { result ≤ MAX_ENTRIES }
+    {
+        match self {
+            Register::Alone(_) => LOT,
+            Register::Shared(_) => MAX_ENTRIES,
+        }
+    }
+
+    /// Before a part of a batch, of so many events: cuts all journals, if one of them has no room for as many more entries. Workers do so
+    /// by themselves.
+    #[tactic(auto, using(crate::proofs::RegisterLemmas::ran_none))]
+    pub fn begin_part(&mut self, count: usize) -> Result<(), AllocError>
+        requires { count ≤ MAX_ENTRIES }
+        ensures { OnOk result (RunsTo self.old [] [] self.new) }
+    {
+        match self {
+            Register::Alone(alone) => alone.begin_part(count),
+            Register::Shared(_) => Ok(()),
+        }
+    }
+
+    /// Handles events of a part of a batch, and appends the lines of what they send.
     pub fn send_part<R: Threads + Wait + Sync>(
         &mut self,
         rt: &R,
         part: Vec<RawEvent>,
-        sent: &mut Vec<Out>,
+        answers: &mut Answers,
     ) -> Result<(), Fault>
         requires { length part.items ≤ MAX_ENTRIES }
         ensures sends { OnOk result (SendsPart self.old (map raw_event part.items)
-            (map raw_out sent.old.items) self.new (map raw_out sent.new.items)) }
+            (so_far answers.old) self.new (so_far answers.new)) }
         ensures stops { IfErr result (EventsStop (state_known self.old)
             (map raw_event part.items)) }
     {
         match self {
-            Register::Alone(alone) => alone.send_part(part, sent),
-            Register::Shared(crew) => crew.send_part(rt, part, sent),
+            Register::Alone(alone) => alone.send_part(part, answers),
+            Register::Shared(crew) => crew.send_part(rt, part, answers),
         }
     }
 

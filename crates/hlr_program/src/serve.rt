@@ -11,13 +11,13 @@ ghost use Rattle.hlr_program.specs.Registers.{state_known};
 ghost use Rattle.hlr_program.specs.Runs.{BatchRun, IsLoadedFrom, opening_of, printed_of};
 ghost use Rattle.hlr_program.specs.Promise.{Ends, RunsAndLists, RunsScript, StopsRecords, StopsScript, StopsRunning, StopsBatches, Tells, status_at};
 
-use crate::batch::handle_batch;
+use crate::batch::{Pending, handle_batch};
 use crate::check::check_script;
 use crate::fault::Fault;
 use crate::listing::closing_lines;
-use crate::printed::{lines_of, print, tell};
+use crate::printed::{print, tell};
 use crate::register::Register;
-use hlr_input::{InputFault, Letters, Options, Place, read_all};
+use hlr_input::{InputFault, Options, Place, read_all};
 use records::{Loaded, read_records};
 use std::alloc::Global;
 use std::io::{Read, Write};
@@ -210,13 +210,16 @@ fn run<R: Threads + Wait + Sync, W: Write>(
         (printed : List ℕ) × StopsBatches script.now (state_known register.old) fault printed
         × Appends (W.contents out.old) (W.contents out.new) printed) }
 {
-    let mut letters = Letters::new(alloc);
+    let mut batch = Pending::new(alloc);
+    let mut ids = Vec::new(alloc);
     let mut place = Place::searched(script);
     'batches: while !place.rest.is_empty() {
-        let mut sent = Vec::new(alloc);
-        place = handle_batch(rt, alloc, register, place, letters.ids(), &mut sent)?;
-        let text = lines_of(alloc, &sent, &mut letters)?;
-        print(&text, out)?;
+        // The letters of a batch stand for ids of those before it.
+        ids.clear();
+        ids.extend_from_slice(batch.answers.letters.ids())?;
+        place = handle_batch(rt, alloc, register, &mut batch, place, &ids)?;
+        print(&batch.answers.text, out)?;
+        batch.answers.text.clear();
     }
     Ok(())
 }

@@ -207,6 +207,18 @@ impl Shard {
         let entries = mem::replace(&mut self.entries, Vec::new(self.alloc));
         Ok(Epoch { base, entries })
     }
+
+    /// Cuts the journal off, and drops it. The next journal is empty, begins in the current state, and has the room of this one.
+    pub fn drop_journal(&mut self) -> Result<(), AllocError>
+        ensures next { OnOk result (self.new ≡ log self.old.state [] self.old.state) }
+        ensures keeps { LogKeeps self.old × LogKeeps self.new }
+        ensures err { OnErr result (self.new ≡ self.old) }
+    {
+        let next = self.state.try_copy()?;
+        let _base = mem::replace(&mut self.base, next);
+        self.entries.clear();
+        Ok(())
+    }
 }
 
 /// Appends the entry of a step, and returns what is to be sent.

@@ -14,7 +14,7 @@ use Rattle.shardlog.specs.Chains.{LeadTo, raw_epoch}
 use Rattle.shardlog.specs.Entries.{raw_entries}
 use Rattle.shardlog.specs.Handling.{Handles}
 use Rattle.shardlog.specs.Log.{Log, LogKeeps, log}
-use Rattle.wholenode.specs.Handling.{Cuts}
+use Rattle.wholenode.specs.Handling.{Cuts, Drops}
 use Rattle.wholenode.specs.Keeping.{AreShards}
 use Rattle.wholenode.specs.Nodes.{NodeState, node}
 use Rattle.wholenode.proofs.WholeLemmas.{not_took, replaced, same_whole, took}
@@ -61,7 +61,7 @@ pub took_or_not : (directory : DirectoryMap) (shards : List Log) (i : ℕ) (l m 
 took_or_not directory shards i l m raw (Ok handled) are at is handles same = took directory shards i l m are at is handles.base
 took_or_not directory shards i l m raw (Err fault) are at is handles same = not_took directory shards i l m are at is same
 
-pub cut_or_not : {F : Type 0} (directory : DirectoryMap) (shards : List Log) (i : ℕ) (l m : Log) (answer : Result Epoch F)
+pub cut_or_not : {A F : Type 0} (directory : DirectoryMap) (shards : List Log) (i : ℕ) (l m : Log) (answer : Result A F)
     → AreShards directory shards → slice_get shards i ≡ Some l
     → LogKeeps m → OnOk answer (m ≡ log l.state [] l.state) → OnErr answer (m ≡ l) → AreShards directory (set shards i m)
 cut_or_not directory shards i l m (Ok epoch) are at is next same = kept directory shards i l m are at is (ap (λ (k : Log). k.state) next)
@@ -76,3 +76,16 @@ pub cuts_if_ok : {F : Type 0} (before : NodeState) (directory : DirectoryMap) (s
 cuts_if_ok before directory shards n (Ok epoch) l m seen at next was leads = cuts before directory shards n epoch l m seen at next was.0
     was.1 leads
 cuts_if_ok before directory shards n (Err refused) l m seen at next was leads = tt
+
+pub drops_if_ok : {A F : Type 0} (before : NodeState) (directory : DirectoryMap) (shards : List Log) (n : ℕ) (answer : Result A F) (l m : Log)
+    → node directory shards ≡ before
+    → slice_get shards n ≡ Some l → OnOk answer (m ≡ log l.state [] l.state)
+    → OnOk answer (Drops before n (node directory (set shards n m)))
+drops_if_ok before directory shards n (Ok done) l m seen at next =
+    subst (λ (b : NodeState). Drops b n (node directory (set shards n m))) seen (record {
+      shard = l;
+      stands = at;
+      changed = ap (λ (k : Log). node directory (set shards n k)) next;
+      same = same_whole shards n l m at (ap (λ (k : Log). k.state) next);
+    })
+drops_if_ok before directory shards n (Err refused) l m seen at next = tt

@@ -68,6 +68,13 @@ pub record Stops (before : NodeState) (raws : List RawEvent) (done : List Handle
   pub run : IsRun (whole before.shards) handled (map sent_of done) (whole after.shards)
   pub refuses : Refuses after next cause
 
+-- The journal of the shard with this number begins anew in the current state, and nothing else changes.
+pub record Drops (before : NodeState) (n : ℕ) (after : NodeState) : Type 0 where
+  pub shard : Log
+  pub stands : slice_get before.shards n ≡ Some shard
+  pub changed : after ≡ record before { shards = slice_set before.shards n (log shard.state [] shard.state) }
+  pub same : whole after.shards ≡ whole before.shards
+
 -- The journal of the shard with this number is cut off, and nothing else changes. If epochs lead to the shard, they also do with
 -- this one appended.
 pub record Cuts (before : NodeState) (n : ℕ) (epoch : Epoch) (after : NodeState) : Type 0 where

@@ -1,11 +1,11 @@
 //! The sixteen shards of a register, in one thread.
 
-ghost use Rattle.std.specs.Prelude.{◌≡◌, ◌<◌, [], map, IfOk, IfErr, OnErr};
+ghost use Rattle.std.specs.Prelude.{◌≡◌, ◌<◌, [], map, IfOk, IfErr, OnOk, OnErr};
 ghost use Rattle.frames.specs.Octets.{RawExpire};
 ghost use Rattle.hlrcore.specs.Events.{raw_event};
 ghost use Rattle.wholenode.specs.Nodes.{whole};
 ghost use Rattle.wholenode.specs.Opening.{BeginsWith};
-ghost use Rattle.wholenode.specs.Handling.{Cuts, IsRun, Refuses, Runs, Stops, Takes, sent_of};
+ghost use Rattle.wholenode.specs.Handling.{Cuts, Drops, IsRun, Refuses, Runs, Stops, Takes, sent_of};
 ghost use Rattle.wholenode.specs.Keeping.{NodeKeeps};
 
 use crate::fault::{Cause, NodeFault, refusal};
@@ -208,6 +208,18 @@ impl Node {
     {
         let place = usize::from(shard);
         self.shards[place].cut()
+    }
+
+    /// Cuts the journal of a shard off, and drops it. The states stay the same, and the next journal has the room of this one. On
+    /// error nothing changes.
+    pub fn drop_journal(&mut self, shard: u8) -> Result<(), AllocError>
+        requires { shard < 16 }
+        ensures drops { OnOk result (Drops self.old shard self.new) }
+        ensures keeps { NodeKeeps self.new }
+        ensures err { OnErr result (self.new ≡ self.old) }
+    {
+        let place = usize::from(shard);
+        self.shards[place].drop_journal()
     }
 }
 

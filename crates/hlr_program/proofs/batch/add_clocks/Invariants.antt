@@ -7,4 +7,4 @@ use Rattle.hlr_program.proofs.batch.add_clocks.Given as goal
 
 abbrev pub invariant-loop-number : goal.invariant-loop-number
 invariant-loop-number g l = Adds (progress l.fn.register l.fn.batch) (map (λ n. RawClock n l.now) (range_with_len 0 l.number)) (progress l.register l.batch)
-    × (length l.batch.part.items ≤ MAX_ENTRIES)
+    × (length l.batch.gathered.items ≤ MAX_ENTRIES)

@@ -1,7 +1,18 @@
-use Rattle.hlr_input.specs.Script.{Frame}
-use Rattle.hlr_program.proofs.GatherLemmas.{item_events}
+use Rattle.std.proofs.Common.{◌≡◌, subst, sym}
+use Rattle.hlr_input.specs.Script.{Frame, IsLine, Line}
+use Rattle.hlr_program.specs.Gathering.{LineStops, SaidStops, progress}
+use Rattle.hlr_program.proofs.GatherLemmas.{item_events, line_stops}
+use Rattle.hlr_program.proofs.ListLemmas.{else_on}
 use Rattle.hlr_program.proofs.batch.add_line.Goals as goal
 
 pub add_frame-requires-clause-known : goal.add_frame-requires-clause-known
 add_frame-requires-clause-known g c = λ lifetimes lives. item_events c.args.ids.now c.args.line.now
     (Frame c.in-Some.frame.from c.in-Some.frame.octets.now) c.requires.good c.requires.known c.in-Some.ensures.only
+
+pub returns-in-Some-clause-stops : goal.returns-in-Some-clause-stops
+returns-in-Some-clause-stops g c =
+    let here = progress c.args.register.now c.args.batch.now in
+    let said : Line = Frame c.in-Some.frame.from c.in-Some.frame.octets.now in
+    let same : said ≡ c.requires.good.0 = c.in-Some.ensures.only c.requires.good.0 c.requires.good.1.0 in
+    else_on (SaidStops c.args.ids.now here said) (LineStops c.args.ids.now here c.args.line.now) c.add_frame.result c.add_frame.ensures.stops
+    (λ fault stops. line_stops c.args.ids.now c.args.line.now said here fault (subst (IsLine c.args.line.now) (sym same) c.requires.good.1.0) stops)

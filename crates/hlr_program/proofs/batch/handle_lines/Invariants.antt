@@ -9,7 +9,7 @@ use Rattle.hlr_program.proofs.batch.handle_lines.Given as goal
 abbrev pub invariant-lines : goal.invariant-lines
 invariant-lines g l = record {
   shorter : length l.place.rest.now ≤ length l.fn.from.rest.now;
-  few : length l.batch.part.items ≤ MAX_ENTRIES;
+  few : length l.batch.gathered.items ≤ MAX_ENTRIES;
   behind : behind_batch (lines l.place.rest.now) ≡ behind_batch (lines l.fn.from.rest.now);
   number : l.place.before + length (batch_of (lines l.place.rest.now)) ≡ l.fn.from.before + length (batch_of (lines l.fn.from.rest.now));
   goes_on : GoesOn l.ids (progress l.fn.register l.fn.batch) (batch_of (lines l.fn.from.rest.now)) (progress l.register l.batch)

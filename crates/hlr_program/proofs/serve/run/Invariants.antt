@@ -1,11 +1,15 @@
-use Rattle.std.proofs.Common.{length}
+use Rattle.std.proofs.Common.{◌≡◌, [], length}
 use Rattle.records.specs.File.{lines}
 use Rattle.hlr_program.proofs.ScriptLemmas.{AtPlace}
 use Rattle.hlr_program.proofs.serve.run.Given as goal
 
 abbrev pub invariant-batches : goal.invariant-batches
-invariant-batches g l =
-    AtPlace l.fn.register (lines l.script) (g.W.Write.contents l.fn.out) (g.W.Write.contents l.out) l.letters l.register l.place.rest.now l.place.before
+invariant-batches g l = record {
+  at : AtPlace l.fn.register (lines l.script) (g.W.Write.contents l.fn.out) (g.W.Write.contents l.out) l.batch.answers.letters l.register
+      l.place.rest.now l.place.before;
+  none : l.batch.gathered.items ≡ [];
+  blank : l.batch.answers.text.items ≡ [];
+}
 
 abbrev pub decreases-batches : goal.decreases-batches
 decreases-batches g l = length l.place.rest.now

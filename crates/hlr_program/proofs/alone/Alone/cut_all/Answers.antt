@@ -4,7 +4,7 @@ use Rattle.hlr_program.proofs.alone.Alone.cut_all.Goals as goal
 
 pub loop-shard-preserved : goal.loop-shard-preserved
 loop-shard-preserved c = cutting_goes_on _ c.loop-shard.self-inside.node _
-    c.loop-shard.shard _ c.loop-shard.invariant c.in_ok-_epoch.ensures.cuts c.cut.ensures.keeps
+    c.loop-shard.shard c.loop-shard.invariant c.in_ok-drop_journal.ensures.drops c.drop_journal.ensures.keeps
 
 pub returns-clause-cut : goal.returns-clause-cut
 returns-clause-cut c = cutting_ends _ _ c.loop-shard.shard (omega arith) c.loop-shard.invariant

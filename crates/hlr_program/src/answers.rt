@@ -1,0 +1,58 @@
+//! What a batch answers, as it is handled.
+
+ghost use Rattle.std.specs.Prelude.{◌≡◌, ◌++◌, ◌∷◌, [], OnOk, map};
+ghost use Rattle.shard_state.specs.Frames.{raw_out};
+ghost use Rattle.hlr_program.specs.Printed.{Prints};
+ghost use Rattle.hlr_program.specs.Answered.{so_far};
+
+use crate::printed::push_sent;
+use bumpalo::Bump;
+use hlr_input::Letters;
+use hlrcore::Out;
+use std::alloc::{AllocError, Global};
+
+/// The lines of the frames that a batch has sent so far, and the local ids that letters stand for behind it. Nothing is printed
+/// yet, so that a batch with a fault prints nothing.
+#[derive(Drop)]
+pub struct Answers {
+    pub text: Vec<u8>,
+    pub letters: Letters,
+    /// For the digits of one frame at a time.
+    digits: Bump,
+}
+
+impl Answers {
+    /// No line, and no id.
+    pub fn new(alloc: Global) -> Answers
+        ensures text { result.text.items ≡ [] }
+        ensures letters { result.letters ≡ [] }
+    {
+        Answers {
+            text: Vec::new(alloc),
+            letters: Letters::new(alloc),
+            // Takes memory only once a frame needs some: a batch may send nothing.
+            digits: Bump::new(alloc),
+        }
+    }
+
+    /// Appends the lines of these frames, in order, and records the local ids in them.
+    pub fn push_all(&mut self, sent: &[Out]) -> Result<(), AllocError>
+        ensures { OnOk result (Prints (so_far self.old) (map raw_out sent.now) (so_far self.new)) }
+    {
+        for frame in sent {
+            self.push(frame)?;
+        }
+        Ok(())
+    }
+
+    /// Appends the line of a frame, and records the local id in it.
+    fn push(&mut self, frame: &Out) -> Result<(), AllocError>
+        ensures { OnOk result (Prints (so_far self.old) (raw_out frame.now ∷ []) (so_far self.new)) }
+    {
+        push_sent(&self.digits, &mut self.text, frame)?;
+        self.letters.note(&frame.octets)?;
+        // Where it is refused, the digits of the frame stay, and the next ones stand behind them.
+        let _is_reset = self.digits.reset();
+        Ok(())
+    }
+}
