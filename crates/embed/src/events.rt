@@ -57,20 +57,20 @@ pub fn expiry_event(shard: u8) -> Option<RawEvent>
 
 /// New teleservice codes for a subscriber, with the texts of an IMSI and of codes as a records file has them. `None` if one of
 /// them is none.
-pub fn codes_event(imsi: &[u8], codes: &[u8]) -> Option<RawEvent>
-    ensures found { IfSome result
-        (λ event. IsCodesChange imsi.now codes.now (raw_event event)) }
+pub fn codes_event(alloc: Global, imsi: &[u8], codes: &[u8]) -> Result<Option<RawEvent>, AllocError>
+    ensures found { IfOk result (λ read. IfSome read
+        (λ event. IsCodesChange imsi.now codes.now (raw_event event))) }
     ensures only { (raw : frames.RawEvent) → IsCodesChange imsi.now codes.now raw
-        → option_map raw_event result ≡ Some raw }
+        → IfOk result (λ read. option_map raw_event read ≡ Some raw) }
 {
     let Some(imsi) = read_imsi(imsi) else {
-        return None;
+        return Ok(None);
     };
     let Some(codes) = Codes::read(codes) else {
-        return None;
+        return Ok(None);
     };
-    let change = Change::Codes(codes);
-    Some(RawEvent::Change { imsi, change })
+    let change = Change::Codes(Box::new(alloc, codes)?);
+    Ok(Some(RawEvent::Change { imsi, change }))
 }
 
 /// The end of a subscription, with the text of its IMSI. `None` if it is none.

@@ -280,7 +280,7 @@ fn add_item<R: Threads + Wait + Sync>(
         Item::Expire => add_expiries(rt, register, batch),
         Item::Batch => Ok(()),
         Item::Codes { imsi, codes } => {
-            let change = Change::Codes(codes);
+            let change = Change::Codes(Box::new(alloc, codes)?);
             batch.add(rt, register, RawEvent::Change { imsi, change })
         }
         Item::Withdraw { imsi } => {

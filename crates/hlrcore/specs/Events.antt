@@ -9,7 +9,7 @@ use Rattle.hlrcore.specs.declared.event.Event.{Event}
 use Rattle.hlrcore.specs.declared.event.Event.TheVariants.{Frame, Clock, Expire, Change as Changed}
 
 abbrev pub change : Change → machine.Change
-change (Codes codes) = machine.Codes codes
+change (Codes codes) = machine.Codes codes.value
 change Withdraw = machine.Withdraw
 
 -- as received

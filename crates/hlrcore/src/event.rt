@@ -72,7 +72,7 @@ impl RawEvent {
             RawEvent::Expire { shard } => Ok(RawEvent::Expire { shard: *shard }),
             RawEvent::Change { imsi, change } => Ok(RawEvent::Change {
                 imsi: *imsi,
-                change: *change,
+                change: change.try_copy(alloc)?,
             }),
         }
     }
@@ -132,7 +132,7 @@ impl Event {
             Event::Expire { shard } => Ok(RawEvent::Expire { shard: *shard }),
             Event::Change { imsi, change } => Ok(RawEvent::Change {
                 imsi: *imsi,
-                change: *change,
+                change: change.try_copy(alloc)?,
             }),
         }
     }
@@ -151,7 +151,7 @@ impl Event {
             Event::Expire { shard } => Ok(Event::Expire { shard: *shard }),
             Event::Change { imsi, change } => Ok(Event::Change {
                 imsi: *imsi,
-                change: *change,
+                change: change.try_copy(alloc)?,
             }),
         }
     }

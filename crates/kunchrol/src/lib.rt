@@ -117,9 +117,10 @@ pub extern "C" fn kunchrol_codes(
         (IsCodesChange imsi.now codes.now) handle.old.value result }
     ensures refused { result ≢ 0 → handle.new.value ≡ handle.old.value }
 {
-    match codes_event(imsi, codes) {
-        Some(event) => give(alloc, handle, &event),
-        None => ARGUMENT,
+    match codes_event(alloc, imsi, codes) {
+        Ok(Some(event)) => give(alloc, handle, &event),
+        Ok(None) => ARGUMENT,
+        Err(_) => MEMORY,
     }
 }
 

@@ -70,9 +70,9 @@ enum Given {
     Withdraw,
 }
 
-fn change(given: &Given) -> Option<Change> {
+fn change(alloc: Global, given: &Given) -> Option<Change> {
     match given {
-        Given::Codes(text) => Some(Change::Codes(Codes::read(text)?)),
+        Given::Codes(text) => Some(Change::Codes(Box::new(alloc, Codes::read(text)?).ok()?)),
         _ => Some(Change::Withdraw),
     }
 }
@@ -87,7 +87,7 @@ fn raw_event(alloc: Global, shard: ShardNumber, given: &Given) -> Option<RawEven
         Given::Expire => Some(RawEvent::Expire { shard }),
         given => Some(RawEvent::Change {
             imsi: imsi(b"234150000000001").ok()?,
-            change: change(given)?,
+            change: change(alloc, given)?,
         }),
     }
 }
@@ -300,7 +300,7 @@ fn another_shard_has_its_own(rt: HostRuntime) -> Result<(), Fail> {
 
 /// Whether the copy of a change has its codes.
 fn is_copied(alloc: Global) -> Option<bool> {
-    let change = change(&Given::Codes(b"11,21"))?;
+    let change = change(alloc, &Given::Codes(b"11,21"))?;
     let imsi = imsi(b"234150000000002").ok()?;
     let event = RawEvent::Change { imsi, change };
     let copy = event.try_copy(alloc).ok()?;

@@ -20,7 +20,7 @@ use Rattle.shardlog.specs.declared.entry.Handled.{Handled}
 use Rattle.hlrcore.specs.declared.fault.StepFault.{StepFault}
 use Rattle.hlrcore.specs.declared.fault.StepFault.TheVariants as step
 use Rattle.shardlog.specs.declared.fault.ShardFault.{ShardFault}
-use Rattle.shardlog.specs.declared.fault.ShardFault.TheVariants.{NoRoom}
+use Rattle.shardlog.specs.declared.fault.ShardFault.TheVariants.{JournalFull, NoRoom}
 use Rattle.shardlog.specs.Faults.{fault_of}
 use Rattle.shardlog.specs.Chains.{JoinedKeep, LeadTo}
 use Rattle.shardlog.specs.Entries.{raw_entries, raw_entry}
@@ -137,3 +137,10 @@ step_had_no_room (Ok x) e h q = absurd h
 step_had_no_room (Err f) step.NotMine h q = absurd cc
 step_had_no_room (Err f) step.NoRoom h q = refl
 step_had_no_room (Err f) step.Memory h q = absurd cc
+
+-- no step is refused by a full journal
+pub step_has_no_journal : {A : Type 0} (r : Result A ShardFault) (e : StepFault) → IsErrAnd r (λ f. f ≡ fault_of e) → r ≡ Err JournalFull → ⊥
+step_has_no_journal (Ok x) e h q = h
+step_has_no_journal (Err f) step.NotMine h q = cc
+step_has_no_journal (Err f) step.NoRoom h q = cc
+step_has_no_journal (Err f) step.Memory h q = cc

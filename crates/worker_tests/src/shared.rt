@@ -90,13 +90,13 @@ fn parts_of_workers(rt: HostRuntime) -> Result<(), Fail> {
 }
 
 /// An operator's change of the first subscriber's codes. Each opens a dialogue with its register.
-fn change() -> Result<RawEvent, Fail> {
+fn change(alloc: Global) -> Result<RawEvent, Fail> {
     let digits = Digits::from_text(b"234150000000001").ok_or("digits")?;
     let imsi = Imsi::from_digits(digits).ok().ok_or("imsi")?;
     let codes = Codes::read(b"11,21").ok_or("codes")?;
     Ok(RawEvent::Change {
         imsi,
-        change: Change::Codes(codes),
+        change: Change::Codes(Box::new(alloc, codes)?),
     })
 }
 
@@ -109,10 +109,10 @@ fn no_room(rt: HostRuntime) -> Result<(), Fail> {
     let mut sent = Vec::new(alloc);
     let mut changes = Vec::new(alloc);
     for _ in 0..MAX_OPEN {
-        changes.push(change()?)?;
+        changes.push(change(alloc)?)?;
     }
     take(&mut register, &rt, 2, changes, &mut sent)??;
-    let more = vec![in alloc; clock(3, 1)?, change()?]?;
+    let more = vec![in alloc; clock(3, 1)?, change(alloc)?]?;
     let stopped = take(&mut register, &rt, 2, more, &mut sent)?;
     assert_eq!(rt; (sent.len(), stopped), (MAX_OPEN, Err(SharedFault::NoRoom)));
     Ok(())

@@ -9,7 +9,7 @@ use Rattle.hlrcore.specs.declared.fault.StepFault.{StepFault}
 use Rattle.shardlog.specs.declared.entry.Entry.{Entry}
 use Rattle.shardlog.specs.Entries.{raw_entries}
 use Rattle.shardlog.specs.Log.{LogKeeps, log}
-use Rattle.shardlog.proofs.LogLemmas.{handled_log, handles, keeps_seen, log_keeps, step_had_no_room}
+use Rattle.shardlog.proofs.LogLemmas.{handled_log, handles, keeps_seen, log_keeps, step_had_no_room, step_has_no_journal}
 use Rattle.shardlog.proofs.shard.Shard.handle_owned.Goals as goal
 
 pub returns-then-len-ge-MAX_ENTRIES-clause-keeps : goal.returns-then-len-ge-MAX_ENTRIES-clause-keeps
@@ -31,6 +31,10 @@ returns-in_err-answer-clause-no_room c = λ none.
     let why = step_had_no_room c.from_residual-in_err-answer.result c.in_err-answer.field-0.0 c.from_residual-in_err-answer.ensures.1 none in
     subst (λ (s : ShardState). HasNoRoom (state_of s) (event_of c.args.event)) (ap (λ l. l.state) c.self.view_is)
     (c.in_err-answer.ensures.no_room (ap (λ (f : StepFault). Err f) why))
+
+pub returns-in_err-answer-clause-full : goal.returns-in_err-answer-clause-full
+returns-in_err-answer-clause-full c = λ full.
+    absurd (step_has_no_journal c.from_residual-in_err-answer.result c.in_err-answer.field-0.0 c.from_residual-in_err-answer.ensures.1 full)
 
 put : (c : goal.After-append)
     → raw_entries c.append.new.entries.items ≡ raw_entries c.self.inside.entries.items ++ entry_of (raw_of c.args.event) c.in_ok-answer.answer ∷ []
