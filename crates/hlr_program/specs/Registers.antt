@@ -12,6 +12,7 @@ use Rattle.workers.specs.Shared.{GoesOn, HandsOut, StandsBehind}
 use Rattle.hlr_program.specs.declared.register.Register.{Register}
 use Rattle.hlr_program.specs.declared.register.Register.TheVariants.{Alone, Shared}
 use Rattle.hlr_program.specs.Journals.{RunsAlone}
+use Rattle.hlr_program.specs.Parts.{MakesRoom}
 use Rattle.hlr_program.specs.Printed.{Prints, SoFar}
 use Rattle.hlr_program.specs.Runs.{opening_of}
 
@@ -39,6 +40,14 @@ RunsTo (Alone before) events sent (Alone after) = RunsAlone before events sent a
 RunsTo (Alone before) events sent (Shared after) = ⊥
 RunsTo (Shared before) events sent (Alone after) = ⊥
 RunsTo (Shared before) events sent (Shared after) = GoesOn before events sent after
+
+-- Before a part of so many events: in one thread, if some journal has no room for as many more entries, all are cut. Workers see to it
+-- themselves.
+abbrev pub BeginsPart : Register → ℕ → Register → Type 0
+BeginsPart (Alone before) count (Alone after) = MakesRoom before count after
+BeginsPart (Alone before) count (Shared after) = ⊥
+BeginsPart (Shared before) count (Alone after) = ⊥
+BeginsPart (Shared before) count (Shared after) = after ≡ before
 
 -- Events are handled, and the lines of what they send are appended.
 abbrev pub SendsPart : Register → List RawEvent → SoFar → Register → SoFar → Type 0

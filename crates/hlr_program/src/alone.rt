@@ -68,7 +68,8 @@ impl Alone {
     /// Before a part of a batch, of so many events: cuts all journals, if one of them has no room for as many more entries.
     pub fn begin_part(&mut self, count: usize) -> Result<(), AllocError>
         requires { count ≤ MAX_ENTRIES }
-        ensures { OnOk result (RunsAlone self.old [] [] self.new) }
+        ensures made { OnOk result (MakesRoom self.old count self.new) }
+        ensures ran { OnOk result (RunsAlone self.old [] [] self.new) }
     {
         self.make_room(count)?;
         Ok(())

@@ -1,6 +1,6 @@
 //! One batch of a script.
 
-ghost use Rattle.std.specs.Prelude.{◌≡◌, ◌<◌, ◌≤◌, ◌∷◌, ◌+◌, [], ℕ, List, length, map, Some, IfOk, IfErr, OnOk};
+ghost use Rattle.std.specs.Prelude.{◌≡◌, ◌<◌, ◌≤◌, ◌∷◌, ◌+◌, ◌-◌, min, [], ℕ, List, length, map, Some, IfOk, IfErr, OnOk};
 ghost use Rattle.std.specs.List.{AllByRecursion, range_with_len};
 ghost use Rattle.machine.specs.declared.numbers.TheConstants.{MAX_ENTRIES};
 ghost use Rattle.frames.specs.Octets.{RawEvent as Event, RawFrame, RawClock, RawExpire, RawOut};
@@ -13,7 +13,7 @@ ghost use Rattle.hlr_program.specs.Answered.{so_far};
 ghost use Rattle.hlr_program.specs.Batches.{IsGood, HasIds, batch_of, behind_batch};
 ghost use Rattle.hlr_program.specs.Gathering.{Adds, AddsSaid, AddsLine, AddsLines, AddingStops, SaidStops, LineStops, LinesStop, Handles, progress};
 ghost use Rattle.hlr_program.specs.Printed.{Prints};
-ghost use Rattle.hlr_program.specs.Registers.{state_known};
+ghost use Rattle.hlr_program.specs.Registers.{BeginsPart, state_known};
 ghost use Rattle.hlr_program.specs.Runs.{AreEvents};
 ghost use Rattle.hlr_program.specs.Stopping.{BatchStops};
 
@@ -93,6 +93,9 @@ impl Pending {
         ensures none { OnOk result (self.new.gathered.items ≡ []) }
         ensures stops { IfErr result (AddingStops (progress register.old self.old) []) }
     {
+        if self.gathered.is_empty() {
+            return Ok(());
+        }
         self.begin_part(register)?;
         let next = Vec::with_capacity(self.alloc, self.gathered.capacity())?;
         let gathered = mem::replace(&mut self.gathered, next);
@@ -104,6 +107,12 @@ impl Pending {
     fn begin_part(&mut self, register: &mut Register) -> Result<(), AllocError>
         ensures adds { OnOk result (Adds (progress register.old self.old) []
             (progress register.new self.new)) }
+        ensures cuts { self.old.room < length self.old.gathered.items
+            → OnOk result (BeginsPart register.old (min self.old.ahead MAX_ENTRIES) register.new) }
+        ensures stays { length self.old.gathered.items ≤ self.old.room
+            → OnOk result (register.new ≡ register.old) }
+        ensures left { OnOk result (self.new.ahead
+            ≡ self.old.ahead - length self.old.gathered.items) }
         ensures gathered { self.new.gathered ≡ self.old.gathered }
     {
         let count = self.gathered.len();

@@ -29,7 +29,7 @@ impl Register {
     ghost use Rattle.machine.specs.declared.numbers.TheConstants.{MAX_ENTRIES};
     ghost use Rattle.hlrcore.specs.Events.{raw_event};
     ghost use Rattle.hlr_program.specs.Answered.{so_far};
-    ghost use Rattle.hlr_program.specs.Registers.{HandsOver, IsOf, OpensWith, RunsTo, SendsPart, state_known};
+    ghost use Rattle.hlr_program.specs.Registers.{BeginsPart, HandsOver, IsOf, OpensWith, RunsTo, SendsPart, state_known};
     ghost use Rattle.hlr_program.specs.Stopping.{EventsStop, HandingOutStops};
 
     /// The register of a records file: in one thread if `workers` is 0.
@@ -61,7 +61,8 @@ impl Register {
     #[tactic(auto, using(crate::proofs::RegisterLemmas::ran_none))]
     pub fn begin_part(&mut self, count: usize) -> Result<(), AllocError>
         requires { count ≤ MAX_ENTRIES }
-        ensures { OnOk result (RunsTo self.old [] [] self.new) }
+        ensures begins { OnOk result (BeginsPart self.old count self.new) }
+        ensures ran { OnOk result (RunsTo self.old [] [] self.new) }
     {
         match self {
             Register::Alone(alone) => alone.begin_part(count),

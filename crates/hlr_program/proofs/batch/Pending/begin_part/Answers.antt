@@ -13,6 +13,6 @@ returns-clause-adds c =
     elim c.if-self-count.branch [
       | then-self-count+in_ok-begin_part w ↦
           let made : Progress = record { register = w.begin_part.new.self; part = map raw_event c.args.self.now.gathered.items; answers = so_far c.args.self.now.answers } in
-          rw (w.register-is, w.self-is) (adds_room start made w.in_ok-begin_part.ensures refl refl)
+          rw (w.register-is, w.self-is) (adds_room start made w.in_ok-begin_part.ensures.ran refl refl)
       | else-self-count w ↦ let same : start ≡ here = cc in subst (λ (p : Progress). Adds start [] p) same (adds_none start)
     ]

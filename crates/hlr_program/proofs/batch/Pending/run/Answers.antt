@@ -6,9 +6,12 @@ use Rattle.hlr_program.specs.Answered.{so_far}
 use Rattle.hlr_program.specs.Gathering.{AddingStops, Progress, progress}
 use Rattle.hlr_program.specs.Registers.{RunsTo, state_known}
 use Rattle.hlr_program.specs.Stopping.{EventsStop}
-use Rattle.hlr_program.proofs.GatherLemmas.{adds_join, adds_part, stops_join, stops_part}
+use Rattle.hlr_program.proofs.GatherLemmas.{adds_join, adds_none, adds_part, stops_join, stops_part}
 use Rattle.hlr_program.proofs.ListLemmas.{else_on, then_on}
 use Rattle.hlr_program.proofs.batch.Pending.run.Goals as goal
+
+pub returns-then-is_empty-clause-adds : goal.returns-then-is_empty-clause-adds
+returns-then-is_empty-clause-adds g c = adds_none (progress c.args.register.now c.args.self.now)
 
 pub returns-clause-adds : goal.returns-clause-adds
 returns-clause-adds g c =
