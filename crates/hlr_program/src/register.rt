@@ -12,7 +12,7 @@ use std::alloc::{AllocError, Global};
 use std::sync::Wait;
 use std::thread::Threads;
 
-/// How many events are handled at once in one thread.
+/// How many events are handled at once in one thread. They divide the events of a part of a batch, so that a part ends with them.
 const LOT: usize = 64;
 
 /// The sixteen shards, and who handles their events.
