@@ -111,6 +111,11 @@ impl Pending {
             → OnOk result (BeginsPart register.old (min self.old.ahead MAX_ENTRIES) register.new) }
         ensures stays { length self.old.gathered.items ≤ self.old.room
             → OnOk result (register.new ≡ register.old) }
+        // Room is asked for again only once the events of the part are handled.
+        ensures made { self.old.room < length self.old.gathered.items → OnOk result (self.new.room
+            ≡ min self.old.ahead MAX_ENTRIES - length self.old.gathered.items) }
+        ensures taken { length self.old.gathered.items ≤ self.old.room → OnOk result (self.new.room
+            ≡ self.old.room - length self.old.gathered.items) }
         ensures left { OnOk result (self.new.ahead
             ≡ self.old.ahead - length self.old.gathered.items) }
         ensures gathered { self.new.gathered ≡ self.old.gathered }

@@ -12,8 +12,11 @@ use std::alloc::{AllocError, Global};
 use std::sync::Wait;
 use std::thread::Threads;
 
-/// How many events are handled at once in one thread. They divide the events of a part of a batch, so that a part ends with them.
+/// How many events are handled at once in one thread.
 const LOT: usize = 64;
+
+// A part of a batch ends with the last of them.
+const _: () = prove!(MAX_ENTRIES % LOT == 0);
 
 /// The sixteen shards, and who handles their events.
 #[derive(Drop)]
