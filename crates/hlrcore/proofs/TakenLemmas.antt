@@ -86,6 +86,7 @@ ticks_here s now = λ i. record {
 pub tick_step : (s : ShardState) (now : ℕ) (a : StepAnswer) → Says a None None []
     → Leads s (RawClock s.shard now) a (record s { clock = max s.clock (min now MAX_CLOCK) })
 tick_step s now a says =
-    taken_step (state_of s) (state_of (record s { clock = max s.clock (min now MAX_CLOCK) })) s.shard (RawClock s.shard now) (Clock s.shard now)
-    (Ticks s.shard now) [] (unchanged (local_of_nobody (state_of s) s.shard) []) a (refl, refl) refl refl refl
+    taken_step (state_of s) (state_of (record s { clock = max s.clock (min now MAX_CLOCK) })) s.shard
+    (RawClock s.shard now) (Clock s.shard now) (Ticks s.shard now) []
+    (unchanged (local_of_nobody (state_of s) s.shard) []) a (refl, refl) refl refl refl
     (λ some. absurd (nothing_opens None refl some)) (λ over. nothing_opens None refl over.opens) (ticks_here s now) says

@@ -27,8 +27,8 @@ pub record IsNamed (directory : DirectoryMap) (shards : List Log) (number place 
   pub stands : slice_get shards place ≡ Some l
   pub number_is : number ≡ place
 
-pub named : (directory : DirectoryMap) (shards : List Log) (number place : ℕ) (l : Log) → AreShards directory shards → place ≡ number → place < 16
-    → l ≡ get_or shards place l → IsNamed directory shards number place l
+pub named : (directory : DirectoryMap) (shards : List Log) (number place : ℕ) (l : Log) → AreShards directory shards
+    → place ≡ number → place < 16 → l ≡ get_or shards place l → IsNamed directory shards number place l
 named directory shards number place l are is small read = record {
   are = are;
   stands = slice_get_read shards 16 place l (sym are.count) small read;
@@ -38,7 +38,8 @@ named directory shards number place l are is small read = record {
 module _ (directory : DirectoryMap) (shards : List Log) (number place : ℕ) (l : Log) (answer : Result Handled ShardFault)
     (is : IsNamed directory shards number place l) where
   -- no other shard is asked
-  pub asked_its_own : (why : ShardFault) → answer ≡ Err why → (answer ≡ Err shard.NotMine → (number ≡ l.state.shard → ⊥)) → why ≡ shard.NotMine → ⊥
+  pub asked_its_own : (why : ShardFault) → answer ≡ Err why → (answer ≡ Err shard.NotMine → (number ≡ l.state.shard → ⊥))
+      → why ≡ shard.NotMine → ⊥
   asked_its_own why answered not_mine e =
       not_mine (answered ∙ ap (λ (f : ShardFault). Err f) e) (is.number_is ∙ sym (is.are.each place l is.stands).shard_is)
 
@@ -46,8 +47,8 @@ module _ (directory : DirectoryMap) (shards : List Log) (number place : ℕ) (l 
       → AreShards directory (set shards place m)
   named_are raw m keeps handles err = took_or_not directory shards place l m raw answer is.are is.stands keeps handles err
 
-  pub named_takes : (before : NodeState) (raw : RawEvent) (e : Event) (m : Log) (handled : Handled) → node directory shards ≡ before → IsEvent raw e
-      → route (directory_of directory) e ≡ number → Handles l raw handled m → Takes before raw handled (node directory (set shards place m))
+  pub named_takes : (before : NodeState) (raw : RawEvent) (e : Event) (m : Log) (handled : Handled) → node directory shards ≡ before
+      → IsEvent raw e → route (directory_of directory) e ≡ number → Handles l raw handled m → Takes before raw handled (node directory (set shards place m))
   named_takes before raw e m handled seen is_event routed handles =
       takes before directory shards raw handled place l m seen is.are is.stands (e, is_event, routed ∙ is.number_is) handles
 

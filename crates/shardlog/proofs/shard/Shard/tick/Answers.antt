@@ -14,15 +14,15 @@ returns-in_err-reserve-clause-keeps c =
 
 pub invariant_of-self-2 : goal.invariant_of-self-2
 invariant_of-self-2 c =
-    named_log (λ n. RawClock n c.args.now) c.args.self.now c.self.inside.base c.self.inside.state c.tick-answer.new.self c.self.inside.entries.items
-    c.reserve.new.self.items c.append.new.entries.items c.args.shard c.tick-answer.result
+    named_log (λ n. RawClock n c.args.now) c.args.self.now c.self.inside.base c.self.inside.state c.tick-answer.new.self
+    c.self.inside.entries.items c.reserve.new.self.items c.append.new.entries.items c.args.shard c.tick-answer.result
     c.self.view_is c.in_ok-admit.ensures.mine c.in_ok-reserve.ensures.items c.append.ensures.put c.tick-answer.ensures.stepped
     c.self.invariant (Clock c.args.shard c.args.now, (refl, refl), refl) c.tick-answer.ensures.same_shard c.in_ok-admit.ensures.few
 
 pub returns-clause-handles : goal.returns-clause-handles
 returns-clause-handles c =
-    named_handles (λ n. RawClock n c.args.now) c.args.self.now c.self.inside.base c.self.inside.state c.tick-answer.new.self c.self.inside.entries.items
-    c.reserve.new.self.items c.append.new.entries.items c.args.shard c.tick-answer.result
+    named_handles (λ n. RawClock n c.args.now) c.args.self.now c.self.inside.base c.self.inside.state c.tick-answer.new.self
+    c.self.inside.entries.items c.reserve.new.self.items c.append.new.entries.items c.args.shard c.tick-answer.result
     c.self.view_is c.in_ok-admit.ensures.mine c.in_ok-reserve.ensures.items c.append.ensures.put c.tick-answer.ensures.stepped
     c.append.result c.append.ensures.outs c.append.ensures.position
 

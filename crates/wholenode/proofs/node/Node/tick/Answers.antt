@@ -11,8 +11,8 @@ pub refusal-requires : goal.refusal-requires
 refusal-requires c =
     let small : c.from-place.result < 16 = search rules in
     let place : c.from-place.result ≡ c.args.number = search rules in
-    asked_its_own (arc_value c.self.inside.directory) c.self.inside.shards.items c.args.number c.from-place.result c.index_mut-shard.result.now
-    c.tick.result
+    asked_its_own (arc_value c.self.inside.directory) c.self.inside.shards.items c.args.number c.from-place.result
+    c.index_mut-shard.result.now c.tick.result
     (named (arc_value c.self.inside.directory) c.self.inside.shards.items c.args.number c.from-place.result c.index_mut-shard.result.now
     c.self.invariant place small c.index_mut-shard.ensures.value)
     c.in-Err.why c.in-Err.is c.tick.ensures.not_mine.0
@@ -34,8 +34,8 @@ invariant_of-self c =
 pub returns-clause-takes : goal.returns-clause-takes
 returns-clause-takes c = elim c.match-tick.branch [
   | in-Ok w ↦ rw w.result-is
-      (named_takes (arc_value c.self.inside.directory) c.self.inside.shards.items c.args.number c.from-place.result c.index_mut-shard.result.now
-      c.tick.result (shard_is c) c.args.self.now (RawClock c.args.number c.args.now) (Clock c.args.number c.args.now) c.tick.new.self
+      (named_takes (arc_value c.self.inside.directory) c.self.inside.shards.items c.args.number c.from-place.result
+      c.index_mut-shard.result.now c.tick.result (shard_is c) c.args.self.now (RawClock c.args.number c.args.now) (Clock c.args.number c.args.now) c.tick.new.self
       w.in-Ok.ticked c.self.view_is (refl, refl) refl w.in-Ok.ensures.handles)
   | in-Err w ↦ rw w.result-is tt
 ]
@@ -44,8 +44,8 @@ pub returns-clause-refused : goal.returns-clause-refused
 returns-clause-refused c = elim c.match-tick.branch [
   | in-Ok w ↦ rw w.result-is tt
   | in-Err w ↦ rw w.result-is
-      (named_refuses (arc_value c.self.inside.directory) c.self.inside.shards.items c.args.number c.from-place.result c.index_mut-shard.result.now
-      c.tick.result (shard_is c) c.args.self.now (RawClock c.args.number c.args.now) (Clock c.args.number c.args.now) w.in-Err.why
+      (named_refuses (arc_value c.self.inside.directory) c.self.inside.shards.items c.args.number c.from-place.result
+      c.index_mut-shard.result.now c.tick.result (shard_is c) c.args.self.now (RawClock c.args.number c.args.now) (Clock c.args.number c.args.now) w.in-Err.why
       w.refusal.result c.self.view_is (refl, refl) refl w.in-Err.is w.refusal.ensures
       c.tick.ensures.full c.tick.ensures.has_room)
 ]
