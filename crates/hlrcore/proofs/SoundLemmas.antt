@@ -14,8 +14,8 @@ use Rattle.records.proofs.MapLemmas.{digits_exact}
 use Rattle.records.specs.Subscriber.{Subscriber}
 use Rattle.hlr_types.specs.declared.register.Register.{Register}
 use Rattle.smroute.specs.Seen.{machine_register, machine_subscriber}
-use Rattle.machine.specs.Events.{Expire}
-use Rattle.frames.specs.Octets.{RawEvent, RawExpire, IsRouted}
+use Rattle.machine.specs.Events.{Clock, Expire}
+use Rattle.frames.specs.Octets.{RawEvent, RawClock, RawExpire, IsRouted}
 use Rattle.frames.specs.OctetJournals.{LegalOctets}
 use Rattle.frames_laws.proofs.OctetLaws.{octets_push}
 use Rattle.shard_state.specs.declared.answer.StepAnswer.{StepAnswer}
@@ -95,7 +95,10 @@ step_keeps s t raw a is routed leads same =
       own = subst (λ k. state_of t ≡ part (state_of t) k) (sym same.shard) after.legal.after_part;
     }
 
--- an expiry names its shard
+-- a clock value names its shard, and so does an expiry
+pub clock_is_routed : (s : ShardState) (now : ℕ) → IsRouted (directory_of s.directory) (RawClock s.shard now) s.shard
+clock_is_routed s now = (Clock s.shard now, (refl, refl), refl)
+
 pub expiry_is_routed : {E : Type 0} (s : ShardState) (r : Result StepAnswer E) → OnOk r (IsRouted (directory_of s.directory) (RawExpire s.shard) s.shard)
 expiry_is_routed s (Ok a) = (Expire s.shard, refl, refl)
 expiry_is_routed s (Err e) = tt

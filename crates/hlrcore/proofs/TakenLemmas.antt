@@ -82,10 +82,11 @@ ticks_here s now = λ i. record {
   hlr = s.hlr;
 }
 
-pub tick_step : (s : ShardState) (n now : ℕ) (a : StepAnswer) → n ≡ s.shard → Says a None None []
-    → Leads s (RawClock n now) a (record s { clock = max s.clock (min now MAX_CLOCK) })
-tick_step s n now a mine says =
-    taken_step (state_of s) (state_of (record s { clock = max s.clock (min now MAX_CLOCK) })) s.shard (RawClock n now) (Clock n now) (Ticks n now) []
-    (unchanged (local_of_nobody (state_of s) s.shard) []) a (refl, refl) mine refl refl (λ some. absurd (nothing_opens None refl some))
-    (λ over. nothing_opens None refl over.opens)
-    (ticks_here s now ∙ ap (λ m. ticked (Ticks m now) (state_of s)) (sym mine)) says
+-- a clock value for this shard
+pub tick_step : (s : ShardState) (now : ℕ) (a : StepAnswer) → Says a None None []
+    → Leads s (RawClock s.shard now) a (record s { clock = max s.clock (min now MAX_CLOCK) })
+tick_step s now a says =
+    taken_step (state_of s) (state_of (record s { clock = max s.clock (min now MAX_CLOCK) })) s.shard
+    (RawClock s.shard now) (Clock s.shard now) (Ticks s.shard now) []
+    (unchanged (local_of_nobody (state_of s) s.shard) []) a (refl, refl) refl refl refl
+    (λ some. absurd (nothing_opens None refl some)) (λ over. nothing_opens None refl over.opens) (ticks_here s now) says

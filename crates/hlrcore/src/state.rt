@@ -2,7 +2,7 @@
 
 ghost use Rattle.std.specs.Prelude.{◌≡◌, ◌≢◌, ◌<◌, ◌↔◌, IfOk, OnOk, OnErr, Err, IsTrue};
 ghost use Rattle.std.specs.Arc.{arc_value};
-ghost use Rattle.frames.specs.Octets.{IsRouted, RawExpire};
+ghost use Rattle.frames.specs.Octets.{IsRouted, RawClock, RawExpire};
 ghost use Rattle.machine.specs.Opening.{opening};
 ghost use Rattle.machine.specs.Parts.{part};
 ghost use Rattle.machine.specs.Routing.{route as shard_for};
@@ -168,6 +168,16 @@ impl State {
         ensures same_shard { IsSameShard self.old self.new }
     {
         self.stepper.expire()
+    }
+
+    /// Handles a clock value, as `step` does for such an event of this shard: sets the clock to `now`, which counts as at most 2^62, if
+    /// that is later. It never goes back (profile). Does not allocate.
+    pub fn tick(&mut self, now: u64) -> StepAnswer
+        // It is a step of the machine over octets.
+        ensures stepped { Leads self.old (RawClock self.old.shard now) result self.new }
+        ensures same_shard { IsSameShard self.old self.new }
+    {
+        self.stepper.tick(now)
     }
 
     /// An equal copy.

@@ -1,7 +1,7 @@
 //! One event of a shard.
 
 ghost use Rattle.std.specs.Prelude.{◌≡◌, ◌≢◌, ◌↔◌, [], IfOk, OnOk, OnErr, Err};
-ghost use Rattle.frames.specs.Octets.{IsRouted, RawChange, RawExpire};
+ghost use Rattle.frames.specs.Octets.{IsRouted, RawChange, RawClock, RawExpire};
 ghost use Rattle.machine.specs.Events as machine;
 ghost use Rattle.machine.specs.Routing.{route};
 ghost use Rattle.machine.specs.Step.{HasNoRoom};
@@ -42,13 +42,19 @@ impl Stepper {
         }
         match event {
             Event::Frame(indication) => Ok(self.receive(indication, found.subject)?),
-            Event::Clock { now, .. } => {
-                self.shard.tick(*now);
-                Ok(silent())
-            }
+            Event::Clock { now, .. } => Ok(self.tick(*now)),
             Event::Expire { .. } => Ok(self.expire()?),
             Event::Change { imsi, change } => self.change(*imsi, change),
         }
+    }
+
+    /// Handles a clock value.
+    pub(crate) fn tick(&mut self, now: u64) -> StepAnswer
+        ensures ticked { Leads self.old (RawClock self.old.shard now) result self.new }
+        ensures same_shard { IsSameShard self.old self.new }
+    {
+        self.shard.tick(now);
+        silent()
     }
 
     /// Handles the expiry of the least timer that is due, if any.

@@ -117,6 +117,41 @@ handles old base s t before after event a handled seen put step outs position =
       unnamed = leaves_unnamed (state_of s) (state_of t) (entry_of event a) step;
     })
 
+-- an event that is not handled leaves all as it is, but for more room
+pub keeps_unhandled : (base s t : ShardState) (before after : List Entry) → IsLog (log base (raw_entries before) s) → after ≡ before → t ≡ s
+    → LogKeeps (log base (raw_entries after) t)
+keeps_unhandled base s t before after is entries state =
+    subst (λ (u : ShardState). LogKeeps (log base (raw_entries after) u)) (sym state)
+    (subst (λ (es : List Entry). LogKeeps (log base (raw_entries es) s)) (sym entries) (log_keeps _ is))
+
+-- ---- an event that names its shard (an expiry or a clock value), of which an entry is appended where more room was made
+
+module _ (event : ℕ → RawEvent) (old : Log) (base s t : ShardState) (before roomy after : List Entry) (n : ℕ) (a : StepAnswer)
+    (seen : log base (raw_entries before) s ≡ old) (mine : n ≡ old.state.shard) (room : roomy ≡ before)
+    (put : raw_entries after ≡ raw_entries roomy ++ entry_of (event n) a ∷ [])
+    (step : StepOctets (state_of s) (entry_of (event s.shard) a) (state_of t)) where
+  own : n ≡ s.shard
+  own = mine ∙ sym (ap (λ (l : Log). l.state.shard) seen)
+
+  put_here : raw_entries after ≡ raw_entries before ++ entry_of (event n) a ∷ []
+  put_here = subst (λ (es : List Entry). raw_entries after ≡ raw_entries es ++ entry_of (event n) a ∷ []) room put
+
+  stepped : StepOctets (state_of s) (entry_of (event n) a) (state_of t)
+  stepped = subst (λ (k : ℕ). StepOctets (state_of s) (entry_of (event k) a) (state_of t)) (sym own) step
+
+  pub named_log : IsLog (log base (raw_entries before) s) → IsRouted (directory_of s.directory) (event n) n → IsSameShard s t
+      → length old.entries < MAX_ENTRIES → IsLog (log base (raw_entries after) t)
+  named_log is routed same lt =
+      let sees = ap (λ (l : Log). length l.entries) seen in
+      let count = length-map before raw_entry in
+      handled_log base s t before after (event n) a is put_here (subst (IsRouted (directory_of s.directory) (event n)) own routed) stepped same
+      (omega (arith, count, sees, lt))
+
+  pub named_handles : (handled : Handled) → handled.outs ≡ a.outs → handled.position ≡ length roomy
+      → Handles old (event n) handled (log base (raw_entries after) t)
+  named_handles handled outs position =
+      handles old base s t before after (event n) a handled seen put_here stepped outs (position ∙ ap (λ (es : List Entry). length es) room)
+
 -- ---- a cut
 
 pub cut_leads : (l m : Log) (base : ShardState) (entries : List RawEntry) → IsLog l → l.base ≡ base → l.entries ≡ entries → m.base ≡ l.state

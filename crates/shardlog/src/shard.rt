@@ -2,7 +2,7 @@
 
 ghost use Rattle.std.specs.Prelude.{◌≡◌, ◌≢◌, ◌⊎◌, ◌↔◌, ◌<◌, ◌++◌, ◌∷◌, [], List, length, vec_len, vec_capacity, IfOk, IfErr, OnOk, OnErr, MatchResult, Err};
 ghost use Rattle.frames.specs.OctetJournals.{RawEpoch};
-ghost use Rattle.frames.specs.Octets.{RawExpire};
+ghost use Rattle.frames.specs.Octets.{RawClock, RawExpire};
 ghost use Rattle.machine.specs.declared.numbers.TheConstants.{MAX_ENTRIES};
 ghost use Rattle.machine.specs.Routing.{route};
 ghost use Rattle.machine.specs.Step.{HasNoRoom};
@@ -141,15 +141,49 @@ impl Shard {
         ensures has_room { result ≢ Err ShardFault.NoRoom }
         ensures err { OnErr result (self.new ≡ self.old) }
     {
+        self.admit(shard)?;
+        self.entries.reserve(1)?;
+        let answer = self.state.expire()?;
+        Ok(append(&mut self.entries, RawEvent::Expire { shard }, answer))
+    }
+
+    /// Handles a clock value for this shard: as `handle` does, with nothing to read or to copy. `NotMine` if it is for another shard;
+    /// `JournalFull` if the journal is full; `Memory` if an allocation fails. On error nothing changes.
+    pub fn tick(&mut self, shard: ShardNumber, now: u64) -> Result<Handled, ShardFault>
+        // A step of the machine over octets, which leaves each open dialogue as it is that the event does not name.
+        ensures handles { IfOk result (λ handled. Handles self.old
+            (RawClock shard now) handled self.new) }
+        // The invariant of every journal.
+        ensures keeps { LogKeeps self.new }
+        ensures not_mine { (result ≡ Err ShardFault.NotMine) ↔ (shard ≢ self.old.state.shard) }
+        ensures full { result ≡ Err ShardFault.JournalFull
+            → length self.old.entries ≡ MAX_ENTRIES }
+        ensures room { length self.old.entries ≡ MAX_ENTRIES → OnOk result ⊥ }
+        ensures has_room { result ≢ Err ShardFault.NoRoom }
+        ensures err { OnErr result (self.new ≡ self.old) }
+    {
+        self.admit(shard)?;
+        self.entries.reserve(1)?;
+        let answer = self.state.tick(now);
+        Ok(append(&mut self.entries, RawEvent::Clock { shard, now }, answer))
+    }
+
+    /// Refuses an event that names another shard, and any when the journal is full.
+    fn admit(&self, shard: ShardNumber) -> Result<(), ShardFault>
+        ensures mine { OnOk result (shard ≡ self.now.state.shard) }
+        ensures few { OnOk result (length self.now.entries < MAX_ENTRIES) }
+        ensures not_mine { (result ≡ Err ShardFault.NotMine) ↔ (shard ≢ self.now.state.shard) }
+        ensures full { result ≡ Err ShardFault.JournalFull
+            → length self.now.entries ≡ MAX_ENTRIES }
+        ensures has_room { result ≢ Err ShardFault.NoRoom }
+    {
         if shard.number() != self.state.number() {
             return Err(ShardFault::NotMine);
         }
         if self.entries.len() >= MAX_ENTRIES {
             return Err(ShardFault::JournalFull);
         }
-        self.entries.reserve(1)?;
-        let answer = self.state.expire()?;
-        Ok(append(&mut self.entries, RawEvent::Expire { shard }, answer))
+        Ok(())
     }
 
     /// The error for an event when the journal is full.

@@ -3,4 +3,5 @@ pub mod WholeLemmas
 pub mod OpeningLemmas
 pub mod RunLemmas
 pub mod CutLemmas
+pub mod NamedLemmas
 pub mod RoomLemmas

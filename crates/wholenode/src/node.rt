@@ -1,7 +1,7 @@
 //! The sixteen shards of a register, in one thread.
 
 ghost use Rattle.std.specs.Prelude.{◌≡◌, ◌<◌, [], map, IfOk, IfErr, OnOk, OnErr};
-ghost use Rattle.frames.specs.Octets.{RawExpire};
+ghost use Rattle.frames.specs.Octets.{RawClock, RawExpire};
 ghost use Rattle.hlrcore.specs.Events.{raw_event};
 ghost use Rattle.wholenode.specs.Nodes.{whole};
 ghost use Rattle.wholenode.specs.Opening.{BeginsWith};
@@ -161,6 +161,7 @@ impl Node {
         ensures keeps { NodeKeeps self.new }
     {
         match raw {
+            RawEvent::Clock { shard, now } => self.tick(shard, now),
             RawEvent::Expire { shard } => self.expire(shard),
             read => self.read_and_handle(bump, read),
         }
@@ -178,6 +179,22 @@ impl Node {
         let shard = &mut self.shards[place];
         match shard.expire(number) {
             Ok(expired) => Ok(expired),
+            Err(why) => Err(refusal(why)),
+        }
+    }
+
+    /// Handles a clock value, which names its shard and needs no reading. On error nothing changes.
+    fn tick(&mut self, number: ShardNumber, now: u64) -> Result<Handled, Cause>
+        ensures takes { IfOk result (λ handled. Takes self.old
+            (RawClock number now) handled self.new) }
+        ensures refused { IfErr result (λ cause. Refuses self.old (RawClock number now) cause) }
+        ensures err { OnErr result (self.new ≡ self.old) }
+        ensures keeps { NodeKeeps self.new }
+    {
+        let place = usize::from(number.number());
+        let shard = &mut self.shards[place];
+        match shard.tick(number, now) {
+            Ok(ticked) => Ok(ticked),
             Err(why) => Err(refusal(why)),
         }
     }

@@ -1,15 +1,13 @@
 use Rattle.std.proofs.Common.{◌≡◌, ℕ, rules, sym, ap, ◌∙◌, subst}
 use Rattle.machine.specs.Routing.{route}
-use Rattle.std.specs.Prelude.{min, max}
-use Rattle.machine.specs.declared.numbers.TheConstants.{MAX_CLOCK}
 use Rattle.frames.specs.Octets.{RawClock, RawExpire}
-use Rattle.shard_state.specs.Shards.{ShardState, directory_of}
+use Rattle.shard_state.specs.Shards.{directory_of}
 use Rattle.hlrcore.specs.declared.event.Event.{Event}
 use Rattle.records.specs.Maps.{DirectoryMap}
 use Rattle.hlrcore.specs.Addressees.{subject_of_event}
 use Rattle.hlrcore.specs.Events.{event_of, raw_of}
 use Rattle.hlrcore.specs.Leading.{Leads}
-use Rattle.hlrcore.proofs.TakenLemmas.{then_ok, tick_step}
+use Rattle.hlrcore.proofs.TakenLemmas.{then_ok}
 use Rattle.hlrcore.proofs.stepper.Stepper.step.Goals as goal
 
 pub receive-requires-clause-mine : goal.receive-requires-clause-mine
@@ -35,10 +33,9 @@ returns-in-Clock-clause-stepped c =
     let mine : route (directory_of c.args.self.now.directory) (event_of c.args.event.now) ≡ c.args.self.now.shard = search rules in
     let here : c.in-Clock.shard ≡ c.args.self.now.shard = subst (λ
     (e : Event). route (directory_of c.args.self.now.directory) (event_of e) ≡ c.args.self.now.shard) c.in-Clock.is mine in
-    let ticked = c.tick.ensures ∙ ap (λ (s : ShardState). record s { clock = max s.clock (min c.in-Clock.now MAX_CLOCK) }) c.self.view_is in
-    subst (λ (e : Event). Leads c.args.self.now (raw_of e) c.silent.result c.tick.new.self) (sym c.in-Clock.is)
-    (subst (Leads c.args.self.now (RawClock c.in-Clock.shard c.in-Clock.now) c.silent.result) (sym ticked)
-    (tick_step c.args.self.now c.in-Clock.shard c.in-Clock.now c.silent.result here c.silent.ensures))
+    subst (λ (e : Event). Leads c.args.self.now (raw_of e) c.tick.result c.tick.new.self) (sym c.in-Clock.is)
+    (subst (λ (n : ℕ). Leads c.args.self.now (RawClock n c.in-Clock.now) c.tick.result c.tick.new.self)
+    (sym here) c.tick.ensures.ticked)
 
 pub returns-in_ok-expire-in-Expire-clause-stepped : goal.returns-in_ok-expire-in-Expire-clause-stepped
 returns-in_ok-expire-in-Expire-clause-stepped c =

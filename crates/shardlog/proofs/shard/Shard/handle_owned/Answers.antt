@@ -1,4 +1,4 @@
-use Rattle.std.proofs.Common.{◌≡◌, List, [], ◌∷◌, ◌++◌, rules, sym, ap, subst}
+use Rattle.std.proofs.Common.{◌≡◌, List, [], ◌∷◌, ◌++◌, refl, rules, sym, ap, subst}
 use Rattle.std.specs.Prelude.{Err}
 use Rattle.machine.specs.Step.{HasNoRoom}
 use Rattle.frames.specs.Octets.{RawEvent}
@@ -8,8 +8,7 @@ use Rattle.hlrcore.specs.Events.{event_of, raw_event, raw_of}
 use Rattle.hlrcore.specs.declared.fault.StepFault.{StepFault}
 use Rattle.shardlog.specs.declared.entry.Entry.{Entry}
 use Rattle.shardlog.specs.Entries.{raw_entries}
-use Rattle.shardlog.specs.Log.{LogKeeps, log}
-use Rattle.shardlog.proofs.LogLemmas.{handled_log, handles, keeps_seen, log_keeps, step_had_no_room, step_has_no_journal}
+use Rattle.shardlog.proofs.LogLemmas.{handled_log, handles, keeps_seen, keeps_unhandled, log_keeps, step_had_no_room, step_has_no_journal}
 use Rattle.shardlog.proofs.shard.Shard.handle_owned.Goals as goal
 
 pub returns-then-len-ge-MAX_ENTRIES-clause-keeps : goal.returns-then-len-ge-MAX_ENTRIES-clause-keeps
@@ -17,14 +16,13 @@ returns-then-len-ge-MAX_ENTRIES-clause-keeps c = keeps_seen _ _ c.self.view_is c
 
 pub returns-in_err-reserve-clause-keeps : goal.returns-in_err-reserve-clause-keeps
 returns-in_err-reserve-clause-keeps c =
-    subst (λ (es : List Entry). LogKeeps (log c.self.inside.base (raw_entries es) c.self.inside.state)) (sym c.in_err-reserve.ensures.items)
-    (log_keeps _ c.self.invariant)
+    keeps_unhandled c.self.inside.base c.self.inside.state c.self.inside.state c.self.inside.entries.items c.reserve.new.self.items
+    c.self.invariant c.in_err-reserve.ensures.items refl
 
 pub returns-in_err-answer-clause-keeps : goal.returns-in_err-answer-clause-keeps
 returns-in_err-answer-clause-keeps c =
-    subst (λ (s : ShardState). LogKeeps (log c.self.inside.base (raw_entries c.reserve.new.self.items) s)) (sym c.in_err-answer.ensures.err)
-    (subst (λ (es : List Entry). LogKeeps (log c.self.inside.base (raw_entries es) c.self.inside.state)) (sym c.in_ok-reserve.ensures.items)
-    (log_keeps _ c.self.invariant))
+    keeps_unhandled c.self.inside.base c.self.inside.state c.step.new.self c.self.inside.entries.items c.reserve.new.self.items
+    c.self.invariant c.in_ok-reserve.ensures.items c.in_err-answer.ensures.err
 
 pub returns-in_err-answer-clause-no_room : goal.returns-in_err-answer-clause-no_room
 returns-in_err-answer-clause-no_room c = λ none.
