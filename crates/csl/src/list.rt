@@ -11,7 +11,12 @@ ghost use Rattle.csl.specs.Tables.{first_invoked, with_one};
 use crate::ending::{How, ending_of, is_failing};
 use crate::invocation::Invocation;
 use q773_comp::Component;
+use smallvec::SmallVec;
 use std::alloc::{AllocError, Global};
+
+/// The invocations of one dialogue. Nearly every dialogue has one, which then stands in place: a block of its own is made from the
+/// second on.
+pub(crate) type Few = SmallVec<Invocation, 1>;
 
 /// The place of the invocation with this id.
 pub(crate) fn place_of(list: &[Invocation], id: i8) -> Option<usize>
@@ -38,7 +43,7 @@ pub(crate) fn any_sent(list: &[Invocation]) -> bool
 }
 
 /// Concludes the invocation that a component concludes, if any, and returns whether the operation failed.
-pub(crate) fn conclude<P>(list: &mut Vec<Invocation>, component: &Component<P>, now: u64) -> bool
+pub(crate) fn conclude<P>(list: &mut Few, component: &Component<P>, now: u64) -> bool
     requires rising { AreRising list.old.items }
     requires early { now ≤ 2 ^ 62 }
     ensures after { list.new.items ≡ invocations_after now
@@ -75,11 +80,11 @@ pub(crate) fn with_one(
     alloc: Global,
     list: &[Invocation],
     own: Invocation,
-) -> Result<Vec<Invocation>, AllocError>
+) -> Result<Few, AllocError>
     ensures { IfOk result (λ longer. longer.items ≡ with_one own list.now) }
 {
     let place = place_above(list, &own).unwrap_or(list.len());
-    let mut longer = Vec::with_capacity(alloc, list.len() + 1)?;
+    let mut longer = Few::with_capacity(alloc, list.len() + 1)?;
     longer.extend_from_slice(&list[..place])?;
     longer.push(own)?;
     longer.extend_from_slice(&list[place..])?;
@@ -87,17 +92,13 @@ pub(crate) fn with_one(
 }
 
 /// The first invocations of a dialogue: the ids 1 to `count`, all invoked now.
-pub(crate) fn first_invoked(
-    alloc: Global,
-    count: u8,
-    now: u64,
-) -> Result<Vec<Invocation>, AllocError>
+pub(crate) fn first_invoked(alloc: Global, count: u8, now: u64) -> Result<Few, AllocError>
     requires some { 0 < count }
     requires most { count < 128 }
     requires early { now ≤ 2 ^ 62 }
     ensures { IfOk result (λ list. list.items ≡ first_invoked now (count - 1)) }
 {
-    let mut list = Vec::with_capacity(alloc, usize::from(count))?;
+    let mut list = Few::with_capacity(alloc, usize::from(count))?;
     list.push(Invocation::sent(1, now))?;
     for further in 0..count - 1 {
         list.push(Invocation::sent((further + 2) as i8, now))?;
