@@ -37,7 +37,7 @@ impl Model for Invocation {
         record { id = a.id; was = was_returns a.was i; deadline = a.deadline } };
 }
 
-/// What fills the place of an invocation while there is none.
+/// What fills the place of an invocation while there is none: a list of invocations has such a place (`Few`).
 impl Default for Invocation {
     fn default() -> Self {
         Invocation {

@@ -14,9 +14,18 @@ use q773_comp::Component;
 use smallvec::SmallVec;
 use std::alloc::{AllocError, Global};
 
-/// The invocations of one dialogue. Nearly every dialogue has one, which then stands in place: a block of its own is made from the
-/// second on.
+/// The invocations of one dialogue. Nearly every dialogue has one or none, and then they have no block of their own.
 pub(crate) type Few = SmallVec<Invocation, 1>;
+
+/// A copy of these invocations. It allocates only if there are several.
+pub(crate) fn copy_of(alloc: Global, list: &[Invocation]) -> Result<Few, AllocError>
+    ensures { IfOk result (λ copy. copy.items ≡ list.now) }
+{
+    if let [own] = list {
+        return Ok(Few::from_buf(alloc, [*own]));
+    }
+    Ok(Few::from_vec(list.to_vec(alloc)?))
+}
 
 /// The place of the invocation with this id.
 pub(crate) fn place_of(list: &[Invocation], id: i8) -> Option<usize>
@@ -91,17 +100,20 @@ pub(crate) fn with_one(
     Ok(longer)
 }
 
-/// The first invocations of a dialogue: the ids 1 to `count`, all invoked now.
+/// The first invocations of a dialogue: the ids 1 to `count`, all invoked now. It allocates only if there are several.
 pub(crate) fn first_invoked(alloc: Global, count: u8, now: u64) -> Result<Few, AllocError>
     requires some { 0 < count }
     requires most { count < 128 }
     requires early { now ≤ 2 ^ 62 }
     ensures { IfOk result (λ list. list.items ≡ first_invoked now (count - 1)) }
 {
-    let mut list = Few::with_capacity(alloc, usize::from(count))?;
+    if count == 1 {
+        return Ok(Few::from_buf(alloc, [Invocation::sent(1, now)]));
+    }
+    let mut list = Vec::with_capacity(alloc, usize::from(count))?;
     list.push(Invocation::sent(1, now))?;
     for further in 0..count - 1 {
         list.push(Invocation::sent((further + 2) as i8, now))?;
     }
-    Ok(list)
+    Ok(Few::from_vec(list))
 }
