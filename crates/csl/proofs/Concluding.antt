@@ -1,6 +1,7 @@
 -- What one component does to the invocations of a dialogue.
-use Rattle.std.proofs.Common.{◌≡◌, ℕ, ◌+◌, ℤ, List, [], ◌∷◌, ◌++◌, Bool, true, false, cond, ◌&&◌, Some, None, refl, sym, ap, ◌∙◌, subst, get_or, set, append-nil, ◌⊎◌, inl, inr}
-use Rattle.std.specs.List.{position, remove}
+use Rattle.std.proofs.Common.{◌≡◌, ℕ, ◌+◌, ℤ, List, [], ◌∷◌, ◌++◌, Bool, true, false, cond, ◌&&◌, Some, None, refl, sym, ap, ◌∙◌, subst, get_or, set, drop, length, arith, append-nil, ◌⊎◌, inl, inr}
+use Rattle.std.proofs.lemmas.List.{length-set, take-append-le, take_all}
+use Rattle.std.specs.List.{position, refill, remove}
 use Rattle.std.specs.Ordering.{int_eq}
 use Rattle.std.specs.Cmp.{int_eq_equiv}
 use Rattle.machine.specs.Keys.{Every}
@@ -20,6 +21,17 @@ record Ends {P : Type 0} (c : ComponentOf P) (e : Ending) : Type 0 where
   pub concludes_its : (j : ℤ) → concludes j c ≡ int_eq e.id j
   pub after : (now : ℕ) (v : Invocation) → concluded_by now v (Some c) ≡ after_ending now e.how v
   pub failed : is_failure (Some c) ≡ is_failing e.how
+
+-- a list is written through a slice of it, which is as long
+pub refilled : (vs : List Invocation) (place : ℕ) (u : Invocation) → refill (length vs) vs (set vs place u) ≡ set vs place u
+refilled vs place u =
+    let long = length-set vs place u in
+    take-append-le (length vs) (set vs place u) (drop (length (set vs place u)) vs) (omega arith)
+    ∙ take_all (length vs) (set vs place u) (omega arith)
+
+-- an invocation that is answered now
+abbrev pub waiting : ℕ → Invocation → Invocation
+waiting now v = record { id = v.id; was = WaitForReject; deadline = now + REJECT_TIMER }
 
 and_true : (b : Bool) → (b && true) ≡ b
 and_true true = refl

@@ -4,6 +4,7 @@ pub mod Hearing
 pub mod Putting
 pub mod Standing
 pub mod Timing
+pub mod Replacing
 pub mod Invoking
 pub mod Expiry
 pub mod Parameters

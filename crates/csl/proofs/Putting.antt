@@ -1,5 +1,5 @@
 -- The lists of the dialogues, by look-ups.
-use Rattle.std.proofs.Common.{arith, ◌==◌, eqb, length, ◌≡◌, ℕ, ℤ, List, [], ◌∷◌, ◌++◌, map, Bool, true, false, cond, Option, Some, None, Vec, vec_len, refl, sym, ap, ◌∙◌, subst, is_eq}
+use Rattle.std.proofs.Common.{arith, ◌==◌, eqb, length, ◌≡◌, ℕ, ℤ, List, [], ◌∷◌, ◌++◌, map, Bool, true, false, cond, Option, Some, None, refl, sym, ap, ◌∙◌, subst, is_eq}
 use Rattle.std.specs.Prelude.{IfSome, IfNone, option_map}
 use Rattle.std.specs.Array.{AllZipBelow}
 use Rattle.std.specs.Option.{IsSome}
@@ -10,6 +10,7 @@ use Rattle.std.specs.Map.{lookup}
 use Rattle.std.specs.BTreeMap.{is_at}
 use Rattle.std.specs.FinMap as finite
 use Rattle.std.specs.HashMap as hash
+use Rattle.smallvec.specs.SmallVec.{SmallVec}
 use Rattle.hlr_types.specs.Orders.{octets_cmp}
 use Rattle.hlr_types.proofs.OrderLemmas.{octets_total, octets_exact, pointwise-octets}
 use Rattle.machine.specs.State.{Invocation}
@@ -91,25 +92,24 @@ at-put_list lists id vs q = ap list_in (get-put_list lists id vs q) ∙ by (is_i
 abbrev pub is_key : List ℕ → List ℕ → Bool
 is_key = pointwise eqb
 
-module _ {A : Type 0} where
-  abbrev pub items_in : Option (Vec Invocation A) → Option (List Invocation)
-  items_in o = option_map (λ (l : Vec Invocation A). l.items) o
+abbrev pub items_in : Option (SmallVec Invocation) → Option (List Invocation)
+items_in o = option_map (λ (l : SmallVec Invocation). l.items) o
 
-  lookup_items : (es : List (List ℕ × Vec Invocation A)) (q : List ℕ) → finite.find octets_cmp q (map items_of es) ≡ items_in (lookup (is_key q) es)
-  lookup_items [] q = refl
-  lookup_items (e ∷ es) q = ap (cond (is_its q e.0) (Some e.1.items)) (lookup_items es q)
-      ∙ ap (λ b. cond b (Some e.1.items) (items_in (lookup (is_key q) es))) (sym (pointwise-octets q e.0)) ∙ by (is_key q e.0)
-    where
-      by : (b : Bool) → cond b (Some e.1.items) (items_in (lookup (is_key q) es)) ≡ items_in (cond b (Some e.1) (lookup (is_key q) es))
-      by true = refl
-      by false = refl
+lookup_items : (es : List (List ℕ × SmallVec Invocation)) (q : List ℕ) → finite.find octets_cmp q (map items_of es) ≡ items_in (lookup (is_key q) es)
+lookup_items [] q = refl
+lookup_items (e ∷ es) q = ap (cond (is_its q e.0) (Some e.1.items)) (lookup_items es q)
+    ∙ ap (λ b. cond b (Some e.1.items) (items_in (lookup (is_key q) es))) (sym (pointwise-octets q e.0)) ∙ by (is_key q e.0)
+  where
+    by : (b : Bool) → cond b (Some e.1.items) (items_in (lookup (is_key q) es)) ≡ items_in (cond b (Some e.1) (lookup (is_key q) es))
+    by true = refl
+    by false = refl
 
-module _ {A S : Type 0} where
-  pub get_lists : (m : hash.HashMap (List ℕ) (Vec Invocation A) S) (q : List ℕ) → finite.get (lists_of m) q ≡ items_in (hash.get is_key m q)
+module _ {S : Type 0} where
+  pub get_lists : (m : hash.HashMap (List ℕ) (SmallVec Invocation) S) (q : List ℕ) → finite.get (lists_of m) q ≡ items_in (hash.get is_key m q)
   get_lists m q = finite.get-from_entries octets_total (map items_of m.entries) q ∙ lookup_items m.entries q
 
   -- a list is written or removed
-  pub is_written : (m n : hash.HashMap (List ℕ) (Vec Invocation A) S) (id : List ℕ) (w : Option (Vec Invocation A)) (vs : List Invocation)
+  pub is_written : (m n : hash.HashMap (List ℕ) (SmallVec Invocation) S) (id : List ℕ) (w : Option (SmallVec Invocation)) (vs : List Invocation)
       → ((q : List ℕ) → hash.get is_key n q ≡ cond (is_key id q) w (hash.get is_key m q)) → items_in w ≡ stored_list vs
       → lists_of n ≡ put_list (lists_of m) id vs
   is_written m n id w vs h e = is_put (lists_of m) (lists_of n) id vs (λ q. get_lists n q ∙ ap items_in (h q)
@@ -120,30 +120,30 @@ module _ {A S : Type 0} where
       by false q = sym (get_lists m q)
 
   -- the result of a look-up
-  pub list_got : {key : List ℕ} (m : hash.HashMap (List ℕ) (Vec Invocation A) S) (lists : InvocationLists) (id : List ℕ) (o : Option (Vec Invocation A))
+  pub list_got : {key : List ℕ} (m : hash.HashMap (List ℕ) (SmallVec Invocation) S) (lists : InvocationLists) (id : List ℕ) (o : Option (SmallVec Invocation))
       → o ≡ hash.get is_key m key → lists_of m ≡ lists → key ≡ id
       → list_in (items_in o) ≡ invocations_at lists id
   list_got {key = key} m lists id o e view own = ap (λ r. list_in (items_in r)) e ∙ ap list_in (sym (get_lists m key)) ∙ λ i. invocations_at (view i) (own i)
 
-  pub was_removed : {key : List ℕ} (m : hash.HashMap (List ℕ) (Vec Invocation A) S) (lists : InvocationLists) (id : List ℕ) (o : Option (Vec Invocation A))
+  pub was_removed : {key : List ℕ} (m : hash.HashMap (List ℕ) (SmallVec Invocation) S) (lists : InvocationLists) (id : List ℕ) (o : Option (SmallVec Invocation))
       → o ≡ hash.get is_key m key → lists_of m ≡ lists → key ≡ id
       → IfSome o (λ list. list.items ≡ invocations_at lists id)
   was_removed m lists id None e view own = tt
   was_removed m lists id (Some l) e view own = list_got m lists id (Some l) e view own
 
-  pub was_not_there : {key : List ℕ} (m : hash.HashMap (List ℕ) (Vec Invocation A) S) (lists : InvocationLists) (id : List ℕ) (o : Option (Vec Invocation A))
+  pub was_not_there : {key : List ℕ} (m : hash.HashMap (List ℕ) (SmallVec Invocation) S) (lists : InvocationLists) (id : List ℕ) (o : Option (SmallVec Invocation))
       → o ≡ hash.get is_key m key → lists_of m ≡ lists → key ≡ id
       → IfNone o (invocations_at lists id ≡ [])
   was_not_there m lists id None e view own = sym (list_got m lists id None e view own)
   was_not_there m lists id (Some l) e view own = tt
 
   -- a list is written in place
-  pub through : (m n : hash.HashMap (List ℕ) (Vec Invocation A) S) (id : List ℕ) (l w : Vec Invocation A) → Some l ≡ hash.get is_key m id
+  pub through : (m n : hash.HashMap (List ℕ) (SmallVec Invocation) S) (id : List ℕ) (l w : SmallVec Invocation) → Some l ≡ hash.get is_key m id
       → hash.WritesThrough is_key (is_key id) m w n
       → (q : List ℕ) → hash.get is_key n q ≡ cond (is_key id q) (Some w) (hash.get is_key m q)
   through m n id l w had h = (h.3 (subst IsSome had refl)).0
 
-  pub unwritten : (m n : hash.HashMap (List ℕ) (Vec Invocation A) S) (id : List ℕ) (l : Vec Invocation A) → Some l ≡ hash.get is_key m id
+  pub unwritten : (m n : hash.HashMap (List ℕ) (SmallVec Invocation) S) (id : List ℕ) (l : SmallVec Invocation) → Some l ≡ hash.get is_key m id
       → hash.WritesThrough is_key (is_key id) m l n → lists_of n ≡ lists_of m
   unwritten m n id l had h = finite.same_map octets_total octets_exact (lists_of n) (lists_of m)
       (λ q. get_lists n q ∙ ap items_in (through m n id l l had h q ∙ by (is_key id q) q refl) ∙ sym (get_lists m q))
@@ -153,7 +153,7 @@ module _ {A S : Type 0} where
       by false q e = refl
 
   -- and removed afterwards
-  pub emptied : (m n o : hash.HashMap (List ℕ) (Vec Invocation A) S) (id : List ℕ) (l w : Vec Invocation A) → Some l ≡ hash.get is_key m id
+  pub emptied : (m n o : hash.HashMap (List ℕ) (SmallVec Invocation) S) (id : List ℕ) (l w : SmallVec Invocation) → Some l ≡ hash.get is_key m id
       → hash.WritesThrough is_key (is_key id) m w n
       → ((q : List ℕ) → hash.get is_key o q ≡ cond (is_key id q) None (hash.get is_key n q)) → lists_of o ≡ put_list (lists_of m) id []
   emptied m n o id l w had h gone = is_written m o id None [] (λ q. gone q ∙ ap (cond (is_key id q) None) (through m n id l w had h q)
@@ -165,32 +165,31 @@ module _ {A S : Type 0} where
 
 -- a copy
 
-module _ {A : Type 0} where
-  abbrev pub IsCopied : List ℕ × Vec Invocation A → List ℕ × Vec Invocation A → Type 0
-  IsCopied e f = AllZipBelow (λ x y. y ≡ x) e.0 f.0 4 × (AllZip (λ x y. y ≡ x) e.1.items f.1.items × (vec_len f.1 ≡ vec_len e.1))
+abbrev pub IsCopied : List ℕ × SmallVec Invocation → List ℕ × SmallVec Invocation → Type 0
+IsCopied e f = AllZipBelow (λ x y. y ≡ x) e.0 f.0 4 × AllZip (λ x y. y ≡ x) e.1.items f.1.items
 
-  copied_entries : (es fs : List (List ℕ × Vec Invocation A)) → AllZip IsCopied es fs → map items_of fs ≡ map items_of es
-  copied_entries [] [] h = refl
-  copied_entries [] (f ∷ fs) h = absurd h
-  copied_entries (e ∷ es) [] h = absurd h
-  copied_entries (e ∷ es) (f ∷ fs) h =
-      let key : f.0 ≡ e.0 = each_same e.0 f.0 h.0.0.whole in
-      let items : f.1.items ≡ e.1.items = each_same e.1.items f.1.items h.0.1.0 in
-      let rest : map items_of fs ≡ map items_of es = copied_entries es fs h.1 in
-      λ i. (key i, items i) ∷ rest i
+copied_entries : (es fs : List (List ℕ × SmallVec Invocation)) → AllZip IsCopied es fs → map items_of fs ≡ map items_of es
+copied_entries [] [] h = refl
+copied_entries [] (f ∷ fs) h = absurd h
+copied_entries (e ∷ es) [] h = absurd h
+copied_entries (e ∷ es) (f ∷ fs) h =
+    let key : f.0 ≡ e.0 = each_same e.0 f.0 h.0.0.whole in
+    let items : f.1.items ≡ e.1.items = each_same e.1.items f.1.items h.0.1 in
+    let rest : map items_of fs ≡ map items_of es = copied_entries es fs h.1 in
+    λ i. (key i, items i) ∷ rest i
 
-pub copied_lists : {A S : Type 0} → (m n : hash.HashMap (List ℕ) (Vec Invocation A) S) → AllZip IsCopied m.entries n.entries → lists_of n ≡ lists_of m
+pub copied_lists : {S : Type 0} → (m n : hash.HashMap (List ℕ) (SmallVec Invocation) S) → AllZip IsCopied m.entries n.entries → lists_of n ≡ lists_of m
 copied_lists m n h = ap (λ es. finite.from_entries es) (copied_entries m.entries n.entries h)
 
 -- an empty list, by its length
 
-pub items_none : (vs : List Invocation) (n : ℕ) → n ≡ length vs → (n == 0) ≡ true → vs ≡ []
-items_none [] n l e = refl
-items_none (v ∷ vs) n l e = let none : n ≡ 0 = grind arith in absurd (omega (arith, l, none))
+pub items_none : (vs : List Invocation) → (length vs == 0) ≡ true → vs ≡ []
+items_none [] e = refl
+items_none (v ∷ vs) e = let none : length (v ∷ vs) ≡ 0 = grind arith in absurd (omega (arith, none))
 
-pub items_some : (vs : List Invocation) (n : ℕ) → n ≡ length vs → (n == 0) ≡ false → Some vs ≡ stored_list vs
-items_some [] n l e = let some : n ≡ 0 → ⊥ = grind arith in absurd (some l)
-items_some (v ∷ vs) n l e = refl
+pub items_some : (vs : List Invocation) → (length vs == 0) ≡ false → Some vs ≡ stored_list vs
+items_some [] e = cc
+items_some (v ∷ vs) e = refl
 
 -- removing one invocation
 

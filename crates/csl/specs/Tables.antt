@@ -1,12 +1,13 @@
 -- The own invocations of a shard's dialogues (Q.774), as a finite map from local transaction ids to lists by ascending invoke
 -- id.
-use Rattle.std.specs.Prelude.{◌≡◌, ◌≢◌, ℕ, ℤ, ◌∷◌, [], List, Bool, true, false, cond, Option, Some, None, IfSome, Vec, refl, map, int_lt, ◌+◌, ◌==◌, pos, not, ◌&&◌}
+use Rattle.std.specs.Prelude.{◌≡◌, ◌≢◌, ℕ, ℤ, ◌∷◌, [], List, Bool, true, false, cond, Option, Some, None, IfSome, refl, map, int_lt, ◌+◌, ◌==◌, pos, not, ◌&&◌}
 use Rattle.std.specs.List.{list_any}
 use Rattle.std.specs.Ordering.{int_eq}
 use Rattle.std.specs.BTreeMap.{is_at}
 use Rattle.std.specs.FinMap as finite
 use Rattle.std.specs.HashMap.{HashMap}
 use Rattle.std.specs.Coded.{Coded, code_by, coded×, coded_ℕ, coded_ℤ, coded_bool, coded_list}
+use Rattle.smallvec.specs.SmallVec.{SmallVec}
 use Rattle.hlr_types.specs.Orders.{octets_cmp}
 use Rattle.machine.specs.State.{Was, OperationSent, WaitForReject, Invocation, is_sent}
 use Rattle.machine.specs.Effect.{AreRising}
@@ -70,10 +71,10 @@ is_only id these others t = is_of id these t && not (has_timer others t.invocati
 -- ---- what is stored
 
 -- The lists, as a hash map has them.
-abbrev pub items_of : {A : Type 0} → List ℕ × Vec Invocation A → List ℕ × List Invocation
+abbrev pub items_of : List ℕ × SmallVec Invocation → List ℕ × List Invocation
 items_of e = (e.0, e.1.items)
 
-abbrev pub lists_of : {A S : Type 0} → HashMap (List ℕ) (Vec Invocation A) S → InvocationLists
+abbrev pub lists_of : {S : Type 0} → HashMap (List ℕ) (SmallVec Invocation) S → InvocationLists
 lists_of m = finite.from_entries (map items_of m.entries)
 
 -- A stored list is not empty, and its ids ascend.

@@ -6,7 +6,7 @@ ghost use Rattle.csl.specs.Seen.{heard};
 ghost use Rattle.csl.specs.Effects.{IsEffect, concluded, offered};
 
 use crate::invocation::Invocation;
-use crate::list::{any_sent, conclude};
+use crate::list::{Few, any_sent, conclude};
 use crate::offer::{Conclusion, Effect, Offer};
 use crate::problems::{rejection_of, started_by};
 use q773_comp::{Component, Rejection};
@@ -43,7 +43,7 @@ fn push_rejection(
 pub(crate) fn receive_each<P>(
     alloc: Global,
     offer: &Offer,
-    list: &mut Vec<Invocation>,
+    list: &mut Few,
     components: &[Component<P>],
     now: u64,
 ) -> Result<Effect, AllocError>
@@ -72,7 +72,7 @@ pub(crate) fn receive_each<P>(
 }
 
 /// Applies the components to the invocations, one by one. Does not allocate.
-pub(crate) fn conclude_each<P>(list: &mut Vec<Invocation>, components: &[Component<P>], now: u64)
+pub(crate) fn conclude_each<P>(list: &mut Few, components: &[Component<P>], now: u64)
     requires rising { AreRising list.old.items }
     requires early { now ≤ 2 ^ 62 }
     ensures { list.new.items ≡ invocations_after now (map heard components.now) list.old.items }
@@ -93,5 +93,5 @@ pub fn effect_of_begin<P>(
     ensures { IfOk result (λ answer. IsEffect answer
         (effect now (offered offer.now) [] (map heard components.now))) }
 {
-    receive_each(alloc, offer, &mut Vec::new(alloc), components, now)
+    receive_each(alloc, offer, &mut Few::new(alloc), components, now)
 }

@@ -37,6 +37,17 @@ impl Model for Invocation {
         record { id = a.id; was = was_returns a.was i; deadline = a.deadline } };
 }
 
+/// What fills the place of an invocation while there is none: a list of invocations has such a place (`Few`).
+impl Default for Invocation {
+    fn default() -> Self {
+        Invocation {
+            id: 0,
+            was: Was::Sent,
+            deadline: 0,
+        }
+    }
+}
+
 impl Invocation {
     /// An invocation that is invoked now.
     pub(crate) fn sent(id: i8, now: u64) -> Self

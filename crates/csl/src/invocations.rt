@@ -15,7 +15,7 @@ ghost use Rattle.csl.specs.Tables.{first_invoked, invocations_at, put_list, with
 use crate::effect::{conclude_each, receive_each};
 use crate::fault::CslFault;
 use crate::invocation::Invocation;
-use crate::list::{first_invoked, place_of, with_one};
+use crate::list::{Few, copy_of, first_invoked, place_of, with_one};
 use crate::lists::Lists;
 use crate::offer::{Due, Effect, Offer};
 use crate::timers::{insert_timers, remove_timers};
@@ -105,7 +105,7 @@ impl Invocations {
             (effect now (offered offer.now) (invocations_at self.now id)
             (map heard components.now))) }
     {
-        let mut list = self.lists.at(id).to_vec(self.alloc)?;
+        let mut list = copy_of(self.alloc, self.lists.at(id))?;
         receive_each(self.alloc, offer, &mut list, components, now)
     }
 
@@ -127,7 +127,7 @@ impl Invocations {
             (map heard components.now)).invocations) }
         ensures err { OnErr result (self.new ≡ self.old) }
     {
-        let mut list = self.lists.at(id).to_vec(self.alloc)?;
+        let mut list = copy_of(self.alloc, self.lists.at(id))?;
         let effect = receive_each(self.alloc, offer, &mut list, components, now)?;
         self.replace(id, list)?;
         Ok(effect)
@@ -146,7 +146,7 @@ impl Invocations {
             (invocations_at self.old id))) }
         ensures err { OnErr result (self.new ≡ self.old) }
     {
-        let mut list = self.lists.at(id).to_vec(self.alloc)?;
+        let mut list = copy_of(self.alloc, self.lists.at(id))?;
         conclude_each(&mut list, components, now);
         self.replace(id, list)
     }
@@ -229,7 +229,7 @@ impl Invocations {
     }
 
     /// Makes these the invocations of a dialogue, with their timers. On error nothing changes.
-    fn replace(&mut self, id: Tid, list: Vec<Invocation>) -> Result<(), AllocError>
+    fn replace(&mut self, id: Tid, list: Few) -> Result<(), AllocError>
         requires { AreRising list.items }
         ensures ok { OnOk result (self.new ≡ put_list self.old id list.items) }
         ensures err { OnErr result (self.new ≡ self.old) }

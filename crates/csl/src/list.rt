@@ -11,7 +11,21 @@ ghost use Rattle.csl.specs.Tables.{first_invoked, with_one};
 use crate::ending::{How, ending_of, is_failing};
 use crate::invocation::Invocation;
 use q773_comp::Component;
+use smallvec::SmallVec;
 use std::alloc::{AllocError, Global};
+
+/// The invocations of one dialogue. Nearly every dialogue has one or none, and then they have no block of their own.
+pub(crate) type Few = SmallVec<Invocation, 1>;
+
+/// A copy of these invocations. It allocates only if there are several.
+pub(crate) fn copy_of(alloc: Global, list: &[Invocation]) -> Result<Few, AllocError>
+    ensures { IfOk result (λ copy. copy.items ≡ list.now) }
+{
+    if let [own] = list {
+        return Ok(Few::from_buf(alloc, [*own]));
+    }
+    Ok(Few::from_vec(list.to_vec(alloc)?))
+}
 
 /// The place of the invocation with this id.
 pub(crate) fn place_of(list: &[Invocation], id: i8) -> Option<usize>
@@ -38,7 +52,7 @@ pub(crate) fn any_sent(list: &[Invocation]) -> bool
 }
 
 /// Concludes the invocation that a component concludes, if any, and returns whether the operation failed.
-pub(crate) fn conclude<P>(list: &mut Vec<Invocation>, component: &Component<P>, now: u64) -> bool
+pub(crate) fn conclude<P>(list: &mut Few, component: &Component<P>, now: u64) -> bool
     requires rising { AreRising list.old.items }
     requires early { now ≤ 2 ^ 62 }
     ensures after { list.new.items ≡ invocations_after now
@@ -75,32 +89,31 @@ pub(crate) fn with_one(
     alloc: Global,
     list: &[Invocation],
     own: Invocation,
-) -> Result<Vec<Invocation>, AllocError>
+) -> Result<Few, AllocError>
     ensures { IfOk result (λ longer. longer.items ≡ with_one own list.now) }
 {
     let place = place_above(list, &own).unwrap_or(list.len());
-    let mut longer = Vec::with_capacity(alloc, list.len() + 1)?;
+    let mut longer = Few::with_capacity(alloc, list.len() + 1)?;
     longer.extend_from_slice(&list[..place])?;
     longer.push(own)?;
     longer.extend_from_slice(&list[place..])?;
     Ok(longer)
 }
 
-/// The first invocations of a dialogue: the ids 1 to `count`, all invoked now.
-pub(crate) fn first_invoked(
-    alloc: Global,
-    count: u8,
-    now: u64,
-) -> Result<Vec<Invocation>, AllocError>
+/// The first invocations of a dialogue: the ids 1 to `count`, all invoked now. It allocates only if there are several.
+pub(crate) fn first_invoked(alloc: Global, count: u8, now: u64) -> Result<Few, AllocError>
     requires some { 0 < count }
     requires most { count < 128 }
     requires early { now ≤ 2 ^ 62 }
     ensures { IfOk result (λ list. list.items ≡ first_invoked now (count - 1)) }
 {
+    if count == 1 {
+        return Ok(Few::from_buf(alloc, [Invocation::sent(1, now)]));
+    }
     let mut list = Vec::with_capacity(alloc, usize::from(count))?;
     list.push(Invocation::sent(1, now))?;
     for further in 0..count - 1 {
         list.push(Invocation::sent((further + 2) as i8, now))?;
     }
-    Ok(list)
+    Ok(Few::from_vec(list))
 }

@@ -8,7 +8,7 @@ ghost use Rattle.machine.specs.Turns.{invocation_of};
 ghost use Rattle.csl.specs.Tables.{invocations_at, put_list};
 
 use crate::invocation::Invocation;
-use crate::list::place_of;
+use crate::list::{Few, place_of};
 use hlr_types::Tid;
 use std::alloc::{AllocError, Global};
 use std::collections::HashMap;
@@ -19,7 +19,7 @@ use std::marker::Model;
 pub(crate) struct Lists {
     // By the octets of the local id. The register itself hands these ids out; a peer only chooses which of them stay open, and these
     // are at most 4,096 in a shard.
-    by_dialogue: HashMap<[u8; 4], Vec<Invocation>>,
+    by_dialogue: HashMap<[u8; 4], Few>,
 }
 
 impl Model for Lists {
@@ -57,11 +57,7 @@ impl Lists {
 
     /// Makes these the invocations of a dialogue, and returns those that it had. If it had some, this does not allocate. A
     /// refused list comes back.
-    pub(crate) fn put(
-        &mut self,
-        id: Tid,
-        list: Vec<Invocation>,
-    ) -> Result<Option<Vec<Invocation>>, Vec<Invocation>>
+    pub(crate) fn put(&mut self, id: Tid, list: Few) -> Result<Option<Few>, Few>
         requires { AreRising list.items }
         ensures ok { OnOk result (self.new ≡ put_list self.old id list.items) }
         ensures were { IfOk result (λ old. IfSome old (λ were. were.items
@@ -81,7 +77,7 @@ impl Lists {
     }
 
     /// Removes the invocations of a dialogue, if it has some.
-    pub(crate) fn remove(&mut self, id: Tid) -> Option<Vec<Invocation>>
+    pub(crate) fn remove(&mut self, id: Tid) -> Option<Few>
         ensures removed { self.new ≡ put_list self.old id [] }
         ensures were { IfSome result (λ list. list.items ≡ invocations_at self.old id) }
         ensures none { IfNone result (invocations_at self.old id ≡ []) }

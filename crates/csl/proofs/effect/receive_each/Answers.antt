@@ -24,11 +24,11 @@ loop-place-preserved g c =
     (map rejection c.loop-place.rejects.items)
     c.loop-place.has_failed c.loop-place.invariant c.requires.rising
     (omega (arith, c.loop-place-test.true)) c.index-components-place.is c.started_by-started.result
-    (rw (c.deref.ensures.value) at c.started_by-started.ensures) _ _ _ c.conclude-has_failed.ensures.after
+    (rw c.deref.ensures at c.started_by-started.ensures) _ _ _ c.conclude-has_failed.ensures.after
     (ap (map rejection) c.in_ok-push_rejection.ensures ∙ rejections_push c.loop-place.rejects.items c.rejection_of-rejection.result
     ∙ ap (λ rs. map rejection c.loop-place.rejects.items ++ rs) (c.rejection_of-rejection.ensures
     ∙ ap (λ vs. reject_now (offered c.args.offer.now) vs c.started_by-started.result (nat_eq c.loop-place.place 0)
-    (heard c.index-components-place.result)) c.deref-in-loop-place.ensures.value))
+    (heard c.index-components-place.result)) c.deref-in-loop-place.ensures))
     (ap (λ b. c.loop-place.has_failed || b) c.conclude-has_failed.ensures.failed)
 
 pub returns-clause-effect : goal.returns-clause-effect
@@ -40,10 +40,10 @@ returns-clause-effect g c =
     (offered c.args.offer.now) c.args.list.now.items c.args.components.now c.loop-place.place _ _ _ c.loop-place.invariant c.loop-place-test.false in
     record {
       rejects = all.rejected;
-      started = rw (c.deref.ensures.value) at c.started_by-started.ensures;
+      started = rw c.deref.ensures at c.started_by-started.ensures;
       conclusion =
           c.conclusion_of.ensures ∙ ap (conclusion_of c.loop-place.has_failed)
-          (c.any_sent-still_sent.ensures ∙ ap (list_any (λ (own : Invocation). is_sent own.was)) c.deref-2.ensures.value
+          (c.any_sent-still_sent.ensures ∙ ap (list_any (λ (own : Invocation). is_sent own.was)) c.deref-2.ensures
           ∙ sym (any_sent_is c.loop-place.list.items) ∙ ap any_sent all.moved)
           ∙ ap (λ b. conclusion_of b (any_sent (invocations_after c.args.now
           (map (heard {P = g.row.P.Denot}) c.args.components.now) c.args.list.now.items))) all.has_failed;

@@ -13,4 +13,4 @@ invariant_of-self-2 c =
     let i = c.self.inside in
     have_forgotten i.lists i.timers c.args.id c.self.invariant c.remove_timers.new.timers
     (λ t. c.remove_timers.ensures t ∙ ap (λ vs. cond (is_only c.args.id vs [] t) false (has i.timers t))
-    (c.deref.ensures.value ∙ c.in-Some.ensures.were)) c.remove.new.self c.in-Some.ensures.removed
+    (c.deref.ensures ∙ c.in-Some.ensures.were)) c.remove.new.self c.in-Some.ensures.removed

@@ -7,5 +7,5 @@ use Rattle.csl.proofs.invocations.Invocations.receive.Goals as goal
 pub replace-requires : goal.replace-requires
 unfolding effect
 replace-requires g c =
-    let rising = subst AreRising (sym (c.in_ok-list.ensures.items_if_clones_equal (λ x y e. e))) c.at.ensures.rising in
+    let rising = subst AreRising (sym c.in_ok-list.ensures) c.at.ensures.rising in
     rw c.in_ok-effect.ensures.after (rising_after {P = g.row.P.Denot} c.args.now (map heard c.args.components.now) c.in_ok-list.list.items rising)

@@ -14,7 +14,7 @@ pub returns-then-is_empty-clause-ok : goal.returns-then-is_empty-clause-ok
 returns-then-is_empty-clause-ok c =
     is_written c.self.inside.by_dialogue c.remove.new.self c.id.inside.0 None [] c.remove.ensures.updates.0 refl
     ∙ ap (put_list (lists_of c.self.inside.by_dialogue) c.id.inside.0)
-    (sym (items_none c.args.list.items _ c.args.list.ok.0 (sym c.is_empty.ensures ∙ c.if-is_empty.true)))
+    (sym (items_none c.args.list.items (sym c.is_empty.ensures ∙ c.if-is_empty.true)))
     ∙ λ i. put_list (c.self.view_is i) (c.id.view_is i) c.args.list.items
 
 pub returns-then-is_empty-clause-were : goal.returns-then-is_empty-clause-were
@@ -30,7 +30,7 @@ invariant_of-self-2 c =
     elim c.match-insert.branch [
       | in-Ok w ↦
           subst AreStored (sym (is_written c.self.inside.by_dialogue c.insert.new.self c.id.inside.0 (Some c.args.list) c.args.list.items
-          w.in-Ok.ensures.updates.0 (items_some c.args.list.items _ c.args.list.ok.0 (sym c.is_empty.ensures ∙ c.if-is_empty.false))))
+          w.in-Ok.ensures.updates.0 (items_some c.args.list.items (sym c.is_empty.ensures ∙ c.if-is_empty.false))))
           (stored_put _ c.id.inside.0 c.args.list.items c.self.invariant c.requires)
       | in-Err w ↦ subst (λ es. AreStored (finite.from_entries (map items_of es))) (sym w.in-Err.ensures.err) c.self.invariant
     ]
@@ -40,7 +40,7 @@ returns-clause-ok c =
     elim c.match-insert.branch [
       | in-Ok w ↦
           rw w.result-is (is_written c.self.inside.by_dialogue c.insert.new.self c.id.inside.0 (Some c.args.list) c.args.list.items
-          w.in-Ok.ensures.updates.0 (items_some c.args.list.items _ c.args.list.ok.0 (sym c.is_empty.ensures ∙ c.if-is_empty.false))
+          w.in-Ok.ensures.updates.0 (items_some c.args.list.items (sym c.is_empty.ensures ∙ c.if-is_empty.false))
           ∙ λ i. put_list (c.self.view_is i) (c.id.view_is i) c.args.list.items)
       | in-Err w ↦ rw w.result-is tt
     ]

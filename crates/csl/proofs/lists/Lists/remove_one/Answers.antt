@@ -27,7 +27,7 @@ returns-in_default-place_of-clause-removed c =
     let fits = c.ranges.invoke in
     let stored = subst AreStored c.self.view_is c.self.invariant in
     let got = list_got c.self.inside.by_dialogue c.args.self.now c.args.id (Some c.in-Some.list.now) c.in-Some.ensures.value c.self.view_is c.id.view_is in
-    let none = none_of c.args.invoke c.in-Some.list.now.items (sym (simp (c.deref.ensures.value, to_z-of_z) at c.place_of.ensures)
+    let none = none_of c.args.invoke c.in-Some.list.now.items (sym (simp (c.deref.ensures, to_z-of_z) at c.place_of.ensures)
     ∙ c.in_default-place_of.is) in
     unwritten c.self.inside.by_dialogue (c.get_mut.follows.lender c.in-Some.list.now) c.id.inside.0 c.in-Some.list.now c.in-Some.ensures.value
     (c.get_mut.follows.holds c.in-Some.list.now) ∙ c.self.view_is
@@ -41,7 +41,7 @@ pub returns-in_default-place_of-clause-was : goal.returns-in_default-place_of-cl
 returns-in_default-place_of-clause-was c =
     let fits = c.ranges.invoke in
     let got = list_got c.self.inside.by_dialogue c.args.self.now c.args.id (Some c.in-Some.list.now) c.in-Some.ensures.value c.self.view_is c.id.view_is in
-    let none = none_of c.args.invoke c.in-Some.list.now.items (sym (simp (c.deref.ensures.value, to_z-of_z) at c.place_of.ensures)
+    let none = none_of c.args.invoke c.in-Some.list.now.items (sym (simp (c.deref.ensures, to_z-of_z) at c.place_of.ensures)
     ∙ c.in_default-place_of.is) in
     sym (none_stands c.args.invoke c.in-Some.list.now.items none) ∙ ap (invocation_of c.args.invoke) got
 
@@ -49,8 +49,8 @@ pub invariant_of-self-then-not-is_empty : goal.invariant_of-self-then-not-is_emp
 invariant_of-self-then-not-is_empty c =
     let fits = c.ranges.invoke in
     let less = without_at c.args.invoke c.in-Some.list.now.items c.in-Some-place_of.place
-    (sym (simp (c.deref.ensures.value, to_z-of_z) at c.place_of.ensures) ∙ c.in-Some-place_of.is) in
-    let some = items_some c.remove-own.new.self.items _ c.remove-own.new.self.ok.0 (sym c.is_empty.ensures ∙ c.if-not-is_empty.true) in
+    (sym (simp (c.deref.ensures, to_z-of_z) at c.place_of.ensures) ∙ c.in-Some-place_of.is) in
+    let some = items_some c.remove-own.new.self.items (sym c.is_empty.ensures ∙ c.if-not-is_empty.true) in
     let rising = subst AreRising (sym (c.remove-own.ensures.items ∙ less))
     (rising_without c.args.invoke c.in-Some.list.now.items
     (subst AreRising (sym (list_got c.self.inside.by_dialogue (lists_of c.self.inside.by_dialogue) c.id.inside.0
@@ -66,8 +66,8 @@ returns-then-not-is_empty-clause-removed c =
     let fits = c.ranges.invoke in
     let got = list_got c.self.inside.by_dialogue c.args.self.now c.args.id (Some c.in-Some.list.now) c.in-Some.ensures.value c.self.view_is c.id.view_is in
     let less = without_at c.args.invoke c.in-Some.list.now.items c.in-Some-place_of.place
-    (sym (simp (c.deref.ensures.value, to_z-of_z) at c.place_of.ensures) ∙ c.in-Some-place_of.is) in
-    let some = items_some c.remove-own.new.self.items _ c.remove-own.new.self.ok.0 (sym c.is_empty.ensures ∙ c.if-not-is_empty.true) in
+    (sym (simp (c.deref.ensures, to_z-of_z) at c.place_of.ensures) ∙ c.in-Some-place_of.is) in
+    let some = items_some c.remove-own.new.self.items (sym c.is_empty.ensures ∙ c.if-not-is_empty.true) in
     is_written c.self.inside.by_dialogue (c.get_mut.follows.lender c.remove-own.new.self) c.id.inside.0 (Some c.remove-own.new.self) c.remove-own.new.self.items
     (through c.self.inside.by_dialogue
     (c.get_mut.follows.lender c.remove-own.new.self) c.id.inside.0 c.in-Some.list.now c.remove-own.new.self c.in-Some.ensures.value
@@ -80,7 +80,7 @@ returns-then-not-is_empty-clause-was c =
     let fits = c.ranges.invoke in
     let got = list_got c.self.inside.by_dialogue c.args.self.now c.args.id (Some c.in-Some.list.now) c.in-Some.ensures.value c.self.view_is c.id.view_is in
     sym (stands_at c.args.invoke c.in-Some.list.now.items c.in-Some-place_of.place c.remove-own.result
-    (sym (simp (c.deref.ensures.value, to_z-of_z) at c.place_of.ensures) ∙ c.in-Some-place_of.is) c.remove-own.ensures.value)
+    (sym (simp (c.deref.ensures, to_z-of_z) at c.place_of.ensures) ∙ c.in-Some-place_of.is) c.remove-own.ensures.value)
     ∙ ap (invocation_of c.args.invoke) got
 
 pub invariant_of-self-2 : goal.invariant_of-self-2
@@ -96,8 +96,8 @@ returns-clause-removed c =
     let fits = c.ranges.invoke in
     let got = list_got c.self.inside.by_dialogue c.args.self.now c.args.id (Some c.in-Some.list.now) c.in-Some.ensures.value c.self.view_is c.id.view_is in
     let less = without_at c.args.invoke c.in-Some.list.now.items c.in-Some-place_of.place
-    (sym (simp (c.deref.ensures.value, to_z-of_z) at c.place_of.ensures) ∙ c.in-Some-place_of.is) in
-    let none = items_none c.remove-own.new.self.items _ c.remove-own.new.self.ok.0 (sym c.is_empty.ensures ∙ c.if-not-is_empty.false) in
+    (sym (simp (c.deref.ensures, to_z-of_z) at c.place_of.ensures) ∙ c.in-Some-place_of.is) in
+    let none = items_none c.remove-own.new.self.items (sym c.is_empty.ensures ∙ c.if-not-is_empty.false) in
     emptied c.self.inside.by_dialogue
     (c.get_mut.follows.lender c.remove-own.new.self) c.remove.new.self c.id.inside.0 c.in-Some.list.now c.remove-own.new.self c.in-Some.ensures.value
     (c.get_mut.follows.holds c.remove-own.new.self) c.remove.ensures.updates.0
@@ -109,7 +109,7 @@ returns-clause-was c =
     let fits = c.ranges.invoke in
     let got = list_got c.self.inside.by_dialogue c.args.self.now c.args.id (Some c.in-Some.list.now) c.in-Some.ensures.value c.self.view_is c.id.view_is in
     sym (stands_at c.args.invoke c.in-Some.list.now.items c.in-Some-place_of.place c.remove-own.result
-    (sym (simp (c.deref.ensures.value, to_z-of_z) at c.place_of.ensures) ∙ c.in-Some-place_of.is) c.remove-own.ensures.value)
+    (sym (simp (c.deref.ensures, to_z-of_z) at c.place_of.ensures) ∙ c.in-Some-place_of.is) c.remove-own.ensures.value)
     ∙ ap (invocation_of c.args.invoke) got
 
 pub returns-in_default-clause-rising : goal.returns-in_default-clause-rising
