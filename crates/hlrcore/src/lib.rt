@@ -19,7 +19,7 @@ mod stepper;
 pub use change::Change;
 pub use event::{Event, EventFault, RawEvent};
 pub use fault::StepFault;
-pub use routing::route;
+pub use routing::{Addressee, addressee_of, route};
 pub use running::RunFault;
 pub use shard_number::ShardNumber;
 pub use shard_state::{Frames, Out, OutList, StepAnswer};

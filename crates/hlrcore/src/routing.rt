@@ -28,11 +28,12 @@ fn shard_named(id: &RemoteId) -> u8
     }
 }
 
-/// Whom an event is for. Only a Begin is about a subscriber by itself; later messages are for the dialogue that they name.
+/// Whom an event is for: the shard, and the subscriber that a Begin is about. Only a Begin is about a subscriber by itself; later
+/// messages are for the dialogue that they name.
 #[derive(Drop)]
-pub(crate) struct Addressee {
-    pub(crate) shard: u8,
-    pub(crate) subject: Option<Imsi>,
+pub struct Addressee {
+    pub shard: u8,
+    pub subject: Option<Imsi>,
 }
 
 /// This shard, whoever the subscriber may be.
@@ -90,10 +91,11 @@ fn addressee_of_verdict(directory: &Directory, verdict: &Verdict) -> Addressee
     }
 }
 
-/// The shard that an event is for: of a Begin by its subscriber, of a Continue, End or Abort by its destination id; everything
-/// else is for shard 0. With it comes the subscriber that a Begin is about.
+/// Whom an event is for: the shard, and the subscriber that a Begin is about. A Begin is for its subscriber's shard, as an operator's
+/// change is; a Continue, End or Abort for the shard that its destination id names; whatever else is received for shard 0. A clock
+/// value and an expiry name their shard.
 #[tactic(auto, using(crate::proofs::ShardLemmas::same_shard))]
-pub(crate) fn addressee_of(directory: &Directory, event: &Event) -> Addressee
+pub fn addressee_of(directory: &Directory, event: &Event) -> Addressee
     ensures found { IsAddressee (directory_of directory.now) (event_of event.now) result }
     ensures small { result.shard < 16 }
 {

@@ -10,13 +10,14 @@ ghost use Rattle.machine.specs.Step.{HasNoRoom};
 ghost use Rattle.records.specs.Fresh.{AreFresh};
 ghost use Rattle.records.specs.Maps.{RecordMap, part_of};
 ghost use Rattle.shard_state.specs.Shards.{IsOpening, IsSameShard, state_of, records_of, directory_of};
+ghost use Rattle.hlrcore.specs.Addressees.{IsAddressee};
 ghost use Rattle.hlrcore.specs.Events.{event_of, raw_of};
 ghost use Rattle.hlrcore.specs.Leading.{Leads};
 ghost use Rattle.hlrcore.specs.Sound.{IsSoundShard};
 
 use crate::event::Event;
 use crate::fault::StepFault;
-use crate::routing::route;
+use crate::routing::{Addressee, addressee_of};
 use crate::stepper::Stepper;
 use dialogues::Dialogues;
 use hlr_types::IsdnAddress;
@@ -131,14 +132,6 @@ impl State {
         self.stepper.shard.same(&other.stepper.shard)
     }
 
-    /// Whether the event is for this shard.
-    pub fn is_mine(&self, event: &Event) -> bool
-        ensures { IsTrue result ↔ (shard_for (directory_of self.now.directory) (event_of event.now)
-            ≡ self.now.shard) }
-    {
-        route(self.stepper.shard.directory(), event) == self.number()
-    }
-
     /// Handles one event. `NotMine` if it is for another shard; `NoRoom` if it is an operator's change that would open a dialogue
     /// in a full shard; `Memory` if an allocation fails. On error nothing changes.
     pub fn step(&mut self, event: &Event) -> Result<StepAnswer, StepFault>
@@ -155,7 +148,27 @@ impl State {
         ensures err { OnErr result (self.new ≡ self.old) }
         ensures same_shard { IsSameShard self.old self.new }
     {
-        self.stepper.step(event)
+        let found = addressee_of(self.directory(), event);
+        self.step_for(event, found)
+    }
+
+    /// The same for an event of which it is known whom it is for, so that this is not found twice.
+    pub fn step_for(&mut self, event: &Event, found: Addressee) -> Result<StepAnswer, StepFault>
+        requires { IsAddressee (directory_of self.old.directory) (event_of event.now) found }
+        // It is a step of the machine over octets, for an event of this shard.
+        ensures stepped { IfOk result (λ a. Leads self.old (raw_of event.now) a self.new) }
+        ensures routed { OnOk result (IsRouted (directory_of self.old.directory)
+            (raw_of event.now) self.old.shard) }
+        ensures not_mine { (result ≡ Err StepFault.NotMine)
+            ↔ (shard_for (directory_of self.old.directory) (event_of event.now) ≢ self.old.shard) }
+        // The machine has no step for such an event, so it is never handled.
+        ensures no_room { result ≡ Err StepFault.NoRoom
+            → HasNoRoom (state_of self.old) (event_of event.now) }
+        ensures room { HasNoRoom (state_of self.old) (event_of event.now) → OnOk result ⊥ }
+        ensures err { OnErr result (self.new ≡ self.old) }
+        ensures same_shard { IsSameShard self.old self.new }
+    {
+        self.stepper.step_for(event, found)
     }
 
     /// Handles the expiry of the least timer that is due, if any, as `step` does for such an event of this shard. On error nothing

@@ -7,6 +7,7 @@ ghost use Rattle.machine.specs.Routing.{route};
 ghost use Rattle.machine.specs.Step.{HasNoRoom};
 ghost use Rattle.machine.specs.Turns.{Changes};
 ghost use Rattle.shard_state.specs.Shards.{IsSameShard, directory_of, state_of};
+ghost use Rattle.hlrcore.specs.Addressees.{IsAddressee};
 ghost use Rattle.hlrcore.specs.Events.{change as said, event_of, raw_of};
 ghost use Rattle.hlrcore.specs.Leading.{IsMine, Leads};
 ghost use Rattle.turns.specs.Planning.{IsPlan};
@@ -14,7 +15,7 @@ ghost use Rattle.turns.specs.Planning.{IsPlan};
 use crate::change::Change;
 use crate::event::Event;
 use crate::fault::StepFault;
-use crate::routing::addressee_of;
+use crate::routing::Addressee;
 use crate::sending::silent;
 use crate::stepper::Stepper;
 use hlr_types::Imsi;
@@ -23,8 +24,13 @@ use std::alloc::AllocError;
 use turns::{nothing_is_due, plan_codes, plan_expiry, plan_withdrawal};
 
 impl Stepper {
-    /// Handles one event, as `State::step` says.
-    pub(crate) fn step(&mut self, event: &Event) -> Result<StepAnswer, StepFault>
+    /// Handles one event, as `State::step_for` says.
+    pub(crate) fn step_for(
+        &mut self,
+        event: &Event,
+        found: Addressee,
+    ) -> Result<StepAnswer, StepFault>
+        requires { IsAddressee (directory_of self.old.directory) (event_of event.now) found }
         ensures stepped { IfOk result (λ a. Leads self.old (raw_of event.now) a self.new) }
         ensures routed { OnOk result (IsRouted (directory_of self.old.directory)
             (raw_of event.now) self.old.shard) }
@@ -36,7 +42,6 @@ impl Stepper {
         ensures err { OnErr result (self.new ≡ self.old) }
         ensures same_shard { IsSameShard self.old self.new }
     {
-        let found = addressee_of(self.shard.directory(), event);
         if found.shard != self.shard.number() {
             return Err(StepFault::NotMine);
         }

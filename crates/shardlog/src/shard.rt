@@ -8,6 +8,7 @@ ghost use Rattle.machine.specs.Routing.{route};
 ghost use Rattle.machine.specs.Step.{HasNoRoom};
 ghost use Rattle.shard_state.specs.Answers.{entry_of};
 ghost use Rattle.shard_state.specs.Shards.{directory_of, state_of};
+ghost use Rattle.hlrcore.specs.Addressees.{IsAddressee};
 ghost use Rattle.hlrcore.specs.Events.{event_of, raw_event, raw_of};
 ghost use Rattle.shardlog.specs.Entries.{raw_entries};
 ghost use Rattle.shardlog.specs.Handling.{Handles};
@@ -16,7 +17,7 @@ ghost use Rattle.shardlog.specs.Chains.{LeadTo, raw_epoch};
 
 use crate::entry::{Entry, Epoch, Handled};
 use crate::fault::ShardFault;
-use hlrcore::{Event, RawEvent, ShardNumber, State};
+use hlrcore::{Addressee, Event, RawEvent, ShardNumber, State, addressee_of};
 use machine::numbers::MAX_ENTRIES;
 use shard_state::StepAnswer;
 use std::alloc::{AllocError, Global};
@@ -117,11 +118,40 @@ impl Shard {
         ensures no_step { HasNoRoom (state_of self.old.state) (event_of event) → OnOk result ⊥ }
         ensures err { OnErr result (self.new ≡ self.old) }
     {
+        let found = addressee_of(self.state().directory(), &event);
+        self.handle_for(event, found)
+    }
+
+    /// The same for an event of which it is known whom it is for, so that this is not found twice.
+    pub fn handle_for(&mut self, event: Event, found: Addressee) -> Result<Handled, ShardFault>
+        requires { IsAddressee (directory_of self.old.state.directory) (event_of event) found }
+        // A step of the machine over octets, which leaves each open dialogue as it is that the event does not name.
+        ensures handles { IfOk result (λ handled. Handles self.old
+            (raw_of event) handled self.new) }
+        // The invariant of every journal.
+        ensures keeps { LogKeeps self.new }
+        ensures not_mine { result ≡ Err ShardFault.NotMine
+            → route (directory_of self.old.state.directory)
+            (event_of event) ≢ self.old.state.shard }
+        ensures mine { route (directory_of self.old.state.directory)
+            (event_of event) ≢ self.old.state.shard
+            → MatchResult result (λ _. ⊥)
+            (λ fault. (fault ≡ ShardFault.NotMine) ⊎ (fault ≡ ShardFault.Memory)) }
+        ensures full { result ≡ Err ShardFault.JournalFull
+            → (route (directory_of self.old.state.directory) (event_of event)
+            ≡ self.old.state.shard)
+            × (length self.old.entries ≡ MAX_ENTRIES) }
+        ensures room { length self.old.entries ≡ MAX_ENTRIES → OnOk result ⊥ }
+        ensures no_room { result ≡ Err ShardFault.NoRoom
+            → HasNoRoom (state_of self.old.state) (event_of event) }
+        ensures no_step { HasNoRoom (state_of self.old.state) (event_of event) → OnOk result ⊥ }
+        ensures err { OnErr result (self.new ≡ self.old) }
+    {
         if self.entries.len() >= MAX_ENTRIES {
-            return Err(self.refusal(&event));
+            return Err(self.refusal(found.shard));
         }
         self.entries.reserve(1)?;
-        let answer = self.state.step(&event)?;
+        let answer = self.state.step_for(&event, found)?;
         Ok(append(&mut self.entries, event.into_raw(), answer))
     }
 
@@ -186,16 +216,12 @@ impl Shard {
         Ok(())
     }
 
-    /// The error for an event when the journal is full.
-    fn refusal(&self, event: &Event) -> ShardFault
-        ensures { (result ≡ ShardFault.NotMine)
-            × (route (directory_of self.now.state.directory)
-            (event_of event.now) ≢ self.now.state.shard)
-            ⊎ (result ≡ ShardFault.JournalFull)
-            × (route (directory_of self.now.state.directory) (event_of event.now)
-            ≡ self.now.state.shard) }
+    /// The error for an event for the shard with this number when the journal is full.
+    fn refusal(&self, shard: u8) -> ShardFault
+        ensures { (result ≡ ShardFault.NotMine) × (shard ≢ self.now.state.shard)
+            ⊎ (result ≡ ShardFault.JournalFull) × (shard ≡ self.now.state.shard) }
     {
-        if self.state.is_mine(event) {
+        if shard == self.state.number() {
             ShardFault::JournalFull
         } else {
             ShardFault::NotMine

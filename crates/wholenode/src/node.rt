@@ -11,7 +11,7 @@ ghost use Rattle.wholenode.specs.Keeping.{NodeKeeps};
 use crate::fault::{Cause, NodeFault, refusal};
 use crate::opening::opening_shards;
 use bumpalo::Bump;
-use hlrcore::{Event, RawEvent, ShardNumber, route};
+use hlrcore::{Event, RawEvent, ShardNumber, addressee_of};
 use records::{Directory, Loaded};
 use shardlog::{Epoch, Handled, Shard};
 use std::alloc::{AllocError, Global};
@@ -207,9 +207,10 @@ impl Node {
         ensures keeps { NodeKeeps self.new }
     {
         let event = Event::of_owned(self.alloc, bump, raw)?;
-        let place = usize::from(route(&self.directory, &event));
+        let found = addressee_of(&self.directory, &event);
+        let place = usize::from(found.shard);
         let shard = &mut self.shards[place];
-        match shard.handle_owned(event) {
+        match shard.handle_for(event, found) {
             Ok(handled) => Ok(handled),
             Err(fault) => Err(refusal(fault)),
         }

@@ -4,6 +4,8 @@ use Rattle.std.specs.Arc.{arc_value}
 use Rattle.std.proofs.lemmas.Option.{slice_get_read}
 use Rattle.machine.specs.Routing.{route}
 use Rattle.frames.specs.Octets.{RawEvent}
+use Rattle.records.specs.Maps.{DirectoryMap}
+use Rattle.hlrcore.specs.Addressees.{IsAddressee}
 use Rattle.hlrcore.specs.Events.{event_of, raw_event, raw_of}
 use Rattle.shard_state.specs.Shards.{directory_of}
 use Rattle.shardlog.specs.declared.fault.ShardFault.{ShardFault}
@@ -19,6 +21,15 @@ use Rattle.wholenode.proofs.node.Node.read_and_handle.Goals.{in-Ok, in-Err}
 pub returns-in_err-event-clause-keeps : goal.returns-in_err-event-clause-keeps
 returns-in_err-event-clause-keeps c = keeps_seen _ _ _ c.self.view_is c.self.invariant
 
+pub handle_for-requires : goal.handle_for-requires
+handle_for-requires c =
+    let small : c.from-place.result < 16 = search rules in
+    let at = slice_get_read c.self.inside.shards.items 16 c.from-place.result c.index_mut-shard.result.now
+    (sym c.self.invariant.count) small c.index_mut-shard.ensures.value in
+    subst (λ (d : DirectoryMap). IsAddressee (directory_of d) (event_of c.in_ok-event.event) c.addressee_of-found.result)
+    (c.deref.ensures ∙ sym (c.self.invariant.each c.from-place.result c.index_mut-shard.result.now at).directory_is)
+    c.addressee_of-found.ensures.found
+
 pub refusal-requires : goal.refusal-requires
 refusal-requires c =
     let small : c.from-place.result < 16 = search rules in
@@ -26,7 +37,7 @@ refusal-requires c =
     (event_of c.in_ok-event.event) = search rules in
     let at = slice_get_read c.self.inside.shards.items 16 c.from-place.result c.index_mut-shard.result.now
     (sym c.self.invariant.count) small c.index_mut-shard.ensures.value in
-    λ e. c.handle_owned.ensures.not_mine (c.in-Err.is ∙ ap (λ (f : ShardFault). Err f) e)
+    λ e. c.handle_for.ensures.not_mine (c.in-Err.is ∙ ap (λ (f : ShardFault). Err f) e)
     (is_mine (arc_value c.self.inside.directory) c.self.inside.shards.items
     (event_of c.in_ok-event.event) c.from-place.result c.index_mut-shard.result.now c.self.invariant routed at)
 
@@ -36,8 +47,8 @@ invariant_of-self c =
     let at = slice_get_read c.self.inside.shards.items 16 c.from-place.result c.index_mut-shard.result.now
     (sym c.self.invariant.count) small c.index_mut-shard.ensures.value in
     took_or_not (arc_value c.self.inside.directory) c.self.inside.shards.items c.from-place.result c.index_mut-shard.result.now
-    c.handle_owned.new.self (raw_of c.in_ok-event.event) c.handle_owned.result
-    c.self.invariant at c.handle_owned.ensures.keeps c.handle_owned.ensures.handles c.handle_owned.ensures.err
+    c.handle_for.new.self (raw_of c.in_ok-event.event) c.handle_for.result
+    c.self.invariant at c.handle_for.ensures.keeps c.handle_for.ensures.handles c.handle_for.ensures.err
 
 pub returns-clause-takes : goal.returns-clause-takes
 returns-clause-takes c =
@@ -46,12 +57,12 @@ returns-clause-takes c =
     (event_of c.in_ok-event.event) = search rules in
     let at = slice_get_read c.self.inside.shards.items 16 c.from-place.result c.index_mut-shard.result.now
     (sym c.self.invariant.count) small c.index_mut-shard.ensures.value in
-    elim c.match-handle_owned.branch [
+    elim c.match-handle_for.branch [
       | in-Ok w ↦ rw w.result-is
           (takes c.args.self.now (arc_value c.self.inside.directory) c.self.inside.shards.items
           (raw_event c.args.raw) w.in-Ok.handled c.from-place.result c.index_mut-shard.result.now
-          c.handle_owned.new.self c.self.view_is c.self.invariant at (event_of c.in_ok-event.event, c.in_ok-event.ensures.read, sym routed)
-          (subst (λ (r : RawEvent). Handles c.index_mut-shard.result.now r w.in-Ok.handled c.handle_owned.new.self) c.in_ok-event.ensures.same
+          c.handle_for.new.self c.self.view_is c.self.invariant at (event_of c.in_ok-event.event, c.in_ok-event.ensures.read, sym routed)
+          (subst (λ (r : RawEvent). Handles c.index_mut-shard.result.now r w.in-Ok.handled c.handle_for.new.self) c.in_ok-event.ensures.same
           w.in-Ok.ensures.handles))
       | in-Err w ↦ rw w.result-is tt
     ]
@@ -63,15 +74,15 @@ returns-clause-refused c =
     (event_of c.in_ok-event.event) = search rules in
     let at = slice_get_read c.self.inside.shards.items 16 c.from-place.result c.index_mut-shard.result.now
     (sym c.self.invariant.count) small c.index_mut-shard.ensures.value in
-    elim c.match-handle_owned.branch [
+    elim c.match-handle_for.branch [
       | in-Ok w ↦ rw w.result-is tt
       | in-Err w ↦ rw w.result-is
           (subst (λ (cause : Cause). Refuses c.args.self.now (raw_event c.args.raw) cause) (sym w.refusal.ensures)
           (refuses c.args.self.now (arc_value c.self.inside.directory) c.self.inside.shards.items (raw_event c.args.raw)
           (event_of c.in_ok-event.event) w.in-Err.fault c.from-place.result
           c.index_mut-shard.result.now c.self.view_is c.self.invariant at c.in_ok-event.ensures.read (sym routed)
-          (λ e. (c.handle_owned.ensures.full (w.in-Err.is ∙ ap (λ (f : ShardFault). Err f) e)).1)
-          (λ e. c.handle_owned.ensures.no_room (w.in-Err.is ∙ ap (λ (f : ShardFault). Err f) e))))
+          (λ e. (c.handle_for.ensures.full (w.in-Err.is ∙ ap (λ (f : ShardFault). Err f) e)).1)
+          (λ e. c.handle_for.ensures.no_room (w.in-Err.is ∙ ap (λ (f : ShardFault). Err f) e))))
     ]
 
 pub returns-clause-keeps : goal.returns-clause-keeps
@@ -81,5 +92,5 @@ returns-clause-keeps c =
     (sym c.self.invariant.count) small c.index_mut-shard.ensures.value in
     node_keeps _ _
     (took_or_not (arc_value c.self.inside.directory) c.self.inside.shards.items c.from-place.result c.index_mut-shard.result.now
-    c.handle_owned.new.self (raw_of c.in_ok-event.event) c.handle_owned.result
-    c.self.invariant at c.handle_owned.ensures.keeps c.handle_owned.ensures.handles c.handle_owned.ensures.err)
+    c.handle_for.new.self (raw_of c.in_ok-event.event) c.handle_for.result
+    c.self.invariant at c.handle_for.ensures.keeps c.handle_for.ensures.handles c.handle_for.ensures.err)

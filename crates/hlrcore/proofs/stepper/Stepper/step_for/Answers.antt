@@ -1,14 +1,13 @@
-use Rattle.std.proofs.Common.{◌≡◌, ℕ, rules, sym, ap, ◌∙◌, subst}
+use Rattle.std.proofs.Common.{◌≡◌, ℕ, rules, sym, subst}
 use Rattle.machine.specs.Routing.{route}
 use Rattle.frames.specs.Octets.{RawClock, RawExpire}
 use Rattle.shard_state.specs.Shards.{directory_of}
 use Rattle.hlrcore.specs.declared.event.Event.{Event}
-use Rattle.records.specs.Maps.{DirectoryMap}
 use Rattle.hlrcore.specs.Addressees.{subject_of_event}
 use Rattle.hlrcore.specs.Events.{event_of, raw_of}
 use Rattle.hlrcore.specs.Leading.{Leads}
 use Rattle.hlrcore.proofs.TakenLemmas.{then_ok}
-use Rattle.hlrcore.proofs.stepper.Stepper.step.Goals as goal
+use Rattle.hlrcore.proofs.stepper.Stepper.step_for.Goals as goal
 
 pub receive-requires-clause-mine : goal.receive-requires-clause-mine
 receive-requires-clause-mine c =
@@ -17,11 +16,8 @@ receive-requires-clause-mine c =
 
 pub receive-requires-clause-about : goal.receive-requires-clause-about
 receive-requires-clause-about c =
-    let about : c.addressee_of-found.result.subject ≡ subject_of_event (directory_of c.args.self.now.directory) (event_of c.args.event.now) =
-    c.addressee_of-found.ensures.found.subject ∙ ap (λ (d : DirectoryMap). subject_of_event (directory_of d) (event_of c.args.event.now))
-    (search rules) in
-    subst (λ (e : Event). c.addressee_of-found.result.subject ≡ subject_of_event (directory_of c.args.self.now.directory) (event_of e)) c.in-Frame.is
-    about
+    subst (λ (e : Event). c.args.found.subject ≡ subject_of_event (directory_of c.args.self.now.directory) (event_of e)) c.in-Frame.is
+    c.requires.subject
 
 pub returns-in_ok-receive-in-Frame-clause-stepped : goal.returns-in_ok-receive-in-Frame-clause-stepped
 returns-in_ok-receive-in-Frame-clause-stepped c =

@@ -9,7 +9,7 @@ use Rattle.hlrcore.specs.declared.fault.StepFault.{StepFault}
 use Rattle.shardlog.specs.declared.entry.Entry.{Entry}
 use Rattle.shardlog.specs.Entries.{raw_entries}
 use Rattle.shardlog.proofs.LogLemmas.{handled_log, handles, keeps_seen, keeps_unhandled, log_keeps, step_had_no_room, step_has_no_journal}
-use Rattle.shardlog.proofs.shard.Shard.handle_owned.Goals as goal
+use Rattle.shardlog.proofs.shard.Shard.handle_for.Goals as goal
 
 pub returns-then-len-ge-MAX_ENTRIES-clause-keeps : goal.returns-then-len-ge-MAX_ENTRIES-clause-keeps
 returns-then-len-ge-MAX_ENTRIES-clause-keeps c = keeps_seen _ _ c.self.view_is c.self.invariant
@@ -21,7 +21,7 @@ returns-in_err-reserve-clause-keeps c =
 
 pub returns-in_err-answer-clause-keeps : goal.returns-in_err-answer-clause-keeps
 returns-in_err-answer-clause-keeps c =
-    keeps_unhandled c.self.inside.base c.self.inside.state c.step.new.self c.self.inside.entries.items c.reserve.new.self.items
+    keeps_unhandled c.self.inside.base c.self.inside.state c.step_for.new.self c.self.inside.entries.items c.reserve.new.self.items
     c.self.invariant c.in_ok-reserve.ensures.items c.in_err-answer.ensures.err
 
 pub returns-in_err-answer-clause-no_room : goal.returns-in_err-answer-clause-no_room
@@ -45,13 +45,13 @@ put c =
 
 pub invariant_of-self-2 : goal.invariant_of-self-2
 invariant_of-self-2 c =
-    handled_log c.self.inside.base c.self.inside.state c.step.new.self c.self.inside.entries.items c.append.new.entries.items
+    handled_log c.self.inside.base c.self.inside.state c.step_for.new.self c.self.inside.entries.items c.append.new.entries.items
     (raw_of c.args.event) c.in_ok-answer.answer
     c.self.invariant (put c) c.in_ok-answer.ensures.routed c.in_ok-answer.ensures.stepped c.in_ok-answer.ensures.same_shard (search rules)
 
 pub returns-clause-handles : goal.returns-clause-handles
 returns-clause-handles c =
-    handles c.args.self.now c.self.inside.base c.self.inside.state c.step.new.self c.self.inside.entries.items c.append.new.entries.items
+    handles c.args.self.now c.self.inside.base c.self.inside.state c.step_for.new.self c.self.inside.entries.items c.append.new.entries.items
     (raw_of c.args.event)
     c.in_ok-answer.answer _ c.self.view_is (put c) c.in_ok-answer.ensures.stepped c.append.ensures.outs (search rules)
 
