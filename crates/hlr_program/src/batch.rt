@@ -111,7 +111,7 @@ impl Pending {
             → OnOk result (BeginsPart register.old (min self.old.ahead MAX_ENTRIES) register.new) }
         ensures stays { length self.old.gathered.items ≤ self.old.room
             → OnOk result (register.new ≡ register.old) }
-        // Room is asked for again only once the events of the part are handled.
+        // What is left of the room: what is gathered now is taken off.
         ensures made { self.old.room < length self.old.gathered.items → OnOk result (self.new.room
             ≡ min self.old.ahead MAX_ENTRIES - length self.old.gathered.items) }
         ensures taken { length self.old.gathered.items ≤ self.old.room → OnOk result (self.new.room
