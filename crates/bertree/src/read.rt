@@ -83,6 +83,8 @@ fn alone<'a>(node: Node<'a>, after: &[u8]) -> Result<Node<'a>, TreeFault>
 /// `inner`; `rest` is what is left of the contents of `inner`. Their children so far are in `nodes`, those of each element
 /// behind those of the elements around it. They are copied to the arena when the element ends, so that there is one list. Both
 /// lists have room for all that they can hold from the start, since each element takes at least two octets.
+// Not inlined: few frames come here, and among what is done around it the loop would have no registers left.
+#[inline(never)]
 fn read_levels<'a>(bump: &'a Bump, octets: &'a [u8]) -> Result<(Node<'a>, usize), TreeFault>
     ensures ok { IfOk result (λ found. Spells octets.now (tree found.0)
         × (levels (tree found.0) ≡ found.1)) }
