@@ -26,7 +26,7 @@ use std::marker::Model;
 pub(crate) struct Lists {
     // By the local id as a number. The register itself hands these ids out; a peer only chooses which of them stay open, and these
     // are at most 4,096 in a shard.
-    by_dialogue: HashMap<u32, Few>,
+    by_dialogue: HashMap<u64, Few>,
 }
 
 impl Model for Lists {
@@ -155,11 +155,11 @@ impl Lists {
     }
 }
 
-/// The local id as a number, which is hashed in one step.
-fn key_of(id: Tid) -> u32
+/// The local id as a number, which is hashed in one step. It is one of 64 bits, as the hash spreads four octets alone badly.
+fn key_of(id: Tid) -> u64
     ensures { octets_of result ≡ id }
 {
-    u32::from_le_bytes(id.0)
+    u64::from(u32::from_le_bytes(id.0))
 }
 
 /// These invocations of a dialogue after received components, and their timers in the index in place of the old ones. On error
