@@ -28,7 +28,7 @@ fn count(verdict: &Verdict) -> u64 {
             ReadMessage::Begin { components, .. }
             | ReadMessage::Continue { components, .. }
             | ReadMessage::End { components, .. },
-        ) => components.len() as u64,
+        ) => components.as_slice().len() as u64,
         Verdict::Read(ReadMessage::Abort { .. }) | Verdict::Discard | Verdict::Refuse(..) => 0,
     }
 }

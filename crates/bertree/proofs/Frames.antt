@@ -1,5 +1,5 @@
 -- The elements that the code has open, as frames.
-use Rattle.std.proofs.Common.{◌≡◌, ℕ, suc, ◌+◌, ◌-◌, ◌<◌, ◌≤◌, max, Option, Some, None, List, [], ◌∷◌, ◌++◌, length, take, drop, reverse, refl, sym, ◌∙◌, ap, subst, arith, length-append, append-nil, take_all, true, false}
+use Rattle.std.proofs.Common.{◌≡◌, ℕ, suc, ◌+◌, ◌*◌, ◌/◌, ◌-◌, ◌<◌, ◌≤◌, max, Option, Some, None, List, [], ◌∷◌, ◌++◌, length, take, drop, reverse, refl, sym, ◌∙◌, ap, subst, arith, length-append, length-take, append-nil, take_all, true, false}
 use Rattle.std.proofs.lemmas.List.{reverse-append, length-reverse, take-append-le, drop-append-le, drop_all, take_rest}
 use Rattle.std.specs.Borrow.{Bor}
 use Rattle.x690.specs.Identifier.{IsTag, identifier}
@@ -204,7 +204,7 @@ module _ (every : List ℕ) where
       IsAt-stuck every (frame_of inner nodes) (frames (reverse outer) (take inner.before nodes)) octets r.within.at no_end no_head
 
 -- each step leaves less to do
-head-length : (octets : List ℕ) (tag : Tag) (contents rest : List ℕ) → IsElement octets tag contents rest → length contents + length rest + 2 ≤ length octets
+pub head-length : (octets : List ℕ) (tag : Tag) (contents rest : List ℕ) → IsElement octets tag contents rest → length contents + length rest + 2 ≤ length octets
 head-length octets tag contents rest e =
     let d = e.definite in
     let a = identifier-length tag in
@@ -263,6 +263,62 @@ pub primitive-more : (tag : Tag) (octets contents after : List ℕ) → IsTag fa
     → (t : Tree) → Spells octets t → ⊥
 primitive-more tag octets contents after h ne t s =
     ne (sym (Spells-inj t (Primitive tag contents) octets h.1.front [] after s (h.0, h.1.definite) (append-nil octets ∙ h.1.split)).1)
+
+-- what is left to read, and two octets for each node and for each element that is open
+abbrev pub taken : Open → List Open → List Node → List ℕ → ℕ
+taken inner outer nodes rest = 2 * length nodes + length outer + 1 + (length rest + waiting (inner ∷ outer))
+
+weight-some : (form : Option (List ℕ)) → 0 < weight form
+weight-some None = omega arith
+weight-some (Some after) = omega arith
+
+waiting-each : (os : List Open) → length os ≤ waiting os
+waiting-each [] = omega arith
+waiting-each (o ∷ os) = let w = weight-some (followed_by o.after) in omega (arith, waiting-each os)
+
+-- so there is room for one more node, and for one more element that is open, if there is for half as many as there were octets
+pub taken-room : (inner : Open) (outer : List Open) (nodes : List Node) (rest : List ℕ) (octets : ℕ) → taken inner outer nodes rest ≤ octets
+    → (length nodes < octets / 2) × (length outer < octets / 2)
+taken-room inner outer nodes rest octets h =
+    let w = weight-some (followed_by inner.after) in let e = waiting-each outer in
+    (omega arith, omega arith)
+
+pub taken-first : (new : Open) (outer : List Open) (nodes : List Node) (octets contents : List ℕ) (tag : Tag) (after : Option (Bor (List ℕ)))
+    → outer ≡ [] → nodes ≡ [] → new.after ≡ after → IsTag true tag × Opens (followed_by after) octets tag contents
+    → taken new outer nodes contents ≤ length octets
+taken-first new outer nodes octets contents tag after none fresh q h =
+    let w = ap (λ a. weight (followed_by a)) q in
+    let o = Opens-length (followed_by after) octets contents tag h.1 in
+    rw (none, fresh) (omega arith)
+
+pub taken-opened : (inner new : Open) (outer outer' : List Open) (nodes : List Node) (octets contents : List ℕ) (tag : Tag) (after : Option (Bor (List ℕ)))
+    → outer' ≡ outer ++ inner ∷ [] → new.after ≡ after → IsTag true tag × Opens (followed_by after) octets tag contents
+    → taken new outer' nodes contents ≤ taken inner outer nodes octets
+taken-opened inner new outer outer' nodes octets contents tag after pushed q h =
+    let u = ap waiting pushed ∙ waiting-push outer inner in
+    let n = ap length pushed ∙ length-append outer (inner ∷ []) in
+    let w = ap (λ a. weight (followed_by a)) q in
+    let o = Opens-length (followed_by after) octets contents tag h.1 in
+    omega arith
+
+pub taken-grown : (inner : Open) (outer : List Open) (nodes nodes' : List Node) (n : Node) (octets : List ℕ) (tag : Tag) (contents after : List ℕ)
+    → nodes' ≡ nodes ++ n ∷ [] → IsElement octets tag contents after → taken inner outer nodes' after ≤ taken inner outer nodes octets
+taken-grown inner outer nodes nodes' n octets tag contents after pushed e =
+    let m = ap length pushed ∙ length-append nodes (n ∷ []) in
+    let l = head-length octets tag contents after e in
+    omega arith
+
+pub taken-closed : (inner parent : Open) (outer outer' : List Open) (nodes kept nodes' : List Node) (n : Node) (octets after : List ℕ)
+    → outer ≡ outer' ++ parent ∷ [] → Closes (followed_by inner.after) octets [] after → kept ≡ take inner.before nodes → nodes' ≡ kept ++ n ∷ []
+    → taken parent outer' nodes' after ≤ taken inner outer nodes octets
+taken-closed inner parent outer outer' nodes kept nodes' n octets after popped c k pushed =
+    let p = ap waiting popped ∙ waiting-push outer' parent in
+    let l = ap length popped ∙ length-append outer' (parent ∷ []) in
+    let t = ap length k in
+    let s = length-take inner.before nodes in
+    let m = ap length pushed ∙ length-append kept (n ∷ []) in
+    let d = Closes-smaller (followed_by inner.after) octets after c in
+    omega arith
 
 pub no-items : (xs : List Open) → length xs ≡ 0 → xs ≡ []
 no-items [] e = refl

@@ -1,5 +1,5 @@
 -- The reader of short elements between two of them.
-use Rattle.std.proofs.Common.{◌≡◌, ℕ, ◌+◌, ◌-◌, ◌<◌, ◌≤◌, true, false, List, [], ◌∷◌, ◌++◌, length, take, drop, refl, sym, ◌∙◌, ap, subst, arith, inl, append_assoc, append-nil}
+use Rattle.std.proofs.Common.{◌≡◌, ℕ, ◌+◌, ◌-◌, ◌/◌, ◌<◌, ◌≤◌, true, false, List, [], ◌∷◌, ◌++◌, length, take, drop, refl, sym, ◌∙◌, ap, subst, arith, inl, append_assoc, append-nil}
 use Rattle.std.proofs.lemmas.List.{take_rest}
 use Rattle.std.proofs.Math.Seq.{drop-append_seam, take-append_seam}
 use Rattle.std.specs.Borrow.{Bor}
@@ -11,7 +11,7 @@ use Rattle.bertree.specs.Head.{IsElement}
 use Rattle.bertree.specs.Nodes.{tree, elements}
 use Rattle.bertree.specs.declared.node.Node.{Node}
 use Rattle.bertree.specs.declared.node.Node.TheVariants as node
-use Rattle.bertree.proofs.Frames.{map-push}
+use Rattle.bertree.proofs.Frames.{map-push, head-length}
 use Rattle.bertree.proofs.States.{levels_of_all-push}
 use Rattle.bertree.proofs.Trees.{tree-Primitive, tree-Constructed}
 
@@ -21,6 +21,11 @@ pub record HasRead (octets : List ℕ) (most : ℕ) (there nodes : List Node) (r
   pub behind : nodes ≡ there ++ found
   pub complete : (ts : List Tree) → SpellsAll rest (trees ts) → SpellsAll octets (trees (elements found ++ ts))
   pub within : levels_of_all (trees (elements found)) ≤ most
+
+-- there is room for as many nodes as the rest can have, and as much as there was before
+pub record HasRoom (len capacity before : ℕ) (rest : List ℕ) : Type 0 where
+  pub enough : len + length rest / 2 ≤ capacity
+  pub same : capacity ≡ before
 
 pub read-none : (octets : List ℕ) (most : ℕ) (nodes : List Node) → HasRead octets most nodes nodes octets
 read-none octets most nodes =
@@ -76,6 +81,13 @@ read-constructed octets most there nodes same nodes' tag children contents rest 
 no-octets : (xs : List ℕ) → length xs ≡ 0 → xs ≡ []
 no-octets [] e = refl
 no-octets (x ∷ xs) e = absurd (omega arith)
+
+-- an element leaves room for its node, whatever it holds
+pub room-for-one : (len capacity before : ℕ) (rest : List ℕ) (tag : Tag) (contents after : List ℕ) → HasRoom len capacity before rest
+    → IsElement rest tag contents after → (len + length contents / 2 ≤ capacity) × (len < capacity) × HasRoom (len + 1) capacity before after
+room-for-one len capacity before rest tag contents after r e =
+    let l = head-length rest tag contents after e in
+    (omega (arith, r.enough), omega (arith, r.enough), record { enough = omega (arith, r.enough); same = r.same })
 
 -- all elements have been read
 pub read-all : (octets : List ℕ) (most before : ℕ) (there nodes all copied : List Node) (rest : List ℕ) → HasRead octets most there nodes rest → length rest ≡ 0

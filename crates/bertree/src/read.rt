@@ -79,15 +79,12 @@ fn alone<'a>(node: Node<'a>, after: &[u8]) -> Result<Node<'a>, TreeFault>
     }
 }
 
-/// Levels for which room is made at once; messages of TCAP and MAP have hardly more.
-const USUAL_LEVELS: usize = 8;
-
-/// Nodes for which room is made at once: hardly more wait at a time for the end of the element that they are in.
-const USUAL_NODES: usize = 16;
-
 /// The tree that the octets spell, and its levels. The elements that have begun are in `outer`, outermost first, and in
 /// `inner`; `rest` is what is left of the contents of `inner`. Their children so far are in `nodes`, those of each element
-/// behind those of the elements around it. They are copied to the arena when the element ends, so that one list grows.
+/// behind those of the elements around it. They are copied to the arena when the element ends, so that there is one list. Both
+/// lists have room for all that they can hold from the start, since each element takes at least two octets.
+// Not inlined: few frames come here, and among what is done around it the loop would have no registers left.
+#[inline(never)]
 fn read_levels<'a>(bump: &'a Bump, octets: &'a [u8]) -> Result<(Node<'a>, usize), TreeFault>
     ensures ok { IfOk result (λ found. Spells octets.now (tree found.0)
         × (levels (tree found.0) ≡ found.1)) }
@@ -103,8 +100,9 @@ fn read_levels<'a>(bump: &'a Bump, octets: &'a [u8]) -> Result<(Node<'a>, usize)
         }
         Head::Constructed(tag, contents, after) => (Open::new(tag, 0, after), contents),
     };
-    let mut outer: Vec<Open<'a>, &'a Bump> = Vec::with_capacity(bump, USUAL_LEVELS)?;
-    let mut nodes: Vec<Node<'a>, &'a Bump> = Vec::with_capacity(bump, USUAL_NODES)?;
+    let most = octets.len() / 2;
+    let mut outer: Vec<Open<'a>, &'a Bump> = Vec::with_capacity(bump, most)?;
+    let mut nodes: Vec<Node<'a>, &'a Bump> = Vec::with_capacity(bump, most)?;
     let mut deepest = 1;
     loop {
         if let Some(after) = end(inner.after, rest) {
@@ -114,7 +112,7 @@ fn read_levels<'a>(bump: &'a Bump, octets: &'a [u8]) -> Result<(Node<'a>, usize)
                 return Ok((alone(node, after)?, deepest));
             };
             inner = parent;
-            nodes.push(node)?;
+            nodes.push_reserved(node);
             rest = after;
             continue;
         }
@@ -124,11 +122,11 @@ fn read_levels<'a>(bump: &'a Bump, octets: &'a [u8]) -> Result<(Node<'a>, usize)
         deepest = deepest.max(outer.len() + 2);
         match head {
             Head::Primitive(tag, contents, after) => {
-                nodes.push(Node::Primitive(tag, contents))?;
+                nodes.push_reserved(Node::Primitive(tag, contents));
                 rest = after;
             }
             Head::Constructed(tag, contents, after) => {
-                outer.push(inner)?;
+                outer.push_reserved(inner);
                 inner = Open::new(tag, nodes.len(), after);
                 rest = contents;
             }

@@ -147,7 +147,7 @@ fn taken_or_again(alloc: Global) -> Result<Indication, Fail> {
 /// How many components a Begin has.
 fn count(verdict: &Verdict) -> Option<usize> {
     match verdict {
-        Verdict::Read(ReadMessage::Begin { components, .. }) => Some(components.len()),
+        Verdict::Read(ReadMessage::Begin { components, .. }) => Some(components.as_slice().len()),
         _ => None,
     }
 }

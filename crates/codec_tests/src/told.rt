@@ -154,7 +154,10 @@ fn message(alloc: Global, message: &ReadMessage) -> Result<String, AllocError> {
                 None => String::from_str(alloc, "-")?,
             };
             let origin = spelled(alloc, origin.as_slice())?;
-            format!(in alloc; "begin {origin} {name}{}", components(alloc, heard)?)
+            format!(in alloc;
+                "begin {origin} {name}{}",
+                components(alloc, heard.as_slice())?
+            )
         }
         ReadMessage::Continue {
             origin,
@@ -164,7 +167,7 @@ fn message(alloc: Global, message: &ReadMessage) -> Result<String, AllocError> {
         } => {
             let origin = spelled(alloc, origin.as_slice())?;
             let destination = spelled(alloc, destination.as_slice())?;
-            let (of, heard) = (response(alloc, of)?, components(alloc, heard)?);
+            let (of, heard) = (response(alloc, of)?, components(alloc, heard.as_slice())?);
             format!(in alloc; "continue {origin} {destination} {of}{heard}")
         }
         ReadMessage::End {
@@ -173,7 +176,7 @@ fn message(alloc: Global, message: &ReadMessage) -> Result<String, AllocError> {
             components: heard,
         } => {
             let destination = spelled(alloc, destination.as_slice())?;
-            let (of, heard) = (response(alloc, of)?, components(alloc, heard)?);
+            let (of, heard) = (response(alloc, of)?, components(alloc, heard.as_slice())?);
             format!(in alloc; "end {destination} {of}{heard}")
         }
         ReadMessage::Abort { destination } => {

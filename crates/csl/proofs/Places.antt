@@ -1,8 +1,9 @@
 -- The place of an invocation in a dialogue's list.
-use Rattle.std.proofs.Common.{◌≡◌, ℕ, ◌+◌, ◌<◌, ◌≤◌, ℤ, List, [], ◌∷◌, ◌++◌, length, Bool, true, false, cond, not, ◌||◌, Some, None, refl, sym, ap, ◌∙◌, subst, get_or, set, suc, arith, take, drop, nat_lt}
+use Rattle.std.proofs.Common.{◌≡◌, ℕ, ◌+◌, ◌<◌, ◌≤◌, ℤ, List, [], ◌∷◌, ◌++◌, length, Bool, true, false, cond, not, ◌||◌, Some, None, refl, sym, ap, ◌∙◌, subst, get_or, set, suc, arith, take, drop, nat_lt, ◌-◌}
 use Rattle.std.specs.List.{position, position_or_len, remove, list_any}
 use lib.Dec.{T}
 use Rattle.std.proofs.Math.Facts.{yes_ltb, ltb_yes}
+use Rattle.std.proofs.lemmas.List.{take_rest}
 use Rattle.machine.specs.Keys.{Every}
 use Rattle.machine.specs.State.{Invocation, is_sent, any_sent}
 use Rattle.machine.specs.Effect.{in_sent}
@@ -150,3 +151,19 @@ put_above own (v ∷ vs) = by (is_above own v) (put_above own vs)
 pub with_one_at : (own : Invocation) (vs : List Invocation) (n : ℕ) → n ≡ unwrap_or (position (is_above own) vs) (length vs)
     → take n vs ++ own ∷ drop n vs ≡ with_one own vs
 with_one_at own vs n e = ap (λ m. take m vs ++ own ∷ drop m vs) (e ∙ first_above own vs) ∙ put_above own vs
+
+-- all but the first, as the code has them
+
+abbrev pub rest_of : {A : Type 0} → List A → List A
+rest_of vs = take (length vs - 1) (drop 1 vs)
+
+pub first_of : {A : Type 0} (vs : List A) (own : A) → 1 ≤ length vs → own ≡ get_or vs 0 own → vs ≡ own ∷ rest_of vs
+first_of {A} vs own l e = by vs l e ∙ ap (λ us. own ∷ us) (sym (take_rest vs 1))
+  where
+    by : (us : List A) → 1 ≤ length us → own ≡ get_or us 0 own → us ≡ own ∷ drop 1 us
+    by [] l e = absurd (omega (arith, l))
+    by (v ∷ us) l e = ap (λ u. u ∷ us) (sym e)
+
+pub none_first : {A : Type 0} (vs : List A) → length vs < 1 → vs ≡ []
+none_first [] h = refl
+none_first (v ∷ vs) h = absurd (omega arith)

@@ -1,24 +1,25 @@
 -- The lists of the dialogues, by look-ups.
-use Rattle.std.proofs.Common.{arith, ◌==◌, eqb, length, ◌≡◌, ℕ, ℤ, List, [], ◌∷◌, ◌++◌, map, Bool, true, false, cond, Option, Some, None, refl, sym, ap, ◌∙◌, subst, is_eq}
+use Rattle.std.proofs.Common.{arith, ◌==◌, eqb, length, get_or, ◌≡◌, ℕ, ◌+◌, ◌*◌, ◌/◌, ◌%◌, ◌<◌, ℤ, ◌⊎◌, inl, inr, List, [], ◌∷◌, ◌++◌, map, Bool, true, false, cond, Option, Some, None, refl, sym, ap, ◌∙◌, subst, is_eq}
 use Rattle.std.specs.Prelude.{IfSome, IfNone, option_map}
-use Rattle.std.specs.Array.{AllZipBelow}
 use Rattle.std.specs.Option.{IsSome}
 use Rattle.std.specs.List.{position, remove, AllZip, each_same}
-use Rattle.std.specs.Cmp.{eq_by_cmp_equiv, Equal-is, tied_itself}
-use Rattle.std.specs.Cmp.Lexicographic.{pointwise}
+use Rattle.std.specs.Int.{from_le_bytes, w32}
+use Rattle.std.specs.Ordering.{nat_cmp}
+use Rattle.std.specs.Cmp.{eq_by_cmp_equiv, Equal-is, nat_cmp_total, tied_itself, unsigned_tied}
+use Rattle.std.specs.FinMap.{nat_cmp-IsAntisymmetric}
 use Rattle.std.specs.Map.{lookup}
 use Rattle.std.specs.BTreeMap.{is_at}
 use Rattle.std.specs.FinMap as finite
 use Rattle.std.specs.HashMap as hash
 use Rattle.smallvec.specs.SmallVec.{SmallVec}
 use Rattle.hlr_types.specs.Orders.{octets_cmp}
-use Rattle.hlr_types.proofs.OrderLemmas.{octets_total, octets_exact, pointwise-octets}
+use Rattle.hlr_types.proofs.OrderLemmas.{cases_octets, ne_octets, octets_total, octets_exact}
 use Rattle.machine.specs.State.{Invocation}
 use Rattle.machine.specs.Effect.{AreRising}
 use Rattle.machine.specs.Expiries.{without}
 use Rattle.csl.specs.Endings.{has_id}
 use Rattle.csl.proofs.Places.{NoneHas, parts_of, remove_at}
-use Rattle.csl.specs.Tables.{InvocationLists, list_in, invocations_at, put_list, items_of, lists_of, IsStored, AreStored}
+use Rattle.csl.specs.Tables.{InvocationLists, list_in, invocations_at, put_list, items_of, lists_of, octets_of, IsStored, AreStored}
 
 -- whether two local ids are the same
 abbrev pub is_its : List ℕ → List ℕ → Bool
@@ -86,101 +87,6 @@ at-put_list lists id vs q = ap list_in (get-put_list lists id vs q) ∙ by (is_i
     by true (u ∷ us) = refl
     by false us = refl
 
--- the hash map behind them
-
--- `==` of two keys, which is `is_its` by `pointwise-octets`
-abbrev pub is_key : List ℕ → List ℕ → Bool
-is_key = pointwise eqb
-
-abbrev pub items_in : Option (SmallVec Invocation) → Option (List Invocation)
-items_in o = option_map (λ (l : SmallVec Invocation). l.items) o
-
-lookup_items : (es : List (List ℕ × SmallVec Invocation)) (q : List ℕ) → finite.find octets_cmp q (map items_of es) ≡ items_in (lookup (is_key q) es)
-lookup_items [] q = refl
-lookup_items (e ∷ es) q = ap (cond (is_its q e.0) (Some e.1.items)) (lookup_items es q)
-    ∙ ap (λ b. cond b (Some e.1.items) (items_in (lookup (is_key q) es))) (sym (pointwise-octets q e.0)) ∙ by (is_key q e.0)
-  where
-    by : (b : Bool) → cond b (Some e.1.items) (items_in (lookup (is_key q) es)) ≡ items_in (cond b (Some e.1) (lookup (is_key q) es))
-    by true = refl
-    by false = refl
-
-module _ {S : Type 0} where
-  pub get_lists : (m : hash.HashMap (List ℕ) (SmallVec Invocation) S) (q : List ℕ) → finite.get (lists_of m) q ≡ items_in (hash.get is_key m q)
-  get_lists m q = finite.get-from_entries octets_total (map items_of m.entries) q ∙ lookup_items m.entries q
-
-  -- a list is written or removed
-  pub is_written : (m n : hash.HashMap (List ℕ) (SmallVec Invocation) S) (id : List ℕ) (w : Option (SmallVec Invocation)) (vs : List Invocation)
-      → ((q : List ℕ) → hash.get is_key n q ≡ cond (is_key id q) w (hash.get is_key m q)) → items_in w ≡ stored_list vs
-      → lists_of n ≡ put_list (lists_of m) id vs
-  is_written m n id w vs h e = is_put (lists_of m) (lists_of n) id vs (λ q. get_lists n q ∙ ap items_in (h q)
-      ∙ ap (λ b. items_in (cond b w (hash.get is_key m q))) (pointwise-octets id q) ∙ by (is_its id q) q)
-    where
-      by : (b : Bool) (q : List ℕ) → items_in (cond b w (hash.get is_key m q)) ≡ cond b (stored_list vs) (finite.get (lists_of m) q)
-      by true q = e
-      by false q = sym (get_lists m q)
-
-  -- the result of a look-up
-  pub list_got : {key : List ℕ} (m : hash.HashMap (List ℕ) (SmallVec Invocation) S) (lists : InvocationLists) (id : List ℕ) (o : Option (SmallVec Invocation))
-      → o ≡ hash.get is_key m key → lists_of m ≡ lists → key ≡ id
-      → list_in (items_in o) ≡ invocations_at lists id
-  list_got {key = key} m lists id o e view own = ap (λ r. list_in (items_in r)) e ∙ ap list_in (sym (get_lists m key)) ∙ λ i. invocations_at (view i) (own i)
-
-  pub was_removed : {key : List ℕ} (m : hash.HashMap (List ℕ) (SmallVec Invocation) S) (lists : InvocationLists) (id : List ℕ) (o : Option (SmallVec Invocation))
-      → o ≡ hash.get is_key m key → lists_of m ≡ lists → key ≡ id
-      → IfSome o (λ list. list.items ≡ invocations_at lists id)
-  was_removed m lists id None e view own = tt
-  was_removed m lists id (Some l) e view own = list_got m lists id (Some l) e view own
-
-  pub was_not_there : {key : List ℕ} (m : hash.HashMap (List ℕ) (SmallVec Invocation) S) (lists : InvocationLists) (id : List ℕ) (o : Option (SmallVec Invocation))
-      → o ≡ hash.get is_key m key → lists_of m ≡ lists → key ≡ id
-      → IfNone o (invocations_at lists id ≡ [])
-  was_not_there m lists id None e view own = sym (list_got m lists id None e view own)
-  was_not_there m lists id (Some l) e view own = tt
-
-  -- a list is written in place
-  pub through : (m n : hash.HashMap (List ℕ) (SmallVec Invocation) S) (id : List ℕ) (l w : SmallVec Invocation) → Some l ≡ hash.get is_key m id
-      → hash.WritesThrough is_key (is_key id) m w n
-      → (q : List ℕ) → hash.get is_key n q ≡ cond (is_key id q) (Some w) (hash.get is_key m q)
-  through m n id l w had h = (h.3 (subst IsSome had refl)).0
-
-  pub unwritten : (m n : hash.HashMap (List ℕ) (SmallVec Invocation) S) (id : List ℕ) (l : SmallVec Invocation) → Some l ≡ hash.get is_key m id
-      → hash.WritesThrough is_key (is_key id) m l n → lists_of n ≡ lists_of m
-  unwritten m n id l had h = finite.same_map octets_total octets_exact (lists_of n) (lists_of m)
-      (λ q. get_lists n q ∙ ap items_in (through m n id l l had h q ∙ by (is_key id q) q refl) ∙ sym (get_lists m q))
-    where
-      by : (b : Bool) (q : List ℕ) → is_key id q ≡ b → cond b (Some l) (hash.get is_key m q) ≡ hash.get is_key m q
-      by true q e = had ∙ ap (hash.get is_key m) (same_id id q (sym (pointwise-octets id q) ∙ e))
-      by false q e = refl
-
-  -- and removed afterwards
-  pub emptied : (m n o : hash.HashMap (List ℕ) (SmallVec Invocation) S) (id : List ℕ) (l w : SmallVec Invocation) → Some l ≡ hash.get is_key m id
-      → hash.WritesThrough is_key (is_key id) m w n
-      → ((q : List ℕ) → hash.get is_key o q ≡ cond (is_key id q) None (hash.get is_key n q)) → lists_of o ≡ put_list (lists_of m) id []
-  emptied m n o id l w had h gone = is_written m o id None [] (λ q. gone q ∙ ap (cond (is_key id q) None) (through m n id l w had h q)
-      ∙ by (is_key id q) q) refl
-    where
-      by : (b : Bool) (q : List ℕ) → cond b None (cond b (Some w) (hash.get is_key m q)) ≡ cond b None (hash.get is_key m q)
-      by true q = refl
-      by false q = refl
-
--- a copy
-
-abbrev pub IsCopied : List ℕ × SmallVec Invocation → List ℕ × SmallVec Invocation → Type 0
-IsCopied e f = AllZipBelow (λ x y. y ≡ x) e.0 f.0 4 × AllZip (λ x y. y ≡ x) e.1.items f.1.items
-
-copied_entries : (es fs : List (List ℕ × SmallVec Invocation)) → AllZip IsCopied es fs → map items_of fs ≡ map items_of es
-copied_entries [] [] h = refl
-copied_entries [] (f ∷ fs) h = absurd h
-copied_entries (e ∷ es) [] h = absurd h
-copied_entries (e ∷ es) (f ∷ fs) h =
-    let key : f.0 ≡ e.0 = each_same e.0 f.0 h.0.0.whole in
-    let items : f.1.items ≡ e.1.items = each_same e.1.items f.1.items h.0.1 in
-    let rest : map items_of fs ≡ map items_of es = copied_entries es fs h.1 in
-    λ i. (key i, items i) ∷ rest i
-
-pub copied_lists : {S : Type 0} → (m n : hash.HashMap (List ℕ) (SmallVec Invocation) S) → AllZip IsCopied m.entries n.entries → lists_of n ≡ lists_of m
-copied_lists m n h = ap (λ es. finite.from_entries es) (copied_entries m.entries n.entries h)
-
 -- an empty list, by its length
 
 pub items_none : (vs : List Invocation) → (length vs == 0) ≡ true → vs ≡ []
@@ -190,6 +96,189 @@ items_none (v ∷ vs) e = let none : length (v ∷ vs) ≡ 0 = grind arith in ab
 pub items_some : (vs : List Invocation) → (length vs == 0) ≡ false → Some vs ≡ stored_list vs
 items_some [] e = cc
 items_some (v ∷ vs) e = refl
+
+-- two numbers
+
+pub nat_same : (x y : ℕ) → x ≡ y → (x == y) ≡ true
+nat_same x y e = ap (λ n. x == n) (sym e) ∙ sym (unsigned_tied x x) ∙ ap is_eq (tied_itself nat_cmp_total x)
+
+pub nat_is : (x y : ℕ) → (x == y) ≡ true → x ≡ y
+nat_is x y e = nat_cmp-IsAntisymmetric x y ((Equal-is (nat_cmp x y)).0 (unsigned_tied x y ∙ e))
+
+-- the hash map behind them
+
+-- `==` of two keys
+abbrev pub is_key : ℕ → ℕ → Bool
+is_key = eqb
+
+-- whether a key is made of these octets
+abbrev is_octets : List ℕ → ℕ → Bool
+is_octets q key = is_its q (octets_of key)
+
+abbrev number : List ℕ → ℕ
+number q = get_or q 0 0 + 256 * (get_or q 1 0 + 256 * (get_or q 2 0 + 256 * get_or q 3 0))
+
+number_octets : (key : ℕ) → number (octets_of key) ≡ key
+number_octets key = whole
+  where
+    whole : key % 256 + 256 * (key / 256 % 256 + 256 * (key / 256 / 256 % 256 + 256 * (key / 256 / 256 / 256))) ≡ key
+    whole = omega arith
+
+-- the key that is made of four octets
+pub octets_made : (bs : List ℕ) (key : ℕ) → length bs ≡ 4 → get_or bs 0 0 < 256 → get_or bs 1 0 < 256 → get_or bs 2 0 < 256 → get_or bs 3 0 < 256
+    → key ≡ from_le_bytes w32 bs → octets_of key ≡ bs
+octets_made [] key l a' b' c' d' e = absurd (omega arith)
+octets_made (a ∷ []) key l a' b' c' d' e = absurd (omega arith)
+octets_made (a ∷ b ∷ []) key l a' b' c' d' e = absurd (omega arith)
+octets_made (a ∷ b ∷ c ∷ []) key l a' b' c' d' e = absurd (omega arith)
+octets_made (a ∷ b ∷ c ∷ d ∷ f ∷ bs) key l a' b' c' d' e = absurd (omega arith)
+octets_made (a ∷ b ∷ c ∷ d ∷ []) key l a' b' c' d' e =
+    let is : key ≡ a + b * 256 + c * 65536 + d * 16777216 = omega (arith, e) in
+    let first : key % 256 ≡ a = omega arith in
+    let second : key / 256 % 256 ≡ b = omega arith in
+    let third : key / 256 / 256 % 256 ≡ c = omega arith in
+    let fourth : key / 256 / 256 / 256 ≡ d = omega arith in
+    λ i. first i ∷ second i ∷ third i ∷ fourth i ∷ []
+
+same_key : (j k : ℕ) → is_its (octets_of j) (octets_of k) ≡ is_key j k
+same_key j k = by (is_key j k) refl
+  where
+    by : (b : Bool) → is_key j k ≡ b → is_its (octets_of j) (octets_of k) ≡ b
+    by true e = ap (λ i. is_its (octets_of j) (octets_of i)) (sym (nat_is j k e)) ∙ own_id (octets_of j)
+    by false e = ne_octets (octets_of j) (octets_of k) (λ same. let is : true ≡ false =
+        sym (nat_same j k (sym (number_octets j) ∙ ap number same ∙ number_octets k)) ∙ e in cc)
+
+-- octets are those of a key, or of none
+of_a_key : (q : List ℕ) → ((key : ℕ) × (octets_of key ≡ q)) ⊎ ((key : ℕ) → is_octets q key ≡ false)
+of_a_key q = by (cases_octets (octets_of (number q)) q)
+  where
+    by : (octets_of (number q) ≡ q) ⊎ (octets_of (number q) ≡ q → ⊥) → ((key : ℕ) × (octets_of key ≡ q)) ⊎ ((key : ℕ) → is_octets q key ≡ false)
+    by (inl e) = inl (number q, e)
+    by (inr differ) = inr (λ key. ne_octets q (octets_of key)
+        (λ e. differ (ap (λ p. octets_of (number p)) e ∙ ap octets_of (number_octets key) ∙ sym e)))
+
+abbrev pub items_in : Option (SmallVec Invocation) → Option (List Invocation)
+items_in o = option_map (λ (l : SmallVec Invocation). l.items) o
+
+lookup_items : (es : List (ℕ × SmallVec Invocation)) (q : List ℕ) → finite.find octets_cmp q (map items_of es) ≡ items_in (lookup (is_octets q) es)
+lookup_items [] q = refl
+lookup_items (e ∷ es) q = ap (cond (is_octets q e.0) (Some e.1.items)) (lookup_items es q) ∙ by (is_octets q e.0)
+  where
+    by : (b : Bool) → cond b (Some e.1.items) (items_in (lookup (is_octets q) es)) ≡ items_in (cond b (Some e.1) (lookup (is_octets q) es))
+    by true = refl
+    by false = refl
+
+none_by : (es : List (ℕ × SmallVec Invocation)) (q : List ℕ) → ((key : ℕ) → is_octets q key ≡ false) → lookup (is_octets q) es ≡ None
+none_by [] q h = refl
+none_by (e ∷ es) q h = ap (λ b. cond b (Some e.1) (lookup (is_octets q) es)) (h e.0) ∙ none_by es q h
+
+module _ {S : Type 0} where
+  get_lists : (m : hash.HashMap ℕ (SmallVec Invocation) S) (q : List ℕ) → finite.get (lists_of m) q ≡ items_in (hash.get_by (is_octets q) m)
+  get_lists m q = finite.get-from_entries octets_total (map items_of m.entries) q ∙ lookup_items m.entries q
+
+  get_key : (m : hash.HashMap ℕ (SmallVec Invocation) S) (key : ℕ) → hash.get_by (is_octets (octets_of key)) m ≡ hash.get is_key m key
+  get_key m key = ap (λ (test : ℕ → Bool). hash.get_by test m) (λ i k. same_key key k i)
+
+  -- what is written at a key is written at its octets
+  at_octets : (m n : hash.HashMap ℕ (SmallVec Invocation) S) (key : ℕ) (w : Option (SmallVec Invocation))
+      → ((k : ℕ) → hash.get is_key n k ≡ cond (is_key key k) w (hash.get is_key m k)) → (q : List ℕ)
+      → hash.get_by (is_octets q) n ≡ cond (is_its (octets_of key) q) w (hash.get_by (is_octets q) m)
+  at_octets m n key w h q = by (of_a_key q)
+    where
+      by : ((k : ℕ) × (octets_of k ≡ q)) ⊎ ((k : ℕ) → is_octets q k ≡ false)
+          → hash.get_by (is_octets q) n ≡ cond (is_its (octets_of key) q) w (hash.get_by (is_octets q) m)
+      by (inl f) = subst (λ p. hash.get_by (is_octets p) n ≡ cond (is_its (octets_of key) p) w (hash.get_by (is_octets p) m)) f.1
+          (get_key n f.0 ∙ h f.0 ∙ ap (λ b. cond b w (hash.get is_key m f.0)) (sym (same_key key f.0))
+          ∙ ap (cond (is_its (octets_of key) (octets_of f.0)) w) (sym (get_key m f.0)))
+      by (inr none) = none_by n.entries q none
+          ∙ sym (ap (λ b. cond b w (hash.get_by (is_octets q) m)) (sym ((eq_by_cmp_equiv octets_total).symm q (octets_of key)) ∙ none key)
+          ∙ none_by m.entries q none)
+
+  -- a list is written or removed
+  pub is_written : (m n : hash.HashMap ℕ (SmallVec Invocation) S) (key : ℕ) (w : Option (SmallVec Invocation)) (vs : List Invocation)
+      → ((k : ℕ) → hash.get is_key n k ≡ cond (is_key key k) w (hash.get is_key m k)) → items_in w ≡ stored_list vs
+      → lists_of n ≡ put_list (lists_of m) (octets_of key) vs
+  is_written m n key w vs h e = is_put (lists_of m) (lists_of n) (octets_of key) vs
+      (λ q. get_lists n q ∙ ap items_in (at_octets m n key w h q) ∙ by (is_its (octets_of key) q) q)
+    where
+      by : (b : Bool) (q : List ℕ) → items_in (cond b w (hash.get_by (is_octets q) m)) ≡ cond b (stored_list vs) (finite.get (lists_of m) q)
+      by true q = e
+      by false q = sym (get_lists m q)
+
+  -- the result of a look-up
+  pub list_got : (key : ℕ) (m : hash.HashMap ℕ (SmallVec Invocation) S) (lists : InvocationLists) (id : List ℕ) (o : Option (SmallVec Invocation))
+      → o ≡ hash.get is_key m key → lists_of m ≡ lists → octets_of key ≡ id
+      → list_in (items_in o) ≡ invocations_at lists id
+  list_got key m lists id o e view own =
+      ap (λ r. list_in (items_in r)) (e ∙ sym (get_key m key)) ∙ ap list_in (sym (get_lists m (octets_of key))) ∙ λ i. invocations_at (view i) (own i)
+
+  pub was_removed : (key : ℕ) (m : hash.HashMap ℕ (SmallVec Invocation) S) (lists : InvocationLists) (id : List ℕ) (o : Option (SmallVec Invocation))
+      → o ≡ hash.get is_key m key → lists_of m ≡ lists → octets_of key ≡ id
+      → IfSome o (λ list. list.items ≡ invocations_at lists id)
+  was_removed key m lists id None e view own = tt
+  was_removed key m lists id (Some l) e view own = list_got key m lists id (Some l) e view own
+
+  pub was_not_there : (key : ℕ) (m : hash.HashMap ℕ (SmallVec Invocation) S) (lists : InvocationLists) (id : List ℕ) (o : Option (SmallVec Invocation))
+      → o ≡ hash.get is_key m key → lists_of m ≡ lists → octets_of key ≡ id
+      → IfNone o (invocations_at lists id ≡ [])
+  was_not_there key m lists id None e view own = sym (list_got key m lists id None e view own)
+  was_not_there key m lists id (Some l) e view own = tt
+
+  -- a list is written in place
+  pub through : (m n : hash.HashMap ℕ (SmallVec Invocation) S) (key : ℕ) (l w : SmallVec Invocation) → Some l ≡ hash.get is_key m key
+      → hash.WritesThrough is_key (is_key key) m w n
+      → (k : ℕ) → hash.get is_key n k ≡ cond (is_key key k) (Some w) (hash.get is_key m k)
+  through m n key l w had h = (h.3 (subst IsSome had refl)).0
+
+  pub unwritten : (m n : hash.HashMap ℕ (SmallVec Invocation) S) (key : ℕ) (l : SmallVec Invocation) → Some l ≡ hash.get is_key m key
+      → hash.WritesThrough is_key (is_key key) m l n → lists_of n ≡ lists_of m
+  unwritten m n key l had h = finite.same_map octets_total octets_exact (lists_of n) (lists_of m)
+      (λ q. get_lists n q ∙ ap items_in (at_octets m n key (Some l) (through m n key l l had h) q ∙ by (is_its (octets_of key) q) q refl)
+      ∙ sym (get_lists m q))
+    where
+      by : (b : Bool) (q : List ℕ) → is_its (octets_of key) q ≡ b → cond b (Some l) (hash.get_by (is_octets q) m) ≡ hash.get_by (is_octets q) m
+      by true q e = had ∙ sym (get_key m key) ∙ ap (λ p. hash.get_by (is_octets p) m) (same_id (octets_of key) q e)
+      by false q e = refl
+
+  -- and removed afterwards
+  pub emptied : (m n o : hash.HashMap ℕ (SmallVec Invocation) S) (key : ℕ) (l w : SmallVec Invocation) → Some l ≡ hash.get is_key m key
+      → hash.WritesThrough is_key (is_key key) m w n
+      → ((k : ℕ) → hash.get is_key o k ≡ cond (is_key key k) None (hash.get is_key n k)) → lists_of o ≡ put_list (lists_of m) (octets_of key) []
+  emptied m n o key l w had h gone = is_written m o key None [] (λ k. gone k ∙ ap (cond (is_key key k) None) (through m n key l w had h k)
+      ∙ by (is_key key k) k) refl
+    where
+      by : (b : Bool) (k : ℕ) → cond b None (cond b (Some w) (hash.get is_key m k)) ≡ cond b None (hash.get is_key m k)
+      by true k = refl
+      by false k = refl
+
+  -- the list of a dialogue is replaced, where it is or by a removal
+  pub rewritten : (key : ℕ) (m n : hash.HashMap ℕ (SmallVec Invocation) S) (lists : InvocationLists) (id : List ℕ) (l w : SmallVec Invocation)
+      → Some l ≡ hash.get is_key m key → hash.WritesThrough is_key (is_key key) m w n → (length w.items == 0) ≡ false
+      → lists_of m ≡ lists → octets_of key ≡ id → lists_of n ≡ put_list lists id w.items
+  rewritten key m n lists id l w had h some view own = is_written m n key (Some w) w.items (through m n key l w had h) (items_some w.items some)
+      ∙ λ i. put_list (view i) (own i) w.items
+
+  pub removed_empty : (key : ℕ) (m o : hash.HashMap ℕ (SmallVec Invocation) S) (lists : InvocationLists) (id : List ℕ) (w : List Invocation)
+      → lists_of o ≡ put_list (lists_of m) (octets_of key) [] → (length w == 0) ≡ true → lists_of m ≡ lists → octets_of key ≡ id → lists_of o ≡ put_list lists id w
+  removed_empty key m o lists id w gone none view own = gone ∙ (λ i. put_list (view i) (own i) []) ∙ ap (put_list lists id) (sym (items_none w none))
+
+-- a copy
+
+abbrev pub IsCopied : ℕ × SmallVec Invocation → ℕ × SmallVec Invocation → Type 0
+IsCopied e f = (f.0 ≡ e.0) × AllZip (λ x y. y ≡ x) e.1.items f.1.items
+
+copied_entries : (es fs : List (ℕ × SmallVec Invocation)) → AllZip IsCopied es fs → map items_of fs ≡ map items_of es
+copied_entries [] [] h = refl
+copied_entries [] (f ∷ fs) h = absurd h
+copied_entries (e ∷ es) [] h = absurd h
+copied_entries (e ∷ es) (f ∷ fs) h =
+    let key : octets_of f.0 ≡ octets_of e.0 = ap octets_of h.0.0 in
+    let items : f.1.items ≡ e.1.items = each_same e.1.items f.1.items h.0.1 in
+    let rest : map items_of fs ≡ map items_of es = copied_entries es fs h.1 in
+    λ i. (key i, items i) ∷ rest i
+
+pub copied_lists : {S : Type 0} → (m n : hash.HashMap ℕ (SmallVec Invocation) S) → AllZip IsCopied m.entries n.entries → lists_of n ≡ lists_of m
+copied_lists m n h = ap (λ es. finite.from_entries es) (copied_entries m.entries n.entries h)
 
 -- removing one invocation
 

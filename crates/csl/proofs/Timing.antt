@@ -1,10 +1,8 @@
 -- The timers of invocations that come and go.
-use Rattle.std.proofs.Common.{◌≡◌, ◌≤◌, ℕ, ◌==◌, ◌-◌, arith, drop, take, get_or, length, ℤ, List, [], ◌∷◌, Bool, true, false, cond, not, ◌&&◌, ◌||◌, Some, None, refl, sym, ap, ◌∙◌, subst, Ordering, Less, Equal, Greater, is_eq, int_eq}
+use Rattle.std.proofs.Common.{◌≡◌, ℕ, ◌==◌, ℤ, List, [], ◌∷◌, Bool, true, false, cond, not, ◌&&◌, ◌||◌, Some, None, refl, sym, ap, ◌∙◌, subst, Ordering, Less, Equal, Greater, is_eq, int_eq}
 use Rattle.std.specs.Ordering.{nat_cmp, ordering_then}
-use Rattle.std.specs.Cmp.{Equal-is, int_eq_equiv, nat_cmp_total, tied_itself, unsigned_tied}
-use Rattle.std.specs.FinMap.{nat_cmp-IsAntisymmetric}
+use Rattle.std.specs.Cmp.{int_eq_equiv, unsigned_tied}
 use Rattle.std.specs.FinSet as set
-use Rattle.std.proofs.lemmas.List.{take_rest}
 use Rattle.machine.specs.State.{Invocation}
 use Rattle.machine.specs.Expiries.{without}
 use Rattle.machine.specs.Turns.{invocation_of}
@@ -15,7 +13,7 @@ use Rattle.deadlines.specs.Index.{has, is_timer}
 use Rattle.deadlines.proofs.SetLemmas.{has_remove}
 use Rattle.csl.specs.Tables.{HaveTimers, InvocationLists, has_timer, invocations_at, is_of, is_only, is_timed, put_list, timer_at}
 use Rattle.csl.proofs.Places.{NoneHas}
-use Rattle.csl.proofs.Putting.{at-put_list, is_its, same_id}
+use Rattle.csl.proofs.Putting.{at-put_list, is_its, nat_is, nat_same, same_id}
 
 -- ---- one timer
 
@@ -40,12 +38,6 @@ timer_is id v t =
     turn false true false = refl
     turn false false j = refl
 
-nat_same : (x y : ℕ) → x ≡ y → (x == y) ≡ true
-nat_same x y e = ap (λ n. x == n) (sym e) ∙ sym (unsigned_tied x x) ∙ ap is_eq (tied_itself nat_cmp_total x)
-
-nat_is : (x y : ℕ) → (x == y) ≡ true → x ≡ y
-nat_is x y e = nat_cmp-IsAntisymmetric x y ((Equal-is (nat_cmp x y)).0 (unsigned_tied x y ∙ e))
-
 left_of : (a b : Bool) → (a && b) ≡ true → a ≡ true
 left_of true b e = refl
 left_of false b e = cc
@@ -62,29 +54,7 @@ timed_deadline j d v e = nat_is v.deadline d (right_of (int_eq v.id j) (v.deadli
 
 -- ---- one more timer is inserted or removed
 
--- all but the first, as the code has them
-abbrev pub rest_of : List Invocation → List Invocation
-rest_of vs = take (length vs - 1) (drop 1 vs)
-
-pub first_of : (vs : List Invocation) (own : Invocation) → 1 ≤ length vs → own ≡ get_or vs 0 own → vs ≡ own ∷ rest_of vs
-first_of vs own l e = by vs l e ∙ ap (λ us. own ∷ us) (sym (take_rest vs 1))
-  where
-    by : (us : List Invocation) → 1 ≤ length us → own ≡ get_or us 0 own → us ≡ own ∷ drop 1 us
-    by [] l e = absurd (omega (arith, l))
-    by (v ∷ us) l e = ap (λ u. u ∷ us) (sym e)
-
 module _ (id : List ℕ) (own : Invocation) (rest : List Invocation) (t : Timer) where
-  pub of_more : (o : Bool) → cond (is_of id (own ∷ rest) t) true o ≡ cond (is_of id rest t) true (cond (is_timer (timer_at id own) t) true o)
-  of_more o =
-      at (is_its id t.invocation.id) (is_timed t.invocation.invoke t.deadline own) (has_timer rest t.invocation.invoke t.deadline)
-      ∙ ap (λ b. cond (is_of id rest t) true (cond b true o)) (sym (timer_is id own t))
-    where
-      at : (i b r : Bool) → cond (i && (b || r)) true o ≡ cond (i && r) true (cond (i && b) true o)
-      at false b r = refl
-      at true true true = refl
-      at true true false = refl
-      at true false r = refl
-
   module _ (others : List Invocation) where
     abbrev other : Bool
     other = has_timer others t.invocation.invoke t.deadline
@@ -104,21 +74,29 @@ module _ (id : List ℕ) (own : Invocation) (rest : List Invocation) (t : Timer)
         by true true q false = ap not (same_others true stays q)
         by true false q r = refl
 
-    pub only_more : (o : Bool) → has_timer others own.id own.deadline ≡ false
-        → cond (is_only id (own ∷ rest) others t) false o ≡ cond (is_only id rest others t) false (cond (is_timer (timer_at id own) t) false o)
-    only_more o goes =
+    -- x is what the timers of these become: true where they are inserted, and false where they are removed
+    pub only_more : (x o : Bool) → has_timer others own.id own.deadline ≡ false
+        → cond (is_only id (own ∷ rest) others t) x o ≡ cond (is_only id rest others t) x (cond (is_timer (timer_at id own) t) x o)
+    only_more x o goes =
         at (is_its id t.invocation.id) (is_timed t.invocation.invoke t.deadline own) refl (has_timer rest t.invocation.invoke t.deadline)
-        ∙ ap (λ b. cond (is_only id rest others t) false (cond b false o)) (sym (timer_is id own t))
+        ∙ ap (λ b. cond (is_only id rest others t) x (cond b x o)) (sym (timer_is id own t))
       where
-        none : (b : Bool) → false ≡ cond b false false
-        none true = refl
-        none false = refl
+        same : (b : Bool) → x ≡ cond b x x
+        same true = refl
+        same false = refl
 
         at : (i b : Bool) → is_timed t.invocation.invoke t.deadline own ≡ b → (r : Bool)
-            → cond ((i && (b || r)) && not other) false o ≡ cond ((i && r) && not other) false (cond (i && b) false o)
+            → cond ((i && (b || r)) && not other) x o ≡ cond ((i && r) && not other) x (cond (i && b) x o)
         at false b q r = refl
-        at true true q r = ap (λ h. cond (not h) false o) (same_others false goes q) ∙ none (r && not other)
+        at true true q r = ap (λ h. cond (not h) x o) (same_others false goes q) ∙ same (r && not other)
         at true false q r = refl
+
+pub only_none : (id : List ℕ) (others : List Invocation) (t : Timer) (x o : Bool) → o ≡ cond (is_only id [] others t) x o
+only_none id others t x o = by (is_its id t.invocation.id)
+  where
+    by : (b : Bool) → o ≡ cond ((b && false) && not (has_timer others t.invocation.invoke t.deadline)) x o
+    by true = refl
+    by false = refl
 
 -- ---- the timers of a dialogue are replaced
 
@@ -140,6 +118,23 @@ module _ (lists : InvocationLists) (d : TimerSet) (id : List ℕ) (have : HaveTi
       by : (b : Bool) → is_its id t.invocation.id ≡ b → has d' t ≡ among t (cond b list (invocations_at lists t.invocation.id))
       by true e = own t e
       by false e = other t e ∙ have t
+
+  -- those that only the new list has are inserted, and those that only the old one had are removed
+  pub have_turned : (were list : List Invocation) → were ≡ invocations_at lists id → (d' : TimerSet)
+      → ((t : Timer) → has d' t ≡ cond (is_only id were list t) false (cond (is_only id list were t) true (has d t)))
+      → (new : InvocationLists) → new ≡ put_list lists id list → HaveTimers new d'
+  have_turned were list old d' turned new is = have_put new list d' is
+      (λ t e. turned t ∙ ap (λ b. after t b (has d t)) e ∙ ap (after t true) (had t e ∙ ap (among t) (sym old)) ∙ pick (among t were) (among t list))
+      (λ t e. turned t ∙ ap (λ b. after t b (has d t)) e)
+    where
+      after : Timer → Bool → Bool → Bool
+      after t i h = cond ((i && among t were) && not (among t list)) false (cond ((i && among t list) && not (among t were)) true h)
+
+      pick : (a b : Bool) → cond (a && not b) false (cond (b && not a) true a) ≡ b
+      pick true true = refl
+      pick true false = refl
+      pick false true = refl
+      pick false false = refl
 
   module _ (list : List Invocation) (d₁ : TimerSet) (inserted : (t : Timer) → has d₁ t ≡ cond (is_of id list t) true (has d t)) where
     inserted_own : (t : Timer) → is_its id t.invocation.id ≡ true → has d₁ t ≡ cond (among t list) true (among t (invocations_at lists id))

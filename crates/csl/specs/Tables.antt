@@ -1,6 +1,6 @@
 -- The own invocations of a shard's dialogues (Q.774), as a finite map from local transaction ids to lists by ascending invoke
 -- id.
-use Rattle.std.specs.Prelude.{◌≡◌, ◌≢◌, ℕ, ℤ, ◌∷◌, [], List, Bool, true, false, cond, Option, Some, None, IfSome, refl, map, int_lt, ◌+◌, ◌==◌, pos, not, ◌&&◌}
+use Rattle.std.specs.Prelude.{◌≡◌, ◌≢◌, ℕ, ℤ, ◌∷◌, [], List, Bool, true, false, cond, Option, Some, None, IfSome, refl, map, int_lt, ◌+◌, ◌/◌, ◌%◌, ◌==◌, pos, not, ◌&&◌}
 use Rattle.std.specs.List.{list_any}
 use Rattle.std.specs.Ordering.{int_eq}
 use Rattle.std.specs.BTreeMap.{is_at}
@@ -70,11 +70,15 @@ is_only id these others t = is_of id these t && not (has_timer others t.invocati
 
 -- ---- what is stored
 
--- The lists, as a hash map has them.
-abbrev pub items_of : List ℕ × SmallVec Invocation → List ℕ × List Invocation
-items_of e = (e.0, e.1.items)
+-- The octets of which a key of the hash map is made, the lowest first.
+abbrev pub octets_of : ℕ → List ℕ
+octets_of key = key % 256 ∷ key / 256 % 256 ∷ key / 256 / 256 % 256 ∷ key / 256 / 256 / 256 ∷ []
 
-abbrev pub lists_of : {S : Type 0} → HashMap (List ℕ) (SmallVec Invocation) S → InvocationLists
+-- The lists, as a hash map has them.
+abbrev pub items_of : ℕ × SmallVec Invocation → List ℕ × List Invocation
+items_of e = (octets_of e.0, e.1.items)
+
+abbrev pub lists_of : {S : Type 0} → HashMap ℕ (SmallVec Invocation) S → InvocationLists
 lists_of m = finite.from_entries (map items_of m.entries)
 
 -- A stored list is not empty, and its ids ascend.

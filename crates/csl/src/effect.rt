@@ -1,6 +1,8 @@
 //! What received components do to the own invocations of one dialogue (Q.774, component sublayer).
 
-ghost use Rattle.std.specs.Prelude.{◌≡◌, ◌≤◌, ◌^◌, ◌++◌, map, [], IfOk, OnOk, option_to_list};
+ghost use Rattle.std.specs.Prelude.{◌≡◌, ◌≤◌, ◌^◌, ◌++◌, map, [], false, IfOk, OnOk, option_to_list};
+ghost use Rattle.std.specs.List.{list_any};
+ghost use Rattle.machine.specs.State.{Invocation, is_sent};
 ghost use Rattle.machine.specs.Effect.{AreRising, conclusion_of, effect, invocations_after};
 ghost use Rattle.csl.specs.Seen.{heard};
 ghost use Rattle.csl.specs.Effects.{IsEffect, concluded, offered};
@@ -8,7 +10,7 @@ ghost use Rattle.csl.specs.Effects.{IsEffect, concluded, offered};
 use crate::invocation::Invocation;
 use crate::list::{Few, any_sent, conclude};
 use crate::offer::{Conclusion, Effect, Offer};
-use crate::problems::{rejection_of, started_by};
+use crate::problems::{first_heard, rejection_of};
 use q773_comp::{Component, Rejection};
 use std::alloc::{AllocError, Global};
 
@@ -39,6 +41,20 @@ fn push_rejection(
     Ok(())
 }
 
+/// The effect of no component.
+fn effect_of_none(alloc: Global, list: &[Invocation]) -> Effect
+    ensures rejects { result.rejects.items ≡ [] }
+    ensures started { result.started ≡ None }
+    ensures conclusion { concluded result.conclusion ≡ conclusion_of false
+        (list_any (λ (own : Invocation). is_sent own.was) list.now) }
+{
+    Effect {
+        rejects: Vec::new(alloc),
+        started: None,
+        conclusion: conclusion_of(false, any_sent(list)),
+    }
+}
+
 /// Applies the components to the invocations, one by one, and returns the effect. On error some may have been applied.
 pub(crate) fn receive_each<P>(
     alloc: Global,
@@ -55,11 +71,15 @@ pub(crate) fn receive_each<P>(
         ≡ (effect now (offered offer.now) list.old.items
         (map heard components.now)).invocations) }
 {
-    let started = started_by(offer, list, components);
+    let [first, rest @ ..] = components else {
+        return Ok(effect_of_none(alloc, list));
+    };
+    let (started, rejection) = first_heard(offer, list, first);
     let mut rejects = Vec::new(alloc);
-    let mut has_failed = false;
-    for (place, component) in components.iter().enumerate() {
-        let rejection = rejection_of(offer, list, started, place == 0, component);
+    push_rejection(&mut rejects, rejection)?;
+    let mut has_failed = conclude(list, first, now);
+    for component in rest {
+        let rejection = rejection_of(offer, list, started, false, component);
         push_rejection(&mut rejects, rejection)?;
         has_failed |= conclude(list, component, now);
     }

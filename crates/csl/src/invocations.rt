@@ -12,7 +12,7 @@ ghost use Rattle.csl.specs.Effects.{IsEffect, offered};
 ghost use Rattle.csl.specs.Expiring.{Expires, IsNext, NoneDue};
 ghost use Rattle.csl.specs.Tables.{first_invoked, invocations_at, put_list, with_one};
 
-use crate::effect::{conclude_each, receive_each};
+use crate::effect::receive_each;
 use crate::fault::CslFault;
 use crate::invocation::Invocation;
 use crate::list::{Few, copy_of, first_invoked, place_of, with_one};
@@ -127,9 +127,8 @@ impl Invocations {
             (map heard components.now)).invocations) }
         ensures err { OnErr result (self.new ≡ self.old) }
     {
-        let mut list = copy_of(self.alloc, self.lists.at(id))?;
-        let effect = receive_each(self.alloc, offer, &mut list, components, now)?;
-        self.replace(id, list)?;
+        let effect = self.effect(id, offer, components, now)?;
+        self.conclude(id, components, now)?;
         Ok(effect)
     }
 
@@ -146,9 +145,8 @@ impl Invocations {
             (invocations_at self.old id))) }
         ensures err { OnErr result (self.new ≡ self.old) }
     {
-        let mut list = copy_of(self.alloc, self.lists.at(id))?;
-        conclude_each(&mut list, components, now);
-        self.replace(id, list)
+        self.lists
+            .conclude(self.alloc, &mut self.timers, id, components, now)
     }
 
     /// The least of the timers that are not after `now`: by time, then by the octets of the local id, then by the invoke id as a
@@ -234,7 +232,7 @@ impl Invocations {
         ensures ok { OnOk result (self.new ≡ put_list self.old id list.items) }
         ensures err { OnErr result (self.new ≡ self.old) }
     {
-        insert_timers(&mut self.timers, id, &list)?;
+        insert_timers(&mut self.timers, id, &list, &[])?;
         match self.lists.put(id, list) {
             Ok(None) => Ok(()),
             Ok(Some(were)) => {

@@ -1,7 +1,7 @@
 //! The Reject of one received component (Q.774, component sublayer; the problems are those of Q.773).
 
-ghost use Rattle.std.specs.Prelude.{◌≡◌, map, option_map, option_to_list};
-ghost use Rattle.machine.specs.Effect.{in_sent, is_id, is_operation, problem_of, problem_of_start, reject_answer, starts};
+ghost use Rattle.std.specs.Prelude.{◌≡◌, true, option_map, option_to_list};
+ghost use Rattle.machine.specs.Effect.{in_sent, is_id, is_operation, problem_of, problem_of_start, reject_answer, started_by};
 ghost use Rattle.q773_comp.specs.Seen.{code, rejection, side};
 ghost use Rattle.csl.specs.Seen.{heard};
 ghost use Rattle.csl.specs.Effects.{linked_now, offered, reject_now};
@@ -135,19 +135,23 @@ pub(crate) fn rejection_of<P>(
     }
 }
 
-/// The invoke id of what starts: the first component, if it is an Invoke without a problem.
-pub(crate) fn started_by<P>(
+/// What the first component comes to: the invoke id of what starts, if it is an Invoke without a problem, and its Reject, if
+/// any.
+pub(crate) fn first_heard<P>(
     offer: &Offer,
     list: &[Invocation],
-    components: &[Component<P>],
-) -> Option<i8>
-    ensures { result ≡ starts (offered offer.now) list.now (map heard components.now) }
+    first: &Component<P>,
+) -> (Option<i8>, Option<Rejection>)
+    ensures started { result.0 ≡ started_by (offered offer.now) list.now (heard first.now) }
+    ensures rejected { option_to_list (option_map rejection result.1)
+        ≡ reject_now (offered offer.now) list.now None true (heard first.now) }
 {
-    let [Component::Invoke { id, .. }, ..] = components else {
-        return None;
+    let rejection = rejection_of(offer, list, None, true, first);
+    let Component::Invoke { id, .. } = first else {
+        return (None, rejection);
     };
-    match rejection_of(offer, list, None, true, &components[0]) {
-        Some(_) => None,
-        None => Some(*id),
+    match rejection {
+        Some(_) => (None, rejection),
+        None => (Some(*id), None),
     }
 }

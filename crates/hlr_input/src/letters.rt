@@ -58,13 +58,14 @@ impl Letters {
         ensures ok { OnOk result (self.new ≡ noted self.old (originating_id frame.now)) }
         ensures err { OnErr result (self.new ≡ self.old) }
     {
+        // Once each letter has an id, nothing of a frame is looked at any more.
+        if self.ids.len() >= MAX_LETTERS {
+            return Ok(());
+        }
         let Some(id) = originating_id(frame) else {
             return Ok(());
         };
         if is_among(&id, &self.ids) {
-            return Ok(());
-        }
-        if self.ids.len() >= MAX_LETTERS {
             return Ok(());
         }
         self.ids.push(id)?;

@@ -1,4 +1,5 @@
 pub mod Events
+pub mod Spent
 pub mod Taken
 pub mod Addressees
 pub mod Leading

@@ -4,6 +4,7 @@ ghost use Rattle.std.specs.Prelude.{◌≡◌, IfOk};
 ghost use Rattle.frames.specs.Octets as frames;
 ghost use Rattle.frames.specs.Octets.{IsEvent};
 ghost use Rattle.hlrcore.specs.Events.{raw_event, raw_of, event_of};
+ghost use Rattle.hlrcore.specs.Spent.{spent};
 ghost use Rattle.hlrcore.specs.Taken.{IfRead};
 
 use crate::change::Change;
@@ -12,6 +13,7 @@ use bumpalo::Bump;
 use hlr_types::{Imsi, Peer};
 use msgarena::{Indication, Round, RoundFault};
 use std::alloc::{AllocError, Global};
+use std::mem;
 use thiserror::Error;
 
 /// An event as received: a frame with its source address, a clock value for a shard, the expiry of a shard's least timer that is
@@ -101,18 +103,26 @@ impl Event {
         }
     }
 
-    /// The event as received, which is handed over.
-    pub fn into_raw(self) -> RawEvent
-        ensures { raw_event result ≡ raw_of self }
+    /// The event as received, which is taken out of it. What is left of a frame has no octets, and what is left of a change is a
+    /// withdrawal.
+    pub fn take_raw(&mut self) -> RawEvent
+        ensures taken { raw_event result ≡ raw_of self.old }
+        ensures left { raw_of self.new ≡ spent (raw_of self.old) }
     {
         match self {
             Event::Frame(indication) => RawEvent::Frame {
                 from: indication.from(),
-                octets: indication.into_octets(),
+                octets: indication.take_octets(),
             },
-            Event::Clock { shard, now } => RawEvent::Clock { shard, now },
-            Event::Expire { shard } => RawEvent::Expire { shard },
-            Event::Change { imsi, change } => RawEvent::Change { imsi, change },
+            Event::Clock { shard, now } => RawEvent::Clock {
+                shard: *shard,
+                now: *now,
+            },
+            Event::Expire { shard } => RawEvent::Expire { shard: *shard },
+            Event::Change { imsi, change } => RawEvent::Change {
+                imsi: *imsi,
+                change: mem::replace(change, Change::Withdraw),
+            },
         }
     }
 

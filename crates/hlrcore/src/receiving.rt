@@ -67,13 +67,13 @@ impl Stepper {
                 origin,
                 components,
                 ..
-            } => self.begin(indication, *origin, components, subject),
+            } => self.begin(indication, *origin, components.as_slice(), subject),
             ReadMessage::Continue {
                 origin,
                 destination,
                 components,
                 ..
-            } => self.continue_(indication, *origin, *destination, components),
+            } => self.continue_(indication, *origin, *destination, components.as_slice()),
             ReadMessage::End { destination, .. } | ReadMessage::Abort { destination } => {
                 self.close(indication, *destination)
             }

@@ -71,7 +71,7 @@ fn addressee_of_message(directory: &Directory, said: &ReadMessage) -> Addressee
 {
     match said {
         ReadMessage::Begin { components, .. } => {
-            begin_about(subject_of_begin(directory, components))
+            begin_about(subject_of_begin(directory, components.as_slice()))
         }
         ReadMessage::Continue { destination, .. }
         | ReadMessage::End { destination, .. }

@@ -51,7 +51,7 @@ pub fn accept(indication: &Indication) -> Accepted
         unreachable!();
     };
     match context {
-        Some(name) => accept_under(name, components),
+        Some(name) => accept_under(name, components.as_slice()),
         None => Accepted::Refuse(Why::NoCause),
     }
 }

@@ -1,3 +1,4 @@
 pub mod JudgedFrame
+pub mod Kept
 pub mod Seen
 pub mod Taken

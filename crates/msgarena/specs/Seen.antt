@@ -7,6 +7,7 @@ use Rattle.mapargs_loc.specs.declared.fault.ArgFault.TheVariants as fault
 use Rattle.mapargs_sm.specs.Seen.{route_argument}
 use Rattle.q773_comp.specs.Seen.{component}
 use Rattle.q773_dlg.specs.Seen.{diagnostic}
+use Rattle.msgarena.specs.Kept.{kept}
 use Rattle.msgarena.specs.declared.parameter.Argument.{Argument}
 use Rattle.msgarena.specs.declared.parameter.Argument.TheVariants.{BadValue, Update, Purge, Route}
 use Rattle.msgarena.specs.declared.parameter.Parameter.{Parameter}
@@ -36,10 +37,10 @@ abbrev pub response : Response → received.Response
 response r = record { context = r.context; result = r.result; diagnostic = diagnostic r.diagnostic }
 
 abbrev pub message : ReadMessage → received.Message
-message (Begin origin context components) = received.Begin origin context (map (component parameter) components.items)
+message (Begin origin context components) = received.Begin origin context (map (component parameter) (kept components))
 message (Continue origin destination r components) =
-    received.Continue origin destination (option_map response r) (map (component parameter) components.items)
-message (End destination r components) = received.End destination (option_map response r) (map (component parameter) components.items)
+    received.Continue origin destination (option_map response r) (map (component parameter) (kept components))
+message (End destination r components) = received.End destination (option_map response r) (map (component parameter) (kept components))
 message (Abort destination) = received.Abort destination
 
 abbrev pub seen : Verdict → received.Verdict

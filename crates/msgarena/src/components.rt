@@ -4,8 +4,10 @@ ghost use Rattle.std.specs.Prelude.{◌≡◌, ◌<◌, ◌↔◌, length, map, 
 ghost use Rattle.bertree.specs.Nodes.{tree, elements};
 ghost use Rattle.frames.specs.Heard.{heard_of, all_heard};
 ghost use Rattle.q773_comp.specs.Seen.{component};
+ghost use Rattle.msgarena.specs.Kept.{kept};
 ghost use Rattle.msgarena.specs.Seen.{parameter};
 
+use crate::heard::Heard;
 use crate::parameter::{Parameter, parameter_of};
 use bertree::Node;
 use machine::numbers::MAX_COMPONENTS;
@@ -37,17 +39,19 @@ fn heard(node: &Node) -> Component<Parameter>
     }
 }
 
-/// The components that nodes are heard as, in order. `TooMany` is found before anything is allocated.
-pub(crate) fn all_heard(
-    alloc: Global,
-    nodes: &[Node],
-) -> Result<Vec<Component<Parameter>>, CompFault>
-    ensures heard { IfOk result (λ heard. map (component parameter) heard.items
+/// The components that nodes are heard as, in order. `TooMany` is found before anything is allocated, and a
+/// component that is alone needs no block.
+pub(crate) fn all_heard(alloc: Global, nodes: &[Node]) -> Result<Heard, CompFault>
+    ensures heard { IfOk result (λ heard. map (component parameter) (kept heard)
         ≡ all_heard (elements nodes.now)) }
     ensures too_many { (result ≡ Err CompFault.TooMany) ↔ (MAX_COMPONENTS < length nodes.now) }
 {
     if nodes.len() > MAX_COMPONENTS {
         return Err(CompFault::TooMany);
     }
-    Ok(nodes.iter().map(heard).collect(alloc)?)
+    match nodes {
+        [] => Ok(Heard::Nothing),
+        [only] => Ok(Heard::One(heard(only))),
+        _ => Ok(Heard::More(nodes.iter().map(heard).collect(alloc)?)),
+    }
 }

@@ -1,6 +1,7 @@
 //! A frame with the verdict on it.
 
-ghost use Rattle.std.specs.Prelude.{◌≡◌, IfOk};
+ghost use Rattle.std.specs.Prelude.{◌≡◌, [], IfOk};
+ghost use Rattle.machine.specs.Received.{Discard};
 ghost use Rattle.frames.specs.Frames.{IsVerdict};
 ghost use Rattle.msgarena.specs.Seen.{seen};
 
@@ -8,6 +9,7 @@ use crate::message::Verdict;
 use hlr_types::Peer;
 use std::alloc::{AllocError, Global};
 use std::marker::Model;
+use std::mem;
 
 /// A frame: its source, its octets, and the verdict on them, which is owned. The type guarantees that it is the one verdict of
 /// the definitions.
@@ -59,12 +61,15 @@ impl Indication {
         self.octets.as_slice()
     }
 
-    /// The octets of the frame, which are handed over.
-    pub fn into_octets(self) -> Vec<u8>
-        ensures { result.items ≡ self.octets }
+    /// The octets of the frame, which are taken out of it. What is left has the source and no octets, and is discarded.
+    pub fn take_octets(&mut self) -> Vec<u8>
+        ensures taken { result.items ≡ self.old.octets }
+        ensures left { self.new
+            ≡ record { from = self.old.from; octets = []; verdict = Discard } }
     {
-        let Indication { octets, .. } = self;
-        octets
+        let empty = Vec::new(*self.octets.allocator());
+        self.verdict = Verdict::Discard;
+        mem::replace(&mut self.octets, empty)
     }
 
     /// The verdict on the frame.

@@ -7,6 +7,7 @@
 
 mod components;
 mod fault;
+mod heard;
 mod indication;
 mod message;
 mod parameter;
@@ -14,6 +15,7 @@ mod round;
 mod verdict;
 
 pub use fault::RoundFault;
+pub use heard::Heard;
 pub use indication::Indication;
 pub use message::{ReadMessage, Response, Verdict};
 pub use parameter::{Argument, Parameter};

@@ -3,10 +3,9 @@
 ghost use Rattle.std.specs.Prelude.{◌≡◌, IfOk};
 ghost use Rattle.msgarena.specs.Seen.{message, seen};
 
-use crate::parameter::Parameter;
+use crate::heard::Heard;
 use hlr_types::RemoteId;
 use mapctx::ContextName;
-use q773_comp::Component;
 use q773_dlg::Diagnostic;
 use std::alloc::{AllocError, Global};
 
@@ -25,20 +24,20 @@ pub enum ReadMessage {
     Begin {
         origin: RemoteId,
         context: Option<ContextName>,
-        components: Vec<Component<Parameter>>,
+        components: Heard,
     },
     /// The response is the AARE of the dialogue portion; none if there is no dialogue portion.
     Continue {
         origin: RemoteId,
         destination: RemoteId,
         response: Option<Response>,
-        components: Vec<Component<Parameter>>,
+        components: Heard,
     },
     /// The response is as in a Continue.
     End {
         destination: RemoteId,
         response: Option<Response>,
-        components: Vec<Component<Parameter>>,
+        components: Heard,
     },
     /// Limitation: what it holds besides the destination id is not read.
     Abort {
@@ -70,7 +69,7 @@ impl ReadMessage {
             } => Ok(ReadMessage::Begin {
                 origin: *origin,
                 context: *context,
-                components: components.to_vec(alloc)?,
+                components: components.try_copy(alloc)?,
             }),
             ReadMessage::Continue {
                 origin,
@@ -81,7 +80,7 @@ impl ReadMessage {
                 origin: *origin,
                 destination: *destination,
                 response: *response,
-                components: components.to_vec(alloc)?,
+                components: components.try_copy(alloc)?,
             }),
             ReadMessage::End {
                 destination,
@@ -90,7 +89,7 @@ impl ReadMessage {
             } => Ok(ReadMessage::End {
                 destination: *destination,
                 response: *response,
-                components: components.to_vec(alloc)?,
+                components: components.try_copy(alloc)?,
             }),
             ReadMessage::Abort { destination } => Ok(ReadMessage::Abort {
                 destination: *destination,

@@ -53,28 +53,12 @@ impl Round {
         ensures only { (v : Verdict) → IsVerdict octets.items v
             → IfTaken result (λ taken. taken.verdict ≡ v) }
     {
-        let taken = decoded(alloc, bump, from, octets)?;
+        let verdict = verdict_on(alloc, bump, &octets)?;
         match bump.reset() {
-            Ok(()) => Ok(taken),
-            Err(_) => Err(RoundFault::ResetRefused(taken)),
+            Ok(()) => Ok(Indication::new(from, octets, verdict)),
+            Err(_) => Err(RoundFault::ResetRefused(Indication::new(from, octets, verdict))),
         }
     }
-}
-
-/// The indication of octets that are decoded in the arena.
-fn decoded(
-    alloc: Global,
-    bump: &Bump,
-    from: Peer,
-    octets: Vec<u8>,
-) -> Result<Indication, AllocError>
-    ensures frame { IfOk result (λ found. (found.from ≡ from) × (found.octets ≡ octets.items)) }
-    ensures judged { IfOk result (λ found. IsVerdict octets.items found.verdict) }
-    ensures only { (v : Verdict) → IsVerdict octets.items v
-        → IfOk result (λ found. found.verdict ≡ v) }
-{
-    let verdict = verdict_on(alloc, bump, &octets)?;
-    Ok(Indication::new(from, octets, verdict))
 }
 
 /// The verdict on octets: discarded if they spell no tree within the limits.

@@ -110,8 +110,9 @@ fn begun(alloc: Global, shard: &ShardParts, octets: &[u8]) -> Option<Plan> {
     else {
         return None;
     };
-    let subject = subject_of_begin(shard.directory(), components);
-    plan_begin(alloc, shard, &indication, *origin, components, subject).ok()
+    let heard = components.as_slice();
+    let subject = subject_of_begin(shard.directory(), heard);
+    plan_begin(alloc, shard, &indication, *origin, heard, subject).ok()
 }
 
 /// The plan of new codes.

@@ -42,7 +42,8 @@ pub(crate) fn begun(alloc: Global, indication: &Indication, records: &Records) -
         return None;
     };
     let found = records.get(&subscriber()?);
-    begins(alloc, indication, *origin, components, found, 0, FIRST).ok()
+    let heard = components.as_slice();
+    begins(alloc, indication, *origin, heard, found, 0, FIRST).ok()
 }
 
 /// The outcome of a Begin of these octets.

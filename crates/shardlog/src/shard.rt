@@ -10,6 +10,7 @@ ghost use Rattle.shard_state.specs.Answers.{entry_of};
 ghost use Rattle.shard_state.specs.Shards.{directory_of, state_of};
 ghost use Rattle.hlrcore.specs.Addressees.{IsAddressee};
 ghost use Rattle.hlrcore.specs.Events.{event_of, raw_event, raw_of};
+ghost use Rattle.hlrcore.specs.Spent.{spent};
 ghost use Rattle.shardlog.specs.Entries.{raw_entries};
 ghost use Rattle.shardlog.specs.Handling.{Handles};
 ghost use Rattle.shardlog.specs.Log.{LogKeeps, log};
@@ -90,69 +91,74 @@ impl Shard {
         ensures no_step { HasNoRoom (state_of self.old.state) (event_of event.now) → OnOk result ⊥ }
         ensures err { OnErr result (self.new ≡ self.old) }
     {
-        let event = event.try_copy(self.alloc)?;
-        self.handle_owned(event)
+        let mut event = event.try_copy(self.alloc)?;
+        self.handle_owned(&mut event)
     }
 
-    /// The same for an event that is handed over, so that the journal takes its octets and they are not copied. On error it is dropped.
-    pub fn handle_owned(&mut self, event: Event) -> Result<Handled, ShardFault>
+    /// The same, and the journal takes the event's octets, so that they are not copied. What is left of a frame has no octets, and what is
+    /// left of a change is a withdrawal. On error the event is unchanged too.
+    pub fn handle_owned(&mut self, event: &mut Event) -> Result<Handled, ShardFault>
         // A step of the machine over octets, which leaves each open dialogue as it is that the event does not name.
         ensures handles { IfOk result (λ handled. Handles self.old
-            (raw_of event) handled self.new) }
+            (raw_of event.old) handled self.new) }
         // The invariant of every journal.
         ensures keeps { LogKeeps self.new }
         ensures not_mine { result ≡ Err ShardFault.NotMine
             → route (directory_of self.old.state.directory)
-            (event_of event) ≢ self.old.state.shard }
+            (event_of event.old) ≢ self.old.state.shard }
         ensures mine { route (directory_of self.old.state.directory)
-            (event_of event) ≢ self.old.state.shard
+            (event_of event.old) ≢ self.old.state.shard
             → MatchResult result (λ _. ⊥)
             (λ fault. (fault ≡ ShardFault.NotMine) ⊎ (fault ≡ ShardFault.Memory)) }
         ensures full { result ≡ Err ShardFault.JournalFull
-            → (route (directory_of self.old.state.directory) (event_of event)
+            → (route (directory_of self.old.state.directory) (event_of event.old)
             ≡ self.old.state.shard)
             × (length self.old.entries ≡ MAX_ENTRIES) }
         ensures room { length self.old.entries ≡ MAX_ENTRIES → OnOk result ⊥ }
         ensures no_room { result ≡ Err ShardFault.NoRoom
-            → HasNoRoom (state_of self.old.state) (event_of event) }
-        ensures no_step { HasNoRoom (state_of self.old.state) (event_of event) → OnOk result ⊥ }
+            → HasNoRoom (state_of self.old.state) (event_of event.old) }
+        ensures no_step { HasNoRoom (state_of self.old.state) (event_of event.old) → OnOk result ⊥ }
         ensures err { OnErr result (self.new ≡ self.old) }
+        ensures left { OnOk result (raw_of event.new ≡ spent (raw_of event.old)) }
+        ensures unchanged { OnErr result (event.new ≡ event.old) }
     {
-        let found = addressee_of(self.state().directory(), &event);
+        let found = addressee_of(self.state().directory(), event);
         self.handle_for(event, found)
     }
 
     /// The same for an event of which it is known whom it is for, so that this is not found twice.
-    pub fn handle_for(&mut self, event: Event, found: Addressee) -> Result<Handled, ShardFault>
-        requires { IsAddressee (directory_of self.old.state.directory) (event_of event) found }
+    pub fn handle_for(&mut self, event: &mut Event, found: Addressee) -> Result<Handled, ShardFault>
+        requires { IsAddressee (directory_of self.old.state.directory) (event_of event.old) found }
         // A step of the machine over octets, which leaves each open dialogue as it is that the event does not name.
         ensures handles { IfOk result (λ handled. Handles self.old
-            (raw_of event) handled self.new) }
+            (raw_of event.old) handled self.new) }
         // The invariant of every journal.
         ensures keeps { LogKeeps self.new }
         ensures not_mine { result ≡ Err ShardFault.NotMine
             → route (directory_of self.old.state.directory)
-            (event_of event) ≢ self.old.state.shard }
+            (event_of event.old) ≢ self.old.state.shard }
         ensures mine { route (directory_of self.old.state.directory)
-            (event_of event) ≢ self.old.state.shard
+            (event_of event.old) ≢ self.old.state.shard
             → MatchResult result (λ _. ⊥)
             (λ fault. (fault ≡ ShardFault.NotMine) ⊎ (fault ≡ ShardFault.Memory)) }
         ensures full { result ≡ Err ShardFault.JournalFull
-            → (route (directory_of self.old.state.directory) (event_of event)
+            → (route (directory_of self.old.state.directory) (event_of event.old)
             ≡ self.old.state.shard)
             × (length self.old.entries ≡ MAX_ENTRIES) }
         ensures room { length self.old.entries ≡ MAX_ENTRIES → OnOk result ⊥ }
         ensures no_room { result ≡ Err ShardFault.NoRoom
-            → HasNoRoom (state_of self.old.state) (event_of event) }
-        ensures no_step { HasNoRoom (state_of self.old.state) (event_of event) → OnOk result ⊥ }
+            → HasNoRoom (state_of self.old.state) (event_of event.old) }
+        ensures no_step { HasNoRoom (state_of self.old.state) (event_of event.old) → OnOk result ⊥ }
         ensures err { OnErr result (self.new ≡ self.old) }
+        ensures left { OnOk result (raw_of event.new ≡ spent (raw_of event.old)) }
+        ensures unchanged { OnErr result (event.new ≡ event.old) }
     {
         if self.entries.len() >= MAX_ENTRIES {
             return Err(self.refusal(found.shard));
         }
         self.entries.reserve(1)?;
-        let answer = self.state.step_for(&event, found)?;
-        Ok(append(&mut self.entries, event.into_raw(), answer))
+        let answer = self.state.step_for(event, found)?;
+        Ok(append(&mut self.entries, event.take_raw(), answer))
     }
 
     /// Handles the expiry of this shard's least timer that is due, if any: as `handle` does, with nothing to read or to copy.

@@ -1,7 +1,7 @@
 //! Why a run stops early.
 
 ghost use Rattle.std.specs.Prelude.{◌≡◌, ◌≢◌};
-ghost use Rattle.wholenode.specs.Causes.{unhandled};
+ghost use Rattle.wholenode.specs.Causes.{unhandled, unread};
 
 use hlrcore::EventFault;
 use shardlog::{Handled, ShardFault};
@@ -43,17 +43,13 @@ impl From<AllocError> for Cause {
     }
 }
 
-impl From<EventFault> for Cause {
-    ghost use Rattle.std.specs.Prelude.{◌≡◌};
-    ghost use Rattle.wholenode.specs.Causes.{unread};
-
-    ghost from_gives = { λ fault cause. cause ≡ unread fault };
-
-    fn from(fault: EventFault) -> Cause {
-        match fault {
-            EventFault::Memory => Cause::Memory,
-            EventFault::ResetRefused(_) => Cause::ResetRefused,
-        }
+/// Why an event was not read.
+pub(crate) fn unread(fault: &EventFault) -> Cause
+    ensures { result ≡ unread fault.now }
+{
+    match fault {
+        EventFault::Memory => Cause::Memory,
+        EventFault::ResetRefused(_) => Cause::ResetRefused,
     }
 }
 

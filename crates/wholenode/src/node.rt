@@ -1,14 +1,14 @@
 //! The sixteen shards of a register, in one thread.
 
 ghost use Rattle.std.specs.Prelude.{◌≡◌, ◌<◌, [], map, IfOk, IfErr, OnOk, OnErr};
-ghost use Rattle.frames.specs.Octets.{RawClock, RawExpire};
-ghost use Rattle.hlrcore.specs.Events.{raw_event};
+ghost use Rattle.frames.specs.Octets.{IsEvent, RawClock, RawExpire};
+ghost use Rattle.hlrcore.specs.Events.{event_of, raw_event, raw_of};
 ghost use Rattle.wholenode.specs.Nodes.{whole};
 ghost use Rattle.wholenode.specs.Opening.{BeginsWith};
 ghost use Rattle.wholenode.specs.Handling.{Cuts, Drops, IsRun, Refuses, Runs, Stops, Takes, sent_of};
 ghost use Rattle.wholenode.specs.Keeping.{NodeKeeps};
 
-use crate::fault::{Cause, NodeFault, refusal};
+use crate::fault::{Cause, NodeFault, refusal, unread};
 use crate::opening::opening_shards;
 use bumpalo::Bump;
 use hlrcore::{Event, RawEvent, ShardNumber, addressee_of};
@@ -206,8 +206,24 @@ impl Node {
         ensures err { OnErr result (self.new ≡ self.old) }
         ensures keeps { NodeKeeps self.new }
     {
-        let event = Event::of_owned(self.alloc, bump, raw)?;
-        let found = addressee_of(&self.directory, &event);
+        // What is read stays where it is made, since it has room for whatever a frame may hold.
+        let mut read = Event::of_owned(self.alloc, bump, raw);
+        match &mut read {
+            Ok(event) => self.handle_read(event),
+            Err(fault) => Err(unread(fault)),
+        }
+    }
+
+    /// Handles an event that was read, and takes its octets. On error nothing changes.
+    fn handle_read(&mut self, event: &mut Event) -> Result<Handled, Cause>
+        requires { IsEvent (raw_of event.old) (event_of event.old) }
+        ensures takes { IfOk result (λ handled. Takes self.old
+            (raw_of event.old) handled self.new) }
+        ensures refused { IfErr result (λ cause. Refuses self.old (raw_of event.old) cause) }
+        ensures err { OnErr result (self.new ≡ self.old) }
+        ensures keeps { NodeKeeps self.new }
+    {
+        let found = addressee_of(&self.directory, event);
         let place = usize::from(found.shard);
         let shard = &mut self.shards[place];
         match shard.handle_for(event, found) {

@@ -26,10 +26,14 @@ pub(crate) fn read(alloc: Global, bump: &mut Bump, raw: &RawEvent) -> Result<Eve
     }
 }
 
-/// Handles an event in its locked shard. The receipt says where its entry stands.
-pub(crate) fn apply(shard: &mut Shard, number: ShardNumber, event: Event) -> Result<Placed, Refusal>
+/// Handles an event in its locked shard, whose journal takes its octets. The receipt says where its entry stands.
+pub(crate) fn apply(
+    shard: &mut Shard,
+    number: ShardNumber,
+    event: &mut Event,
+) -> Result<Placed, Refusal>
     ensures ok { IfOk result (λ placed. IsPlaced number shard.old
-        (raw_of event) placed shard.new) }
+        (raw_of event.old) placed shard.new) }
     ensures err { OnErr result (shard.new ≡ shard.old) }
 {
     let handled = shard.handle_owned(event)?;

@@ -155,7 +155,7 @@ impl Office {
     {
         let number = job.number;
         let answer = match read(alloc, bump, &job.event) {
-            Ok(event) => self.enter(rt, number, event, gate),
+            Ok(mut event) => self.enter(rt, number, &mut event, gate),
             Err(refusal) => Err(refusal),
         };
         let receipt = Receipt {
@@ -171,10 +171,10 @@ impl Office {
         &self,
         rt: &R,
         job: JobNumber,
-        event: Event,
+        event: &mut Event,
         gate: &G,
     ) -> Result<Placed, Refusal> {
-        let place = route(self.bases[0].directory(), &event);
+        let place = route(self.bases[0].directory(), event);
         let number = ShardNumber::new(place).unwrap();
         let mut shard = self.locks[usize::from(place)].lock(rt);
         gate.inside(job.get());

@@ -1,56 +1,59 @@
-use Rattle.std.proofs.Common.{◌++◌, ◌||◌, nat_eq, map, take, sym, ap, ◌∙◌, arith}
+use Rattle.std.proofs.Common.{◌+◌, ◌++◌, ◌||◌, [], false, map, take, sym, ap, ◌∙◌}
 use Rattle.std.specs.List.{list_any}
-use Rattle.machine.specs.State.{Invocation, is_sent, any_sent}
-use Rattle.machine.specs.Effect.{effect, invocations_after, conclusion_of}
+use Rattle.machine.specs.State.{Invocation, is_sent}
+use Rattle.machine.specs.Effect.{effect, starts}
 use Rattle.machine_laws.proofs.Rising.{rising_after}
 use Rattle.q773_comp.specs.Seen.{rejection}
 use Rattle.csl.specs.Seen.{heard}
 use Rattle.csl.specs.Effects.{offered, reject_now}
-use Rattle.csl.proofs.Places.{any_sent_is}
-use Rattle.csl.proofs.Hearing.{AreHeard, none_heard, one_heard, rejections_push, all_heard}
+use Rattle.csl.proofs.Places.{first_of, none_first, rest_of}
+use Rattle.csl.proofs.Hearing.{all_heard, heard_effect, later_one, none_heard, rejections_push}
 use Rattle.csl.proofs.effect.receive_each.Goals as goal
 
-pub loop-place-init : goal.loop-place-init
-loop-place-init g c = rw c.new-rejects.ensures.items (none_heard c.args.now (offered c.args.offer.now) c.args.list.now.items)
+pub returns-in_default-clause-effect : goal.returns-in_default-clause-effect
+returns-in_default-clause-effect g c =
+    rw (none_first c.args.components.now c.in_default.len_below)
+    (heard_effect {P = g.row.P.Denot} c.args.now (offered c.args.offer.now) c.args.list.now.items [] _ c.args.list.now.items false _
+    (rw c.effect_of_none.ensures.rejects (none_heard c.args.now (offered c.args.offer.now) c.args.list.now.items)) c.effect_of_none.ensures.started
+    c.effect_of_none.ensures.conclusion (ap (list_any (λ (own : Invocation). is_sent own.was)) c.deref.ensures))
 
-pub conclude-has_failed-requires-clause-rising : goal.conclude-has_failed-requires-clause-rising
-conclude-has_failed-requires-clause-rising g c = rw c.loop-place.invariant.moved
-    (rising_after {P = g.row.P.Denot} c.args.now (map heard (take c.loop-place.place c.args.components.now)) c.args.list.now.items c.requires.rising)
+pub returns-in_default-clause-after : goal.returns-in_default-clause-after
+unfolding effect
+returns-in_default-clause-after g c =
+    rw (none_first c.args.components.now c.in_default.len_below)
+    (none_heard {P = g.row.P.Denot} c.args.now (offered c.args.offer.now) c.args.list.now.items).moved
 
-pub loop-place-preserved : goal.loop-place-preserved
-loop-place-preserved g c =
-    one_heard c.args.now
-    (offered c.args.offer.now) c.args.list.now.items c.args.components.now c.loop-place.place c.index-components-place.result c.loop-place.list.items
-    (map rejection c.loop-place.rejects.items)
-    c.loop-place.has_failed c.loop-place.invariant c.requires.rising
-    (omega (arith, c.loop-place-test.true)) c.index-components-place.is c.started_by-started.result
-    (rw c.deref.ensures at c.started_by-started.ensures) _ _ _ c.conclude-has_failed.ensures.after
-    (ap (map rejection) c.in_ok-push_rejection.ensures ∙ rejections_push c.loop-place.rejects.items c.rejection_of-rejection.result
-    ∙ ap (λ rs. map rejection c.loop-place.rejects.items ++ rs) (c.rejection_of-rejection.ensures
-    ∙ ap (λ vs. reject_now (offered c.args.offer.now) vs c.started_by-started.result (nat_eq c.loop-place.place 0)
-    (heard c.index-components-place.result)) c.deref-in-loop-place.ensures))
-    (ap (λ b. c.loop-place.has_failed || b) c.conclude-has_failed.ensures.failed)
+pub conclude-has_failed-requires-in-loop-component-clause-rising : goal.conclude-has_failed-requires-in-loop-component-clause-rising
+conclude-has_failed-requires-in-loop-component-clause-rising g c = rw c.loop-component.invariant.moved
+    (rising_after {P = g.row.P.Denot} c.args.now (map heard (take (c.loop-component.component-index + 1) c.args.components.now)) c.args.list.now.items
+    c.requires.rising)
+
+pub loop-component-preserved : goal.loop-component-preserved
+loop-component-preserved g c =
+    let started = c.first_heard-started.result.0 in
+    let whole = first_of c.args.components.now c.first-item.result c.in-len1-up.len_at_least c.first-item.is in
+    later_one c.args.now (offered c.args.offer.now) c.args.list.now.items c.requires.rising c.args.components.now c.first-item.result
+    (rest_of c.args.components.now) whole c.loop-component.component-index c.component-item.result c.loop-component-test.true c.component-item.is
+    started (rw c.deref-2.ensures at c.first_heard-started.ensures.started) _ _ _ c.loop-component.invariant _ _ _
+    c.conclude-has_failed-in-loop-component.ensures.after
+    (ap (map rejection) c.in_ok-push_rejection-2.ensures ∙ rejections_push c.loop-component.rejects.items c.rejection_of-rejection.result
+    ∙ ap (λ rs. map rejection c.loop-component.rejects.items ++ rs) (c.rejection_of-rejection.ensures
+    ∙ ap (λ vs. reject_now (offered c.args.offer.now) vs started false (heard c.component-item.result)) c.deref-in-loop-component.ensures))
+    (ap (λ b. c.loop-component.has_failed || b) c.conclude-has_failed-in-loop-component.ensures.failed)
 
 pub returns-clause-effect : goal.returns-clause-effect
-unfolding effect
 returns-clause-effect g c =
-    let all : AreHeard c.args.now (offered c.args.offer.now) c.args.list.now.items
-    (map (heard {P = g.row.P.Denot}) c.args.components.now) c.loop-place.list.items (map rejection c.loop-place.rejects.items) c.loop-place.has_failed =
-    all_heard c.args.now
-    (offered c.args.offer.now) c.args.list.now.items c.args.components.now c.loop-place.place _ _ _ c.loop-place.invariant c.loop-place-test.false in
-    record {
-      rejects = all.rejected;
-      started = rw c.deref.ensures at c.started_by-started.ensures;
-      conclusion =
-          c.conclusion_of.ensures ∙ ap (conclusion_of c.loop-place.has_failed)
-          (c.any_sent-still_sent.ensures ∙ ap (list_any (λ (own : Invocation). is_sent own.was)) c.deref-2.ensures
-          ∙ sym (any_sent_is c.loop-place.list.items) ∙ ap any_sent all.moved)
-          ∙ ap (λ b. conclusion_of b (any_sent (invocations_after c.args.now
-          (map (heard {P = g.row.P.Denot}) c.args.components.now) c.args.list.now.items))) all.has_failed;
-    }
+    let whole = first_of c.args.components.now c.first-item.result c.in-len1-up.len_at_least c.first-item.is in
+    heard_effect c.args.now (offered c.args.offer.now) c.args.list.now.items (map heard c.args.components.now) _ _ _ _
+    (all_heard c.args.now (offered c.args.offer.now) c.args.list.now.items c.requires.rising c.args.components.now c.first-item.result
+    (rest_of c.args.components.now) whole c.loop-component.component-index _ _ _ c.loop-component.invariant c.loop-component-test.false)
+    ((rw c.deref-2.ensures at c.first_heard-started.ensures.started)
+    ∙ sym (ap (λ xs. starts (offered c.args.offer.now) c.args.list.now.items (map (heard {P = g.row.P.Denot}) xs)) whole))
+    c.conclusion_of.ensures (c.any_sent-still_sent.ensures ∙ ap (list_any (λ (own : Invocation). is_sent own.was)) c.deref-3.ensures)
 
 pub returns-clause-after : goal.returns-clause-after
 unfolding effect
 returns-clause-after g c =
-    (all_heard c.args.now
-    (offered c.args.offer.now) c.args.list.now.items c.args.components.now c.loop-place.place _ _ _ c.loop-place.invariant c.loop-place-test.false).moved
+    let whole = first_of c.args.components.now c.first-item.result c.in-len1-up.len_at_least c.first-item.is in
+    (all_heard c.args.now (offered c.args.offer.now) c.args.list.now.items c.requires.rising c.args.components.now c.first-item.result
+    (rest_of c.args.components.now) whole c.loop-component.component-index _ _ _ c.loop-component.invariant c.loop-component-test.false).moved

@@ -1,11 +1,6 @@
-use Rattle.std.proofs.Common.{sym, subst, map}
-use Rattle.machine.specs.Effect.{AreRising, effect}
-use Rattle.machine_laws.proofs.Rising.{rising_after}
-use Rattle.csl.specs.Seen.{heard}
+use Rattle.machine.specs.Effect.{effect}
 use Rattle.csl.proofs.invocations.Invocations.receive.Goals as goal
 
-pub replace-requires : goal.replace-requires
+pub returns-clause-moved : goal.returns-clause-moved
 unfolding effect
-replace-requires g c =
-    let rising = subst AreRising (sym c.in_ok-list.ensures) c.at.ensures.rising in
-    rw c.in_ok-effect.ensures.after (rising_after {P = g.row.P.Denot} c.args.now (map heard c.args.components.now) c.in_ok-list.list.items rising)
+returns-clause-moved g c = c.in_ok-conclude.ensures.ok

@@ -27,7 +27,7 @@ returns-in_err-answer-clause-keeps c =
 pub returns-in_err-answer-clause-no_room : goal.returns-in_err-answer-clause-no_room
 returns-in_err-answer-clause-no_room c = λ none.
     let why = step_had_no_room c.from_residual-in_err-answer.result c.in_err-answer.field-0.0 c.from_residual-in_err-answer.ensures.1 none in
-    subst (λ (s : ShardState). HasNoRoom (state_of s) (event_of c.args.event)) (ap (λ l. l.state) c.self.view_is)
+    subst (λ (s : ShardState). HasNoRoom (state_of s) (event_of c.args.event.now)) (ap (λ l. l.state) c.self.view_is)
     (c.in_err-answer.ensures.no_room (ap (λ (f : StepFault). Err f) why))
 
 pub returns-in_err-answer-clause-full : goal.returns-in_err-answer-clause-full
@@ -35,24 +35,24 @@ returns-in_err-answer-clause-full c = λ full.
     absurd (step_has_no_journal c.from_residual-in_err-answer.result c.in_err-answer.field-0.0 c.from_residual-in_err-answer.ensures.1 full)
 
 put : (c : goal.After-append)
-    → raw_entries c.append.new.entries.items ≡ raw_entries c.self.inside.entries.items ++ entry_of (raw_of c.args.event) c.in_ok-answer.answer ∷ []
+    → raw_entries c.append.new.entries.items ≡ raw_entries c.self.inside.entries.items ++ entry_of (raw_of c.args.event.now) c.in_ok-answer.answer ∷ []
 put c =
     subst (λ (raw : RawEvent). raw_entries c.append.new.entries.items ≡ raw_entries c.self.inside.entries.items ++ entry_of raw c.in_ok-answer.answer ∷ [])
-    c.into_raw.ensures
+    c.take_raw.ensures.taken
     (subst (λ (es : List Entry). raw_entries c.append.new.entries.items
-    ≡ raw_entries es ++ entry_of (raw_event c.into_raw.result) c.in_ok-answer.answer ∷ [])
+    ≡ raw_entries es ++ entry_of (raw_event c.take_raw.result) c.in_ok-answer.answer ∷ [])
     c.in_ok-reserve.ensures.items c.append.ensures.put)
 
 pub invariant_of-self-2 : goal.invariant_of-self-2
 invariant_of-self-2 c =
     handled_log c.self.inside.base c.self.inside.state c.step_for.new.self c.self.inside.entries.items c.append.new.entries.items
-    (raw_of c.args.event) c.in_ok-answer.answer
+    (raw_of c.args.event.now) c.in_ok-answer.answer
     c.self.invariant (put c) c.in_ok-answer.ensures.routed c.in_ok-answer.ensures.stepped c.in_ok-answer.ensures.same_shard (search rules)
 
 pub returns-clause-handles : goal.returns-clause-handles
 returns-clause-handles c =
     handles c.args.self.now c.self.inside.base c.self.inside.state c.step_for.new.self c.self.inside.entries.items c.append.new.entries.items
-    (raw_of c.args.event)
+    (raw_of c.args.event.now)
     c.in_ok-answer.answer _ c.self.view_is (put c) c.in_ok-answer.ensures.stepped c.append.ensures.outs (search rules)
 
 pub returns-clause-keeps : goal.returns-clause-keeps
@@ -61,4 +61,4 @@ returns-clause-keeps c = log_keeps _ (invariant_of-self-2 c)
 pub returns-clause-no_step : goal.returns-clause-no_step
 returns-clause-no_step c = λ none.
     c.in_ok-answer.ensures.room
-    (subst (λ (s : ShardState). HasNoRoom (state_of s) (event_of c.args.event)) (sym (ap (λ l. l.state) c.self.view_is)) none)
+    (subst (λ (s : ShardState). HasNoRoom (state_of s) (event_of c.args.event.now)) (sym (ap (λ l. l.state) c.self.view_is)) none)
