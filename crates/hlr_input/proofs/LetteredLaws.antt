@@ -1,40 +1,36 @@
--- The lines of a text without a letter have none.
-use Rattle.std.proofs.Common.{◌≡◌, ℕ, Bool, true, false, cond, List, [], ◌∷◌, length, refl, sym, subst, inl, inr}
-use Rattle.std.specs.Prelude.{◌==◌}
-use Rattle.std.specs.List.{onto_first}
-use Rattle.std.proofs.lemmas.Bool.{cases_Bool, or_parts}
-use Rattle.std.proofs.lemmas.List.Splits.{slice_split-cons_yes, slice_split-cons_no}
-use Rattle.records.specs.File.{lines, parts, without_empty_last}
+-- Lines with a letter, and without.
+use Rattle.std.proofs.Common.{◌≡◌, ℕ, ◌+◌, ◌<◌, false, List, [], ◌∷◌, ◌++◌, subst, ap, ◌∙◌, refl, sym, arith}
+use Rattle.std.specs.Prelude.{◌==◌, codes}
+use Rattle.std.specs.List.{AllByRecursion, join_with_byte}
+use Rattle.std.proofs.lemmas.Bool.{or_parts}
+use Rattle.hlr_types.specs.DigitTexts.{text_of}
+use Rattle.records.specs.File.{parts}
+use Rattle.records.specs.Spelling.{IsNumber}
+use Rattle.records.proofs.FieldLaws.{joined_again}
+use Rattle.records.proofs.PartsLemmas.{parts_cons}
 use Rattle.hlr_input.specs.Lettered.{has_letter, have_letters}
 
-none_onto : (x : ℕ) (ps : List (List ℕ)) → (x == 36) ≡ false → have_letters ps ≡ false → have_letters (onto_first x ps) ≡ false
-none_onto x [] other h = rw other refl
-none_onto x (p ∷ ps) other h = rw other h
+digit_is_none : (d : ℕ) → d < 10 → (d + 48 == 36) ≡ false
+digit_is_none d small = grind (arith)
 
-none_in_parts : (text : List ℕ) → has_letter text ≡ false → have_letters (parts 10 text) ≡ false
-none_in_parts [] none = refl
-none_in_parts (x ∷ xs) none =
-    let p = or_parts (x == 36) (has_letter xs) none in
-    elim (cases_Bool (x == 10)) [
-      | inl feed ↦ subst (λ (ps : List (List ℕ)). have_letters ps ≡ false) (sym (slice_split-cons_yes (λ b. b == 10) x xs feed)) (none_in_parts xs p.1)
-      | inr other ↦ subst (λ (ps : List (List ℕ)). have_letters ps ≡ false) (sym (slice_split-cons_no (λ b. b == 10) x xs other))
-          (none_onto x (parts 10 xs) p.0 (none_in_parts xs p.1))
-    ]
+none_in_digits : (digits : List ℕ) → AllByRecursion (λ d. d < 10) digits → has_letter (text_of digits) ≡ false
+none_in_digits [] each = refl
+none_in_digits (d ∷ ds) each = rw (digit_is_none d each.0, none_in_digits ds each.1) refl
 
-none_without_last : (ps : List (List ℕ)) → have_letters ps ≡ false → have_letters (without_empty_last ps) ≡ false
-none_without_last [] none = refl
-none_without_last (p ∷ []) none = kept (length p == 0)
-  where
-    kept : (empty : Bool) → have_letters (cond empty [] (p ∷ [])) ≡ false
-    kept true = refl
-    kept false = none
-none_without_last (p ∷ q ∷ more) none =
-    let h = or_parts (has_letter p) (have_letters (q ∷ more)) none in
-    rw h.0 (none_without_last (q ∷ more) h.1)
+none_before : (front rest : List ℕ) → has_letter front ≡ false → has_letter (front ++ rest) ≡ has_letter rest
+none_before [] rest none = refl
+none_before (x ∷ front) rest none = let p = or_parts (x == 36) (has_letter front) none in rw p.0 (none_before front rest p.1)
 
-pub none_in_lines : (text : List ℕ) → has_letter text ≡ false → have_letters (lines text) ≡ false
-unfolding lines
-none_in_lines text none = none_without_last (parts 10 text) (none_in_parts text none)
+-- a frame's line has one where its octets have
+pub letter_of_frame : (line field from : List ℕ) → (number : List ℕ) × IsNumber number from × (parts 32 line ≡ codes "F" ∷ number ∷ parts 32 field)
+    → has_letter line ≡ has_letter field
+letter_of_frame line field from (number, (written, some), are) =
+    let p = parts_cons 32 field in
+    let whole : line ≡ 70 ∷ 32 ∷ (number ++ 32 ∷ join_with_byte 32 (p.0 ∷ p.1)) =
+    joined_again 32 line ∙ ap (join_with_byte 32) (are ∙ ap (λ (ps : List (List ℕ)). codes "F" ∷ number ∷ ps) p.2) in
+    let rest : join_with_byte 32 (p.0 ∷ p.1) ≡ field = sym (joined_again 32 field ∙ ap (join_with_byte 32) p.2) in
+    let none : has_letter number ≡ false = ap has_letter written ∙ none_in_digits from some.each in
+    ap has_letter whole ∙ none_before number (32 ∷ join_with_byte 32 (p.0 ∷ p.1)) none ∙ ap has_letter rest
 
 -- what is left of them has none
 pub none_behind : (whole : List (List ℕ)) (line : List ℕ) (rest : List (List ℕ)) → whole ≡ line ∷ rest → have_letters whole ≡ false → have_letters rest ≡ false

@@ -4,6 +4,7 @@ pub mod DigitLaws
 pub mod LineLaws
 pub mod SpaceLaws
 pub mod FrameLaws
+pub mod PlaceLaws
 pub mod LetteredLaws
 pub mod TickLaws
 pub mod LetterLemmas

@@ -1,9 +1,10 @@
 //! The octets of a frame in a script.
 
-ghost use Rattle.std.specs.List.{list_all, list_any};
+ghost use Rattle.std.specs.List.{list_all};
 ghost use Rattle.hex.specs.Hex.{is_hex_digit};
-ghost use Rattle.std.specs.Prelude.{◌==◌, ◌≡◌, ◌↔◌, IsTrue, ℕ, List, [], false, IfOk, IfSome, Some, length, slice_index, option_map};
+ghost use Rattle.std.specs.Prelude.{◌≡◌, ◌↔◌, IsTrue, ℕ, List, [], false, IfOk, IfSome, Some, length, slice_index, option_map};
 ghost use Rattle.hlr_input.specs.declared.group.Group.{Group};
+ghost use Rattle.hlr_input.specs.Lettered.{has_letter};
 ghost use Rattle.hlr_input.specs.Octets.{IsOctets, octets_of, are_known};
 ghost use Rattle.hlr_input.specs.Reading.{group_in, letter_in, are_groups, octets_stand, stands, octets_after, octets_in};
 ghost use Rattle.records.specs.Reading.{octet_in};
@@ -23,6 +24,17 @@ pub fn are_octets(text: &[u8]) -> bool
     stand(text, MAX_LETTERS)
 }
 
+/// Whether the text is octets of a frame, one or more, without a letter: two hexadecimal digits for each.
+pub(crate) fn are_digit_pairs(text: &[u8]) -> bool
+    ensures octets { IsTrue result → (groups : List Group) × IsOctets text.now groups }
+    ensures no_letter { IsTrue result → has_letter text.now ≡ false }
+{
+    if text.is_empty() || text.len() % 2 != 0 {
+        return false;
+    }
+    are_digits(text)
+}
+
 /// Whether each letter of a frame's octets has an id, if the first `known` letters have one.
 #[tactic(auto, using(crate::proofs::OctetLaws::stand_known))]
 pub fn have_ids(text: &[u8], known: usize) -> bool
@@ -33,7 +45,7 @@ pub fn have_ids(text: &[u8], known: usize) -> bool
 
 /// Whether a text has a `$`.
 pub fn has_letter(text: &[u8]) -> bool
-    ensures { result ≡ list_any (λ character. character == 36) text.now }
+    ensures { result ≡ has_letter text.now }
 {
     text.contains(&b'$')
 }
@@ -47,18 +59,6 @@ fn stand(text: &[u8], known: usize) -> bool
     }
     if text.is_empty() {
         return false;
-    }
-    are_groups(text, known)
-}
-
-/// Whether the text is groups of two characters, with no letter but the first `known`. Most texts have no letter, and are gone
-/// through once, as digits alone.
-#[tactic(auto, using(crate::proofs::DigitLaws::digits_stand))]
-fn are_groups(text: &[u8], known: usize) -> bool
-    ensures { result ≡ are_groups known text.now }
-{
-    if text.len() % 2 == 0 && are_digits(text) {
-        return true;
     }
     groups_stand(text, known)
 }
@@ -82,7 +82,7 @@ fn is_digit(character: u8) -> bool
     character.is_ascii_hexdigit()
 }
 
-/// The same, of a text that may have letters.
+/// Whether the text is groups of two characters, with no letter but the first `known`.
 fn groups_stand(text: &[u8], known: usize) -> bool
     ensures { result ≡ are_groups known text.now }
 {

@@ -24,5 +24,5 @@ pub use item::{Item, LineFault};
 pub use letters::Letters;
 pub use line::{check_line, read_checked, read_line};
 pub use options::{Options, WordsFault};
-pub use place::{Numbered, Place};
+pub use place::{Lines, Numbered, Place};
 pub use words::read_words;

@@ -4,6 +4,7 @@ ghost use Rattle.std.specs.Prelude.{◌≡◌, ◌<◌, ◌∷◌, length, optio
 ghost use Rattle.records.specs.File.{parts};
 ghost use Rattle.records.specs.Spelling.{IsImsiNumber};
 ghost use Rattle.hlr_input.specs.declared.group.Group.{Group};
+ghost use Rattle.hlr_input.specs.Lettered.{has_letter};
 ghost use Rattle.hlr_input.specs.Octets.{IsOctets};
 ghost use Rattle.hlr_input.specs.Script.{Line, IsLine, IsGoodLine, line_of};
 ghost use Rattle.hlr_input.specs.Reading.{Reads, is_closed, says_word, says_two, says_three};
@@ -11,7 +12,7 @@ ghost use Rattle.records.specs.Reading.{imsi_in, parts_left};
 ghost use Rattle.hlr_input.specs.declared.item.LineFault.TheVariants.{Bad, Memory};
 
 use crate::frame_line::read_frame_line;
-use crate::frame_octets::are_octets;
+use crate::frame_octets::{are_digit_pairs, are_octets, has_letter};
 use crate::item::{Item, LineFault};
 use crate::ticks::ticks;
 use hlr_types::{Digits, Imsi, Peer};
@@ -55,9 +56,10 @@ pub fn read_checked<'a>(line: &'a [u8]) -> Item<'a>
     }
 }
 
-/// Checks that a line has one of the forms, its octets too.
-pub fn check_line(_alloc: Global, line: &[u8]) -> Result<(), LineFault>
+/// Checks that a line has one of the forms, its octets too. Returns whether it has a letter.
+pub fn check_line(_alloc: Global, line: &[u8]) -> Result<bool, LineFault>
     ensures good { OnOk result ((said : Line) × IsGoodLine line.now said) }
+    ensures letter { IfOk result (λ lettered. lettered ≡ has_letter line.now) }
     ensures bad { result ≡ Err LineFault.Bad → (said : Line) → IsGoodLine line.now said → ⊥ }
 {
     if let Some(frame) = read_frame_line(line) {
@@ -66,20 +68,24 @@ pub fn check_line(_alloc: Global, line: &[u8]) -> Result<(), LineFault>
     match read_open(line) {
         // A good line that is a frame's is read above.
         Ok(Item::Frame { .. }) => Err(LineFault::Bad),
-        Ok(_) => Ok(()),
+        Ok(_) => Ok(has_letter(line)),
         Err(fault) => Err(fault),
     }
 }
 
-fn check_octets(octets: &[u8]) -> Result<(), LineFault>
+/// The same for the octets of a frame. Most have no letter, and are gone through once, as digits alone.
+fn check_octets(octets: &[u8]) -> Result<bool, LineFault>
     ensures good { OnOk result ((groups : List Group) × IsOctets octets.now groups) }
+    ensures letter { IfOk result (λ lettered. lettered ≡ has_letter octets.now) }
     ensures bad { OnErr result ((groups : List Group) → IsOctets octets.now groups → ⊥) }
 {
-    if are_octets(octets) {
-        Ok(())
-    } else {
-        Err(LineFault::Bad)
+    if are_digit_pairs(octets) {
+        return Ok(false);
     }
+    if are_octets(octets) {
+        return Ok(has_letter(octets));
+    }
+    Err(LineFault::Bad)
 }
 
 /// Whether the item has no further field: whether a frame's octets have no space.

@@ -1,5 +1,6 @@
 -- What is checked line by line.
-use Rattle.std.proofs.Common.{◌≡◌, ℕ, ◌+◌, true, false, List, [], ◌∷◌, ◌++◌, sym, ap, subst, ◌∙◌, inl, inr, refl}
+use Rattle.std.proofs.Common.{◌≡◌, ℕ, ◌+◌, Bool, true, false, List, [], ◌∷◌, ◌++◌, append_assoc, length, map, sym, ap, subst, ◌∙◌, inl, inr, refl}
+use Rattle.std.proofs.lemmas.List.{append-nil}
 use Rattle.std.specs.List.{AllByRecursion, list_any, join_with_byte}
 use Rattle.std.proofs.lemmas.Bool.{cases_Bool, or_parts, cond-true, cond-false}
 use Rattle.std.specs.Prelude.{◌==◌, codes}
@@ -82,3 +83,29 @@ no_letters known (line ∷ more) none =
       | inr on ↦ subst (AllByRecursion (HasIds known)) (sym (batch_goes_on (line ∷ more) line more refl on))
           (no_letter known line parts_none.0, no_letters known more parts_none.1)
     ]
+
+-- The lines have no letter, if those that are left have none.
+abbrev pub Lettered : (ls : List (List ℕ)) → Bool → (here : List (List ℕ)) → Type 0
+Lettered ls lettered here = lettered ≡ false → have_letters here ≡ false → have_letters ls ≡ false
+
+pub lettered_goes_on : (ls : List (List ℕ)) (lettered own next : Bool) (here : List (List ℕ)) (line : List ℕ) (rest : List (List ℕ))
+    → Lettered ls lettered here → here ≡ line ∷ rest → own ≡ has_letter line → (next ≡ false → (lettered ≡ false) × (own ≡ false)) → Lettered ls next rest
+lettered_goes_on ls lettered own next here line rest h is found both none left =
+    let p = both none in
+    let line_has : has_letter line ≡ false = sym found ∙ p.1 in
+    h p.0 (ap have_letters is ∙ rw line_has left)
+
+-- ---- lengths
+
+-- The lengths so far, and those of the lines that are left, are those of all.
+abbrev pub Measured : (ls : List (List ℕ)) → List ℕ → (here : List (List ℕ)) → Type 0
+Measured ls lengths here = map length ls ≡ lengths ++ map length here
+
+pub measured_goes_on : (ls : List (List ℕ)) (lengths : List ℕ) (here : List (List ℕ)) (line : List ℕ) (rest : List (List ℕ)) (size : ℕ)
+    → Measured ls lengths here → here ≡ line ∷ rest → size ≡ length line → Measured ls (lengths ++ size ∷ []) rest
+measured_goes_on ls lengths here line rest size h is sized =
+    h ∙ ap (λ (l : List (List ℕ)). lengths ++ map length l) is ∙ ap (λ (n : ℕ). lengths ++ n ∷ map length rest) (sym sized)
+    ∙ sym (append_assoc lengths (size ∷ []) (map length rest))
+
+pub measured_ends : (ls : List (List ℕ)) (lengths : List ℕ) (here : List (List ℕ)) → Measured ls lengths here → here ≡ [] → map length ls ≡ lengths
+measured_ends ls lengths here h none = h ∙ ap (λ (l : List (List ℕ)). lengths ++ map length l) none ∙ append-nil lengths

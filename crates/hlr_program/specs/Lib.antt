@@ -2,6 +2,7 @@ pub mod Printed
 pub mod Statuses
 pub mod Answered
 pub mod Batches
+pub mod Checked
 pub mod Runs
 pub mod Parts
 pub mod Journals

@@ -4,7 +4,7 @@ ghost use Rattle.std.specs.Prelude.{◌≡◌, ◌++◌, ℕ, List, IfOk, OnOk};
 ghost use Rattle.hlr_program.specs.Closing.{Asked, Closes, Lists, SavesLines, behind_v};
 
 use audit::{list_dialogues, list_journal, list_records, save_records};
-use hlr_input::{Options, Place};
+use hlr_input::{Lines, Options};
 use shardlog::Shard;
 use std::alloc::{AllocError, Global};
 
@@ -75,12 +75,12 @@ fn push_saved(alloc: Global, text: &mut Vec<u8>, shards: &[Shard]) -> Result<(),
 fn push_behind_v(text: &mut Vec<u8>, file: &[u8]) -> Result<(), AllocError>
     ensures { OnOk result (text.new.items ≡ text.old.items ++ behind_v file.now) }
 {
-    let mut place = Place::new(file);
-    'lines: while let Some((line, behind)) = place.next() {
+    let mut left = Lines::new(file);
+    'lines: while let Some((line, behind)) = left.next() {
         text.extend_from_slice(b"V ")?;
         text.extend_from_slice(line.text)?;
         text.push(b'\n')?;
-        place = behind;
+        left = behind;
     }
     Ok(())
 }

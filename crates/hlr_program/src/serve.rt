@@ -1,18 +1,16 @@
 //! A run of the program.
 
 ghost use Rattle.std.specs.Prelude.{◌≡◌, ◌≤◌, ℕ, List, Option, IfOk, IfErr, IfSome, OnOk};
-ghost use Rattle.std.specs.List.{AllByRecursion};
 ghost use Rattle.std.specs.Result.{result_err};
 ghost use Rattle.std.specs.Io.KnownBytes.{Appends};
-ghost use Rattle.records.specs.File.{lines};
 ghost use Rattle.machine.specs.Sound.{Sound};
-ghost use Rattle.hlr_program.specs.Batches.{IsGood};
+ghost use Rattle.hlr_program.specs.Checked.{IsChecked};
 ghost use Rattle.hlr_program.specs.Registers.{state_known};
 ghost use Rattle.hlr_program.specs.Runs.{BatchRun, IsLoadedFrom, opening_of, printed_of};
 ghost use Rattle.hlr_program.specs.Promise.{Ends, RunsAndLists, RunsScript, StopsRecords, StopsScript, StopsRunning, StopsBatches, Tells, status_at};
 
 use crate::batch::{Pending, handle_batch};
-use crate::check::check_script;
+use crate::check::{Script, check_script};
 use crate::fault::Fault;
 use crate::listing::closing_lines;
 use crate::printed::{print, tell};
@@ -112,18 +110,15 @@ fn load_text(alloc: Global, text: &[u8]) -> Result<Loaded, Fault>
 }
 
 /// The script, each line of which has one of the forms.
-fn read_script<R: Read>(alloc: Global, reader: &mut R) -> Result<Vec<u8>, Fault>
-    ensures good { IfOk result (λ script. AllByRecursion IsGood (lines script.items)) }
+fn read_script<R: Read>(alloc: Global, reader: &mut R) -> Result<Script, Fault>
+    ensures checked { IfOk result IsChecked }
     ensures whole { IfOk result (λ script. IfSome (R.remaining reader.old)
-        (λ all. script.items ≡ all)) }
+        (λ all. script.text.items ≡ all)) }
     ensures stops { IfErr result (λ fault. IfSome (R.remaining reader.old)
         (λ all. StopsScript all fault)) }
 {
     match read_all(alloc, reader) {
-        Ok(text) => match check_script(alloc, &text) {
-            Ok(()) => Ok(text),
-            Err(fault) => Err(fault),
-        },
+        Ok(text) => check_script(alloc, text),
         Err(InputFault::Unreadable) => Err(Fault::UnreadableScript),
         Err(InputFault::Memory) => Err(Fault::Memory),
     }
@@ -135,17 +130,17 @@ fn run_loaded<R: Threads + Wait + Sync, W: Write>(
     alloc: Global,
     options: &Options,
     loaded: Loaded,
-    script: &[u8],
+    script: &Script,
     out: &mut W,
 ) -> Result<(), Fault>
-    requires good { AllByRecursion IsGood (lines script.now) }
+    requires checked { IsChecked script.now }
     requires sound { Sound (opening_of loaded) }
     requires workers { options.now.workers ≤ 16 }
     ensures ran { OnOk result ((printed : List ℕ)
-        × RunsAndLists options.now loaded script.now printed
+        × RunsAndLists options.now loaded script.now.text.items printed
         × Appends (W.contents out.old) (W.contents out.new) printed) }
     ensures stops { IfErr result (λ fault.
-        (printed : List ℕ) × StopsRunning options.now loaded script.now fault printed
+        (printed : List ℕ) × StopsRunning options.now loaded script.now.text.items fault printed
         × Appends (W.contents out.old) (W.contents out.new) printed) }
 {
     let ran = run_and_list(rt, alloc, options, loaded, script, out);
@@ -171,17 +166,17 @@ fn run_and_list<R: Threads + Wait + Sync, W: Write>(
     alloc: Global,
     options: &Options,
     loaded: Loaded,
-    script: &[u8],
+    script: &Script,
     out: &mut W,
 ) -> Result<(), Fault>
-    requires good { AllByRecursion IsGood (lines script.now) }
+    requires checked { IsChecked script.now }
     requires sound { Sound (opening_of loaded) }
     requires workers { options.now.workers ≤ 16 }
     ensures ran { OnOk result ((printed : List ℕ)
-        × RunsAndLists options.now loaded script.now printed
+        × RunsAndLists options.now loaded script.now.text.items printed
         × Appends (W.contents out.old) (W.contents out.new) printed) }
     ensures stops { IfErr result (λ fault.
-        (printed : List ℕ) × StopsRunning options.now loaded script.now fault printed
+        (printed : List ℕ) × StopsRunning options.now loaded script.now.text.items fault printed
         × Appends (W.contents out.old) (W.contents out.new) printed) }
 {
     let mut register = Register::new(alloc, loaded, options.workers)?;
@@ -199,20 +194,20 @@ fn run<R: Threads + Wait + Sync, W: Write>(
     rt: &R,
     alloc: Global,
     register: &mut Register,
-    script: &[u8],
+    script: &Script,
     out: &mut W,
 ) -> Result<(), Fault>
-    requires { AllByRecursion IsGood (lines script.now) }
+    requires { IsChecked script.now }
     ensures ran { OnOk result ((batches : List BatchRun)
-        × RunsScript script.now register.old batches register.new
+        × RunsScript script.now.text.items register.old batches register.new
         × Appends (W.contents out.old) (W.contents out.new) (printed_of batches)) }
     ensures stops { IfErr result (λ fault.
-        (printed : List ℕ) × StopsBatches script.now (state_known register.old) fault printed
+        (printed : List ℕ) × StopsBatches script.now.text.items (state_known register.old) fault printed
         × Appends (W.contents out.old) (W.contents out.new) printed) }
 {
     let mut batch = Pending::new(alloc);
     let mut ids = Vec::new(alloc);
-    let mut place = Place::searched(script);
+    let mut place = Place::new(&script.text, script.lettered, &script.lengths);
     'batches: while !place.rest.is_empty() {
         // The letters of a batch stand for ids of those before it.
         ids.clear();

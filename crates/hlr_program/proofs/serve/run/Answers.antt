@@ -12,9 +12,9 @@ use Rattle.hlr_program.proofs.serve.run.Goals as goal
 
 pub batches-init : goal.batches-init
 batches-init g c = record {
-  at = script_begins c.args.register.now c.args.script.now c.searched-place.result.rest.now
-      (g.W.Write.contents c.args.out.now) c.new-batch.result.answers.letters c.searched-place.result.before c.new-batch.ensures.letters
-      c.searched-place.ensures.whole c.searched-place.ensures.first c.requires;
+  at = script_begins c.args.register.now c.args.script.now.text.items c.new-place.result.rest.now
+      (g.W.Write.contents c.args.out.now) c.new-batch.result.answers.letters c.new-place.result.before c.new-batch.ensures.letters
+      (c.new-place.ensures.whole ∙ c.deref.ensures.value) c.new-place.ensures.first c.requires.good;
   none = c.new-batch.ensures.gathered;
   blank = c.new-batch.ensures.text;
 }
@@ -22,10 +22,10 @@ batches-init g c = record {
 pub returns-in_err-extend_from_slice-clause-stops : goal.returns-in_err-extend_from_slice-clause-stops
 returns-in_err-extend_from_slice-clause-stops g c =
     let some : 0 < length c.batches.place.rest.now = search rules in
-    passed_on c.from_residual.result Memory (λ fault. Stopped c.args.script.now c.args.register.now fault (g.W.Write.contents c.args.out.now)
+    passed_on c.from_residual.result Memory (λ fault. Stopped c.args.script.now.text.items c.args.register.now fault (g.W.Write.contents c.args.out.now)
     (g.W.Write.contents c.batches.out))
     c.from_residual.ensures.1
-    (batch_unwritten c.args.register.now c.args.script.now (g.W.Write.contents c.args.out.now)
+    (batch_unwritten c.args.register.now c.args.script.now.text.items (g.W.Write.contents c.args.out.now)
     (g.W.Write.contents c.batches.out) c.batches.batch.answers.letters c.batches.register c.batches.place.rest.now
     c.batches.place.before Memory some c.batches.invariant.at refl)
 
@@ -35,11 +35,11 @@ handle_batch-requires-clause-good g c κs within = good_batch (lines c.batches.p
 pub returns-in_err-place-clause-stops : goal.returns-in_err-place-clause-stops
 returns-in_err-place-clause-stops g c =
     let some : 0 < length c.batches.place.rest.now = search rules in
-    let ids : c.deref.result.now ≡ c.batches.batch.answers.letters = search rules in
+    let ids : c.deref-in-batches.result.now ≡ c.batches.batch.answers.letters = search rules in
     passed_on c.from_residual-in_err-place.result c.in_err-place.field-0.0
-    (λ fault. Stopped c.args.script.now c.args.register.now fault (g.W.Write.contents c.args.out.now) (g.W.Write.contents c.batches.out))
+    (λ fault. Stopped c.args.script.now.text.items c.args.register.now fault (g.W.Write.contents c.args.out.now) (g.W.Write.contents c.batches.out))
     c.from_residual-in_err-place.ensures.1
-    (batch_stopped c.args.register.now c.args.script.now (g.W.Write.contents c.args.out.now)
+    (batch_stopped c.args.register.now c.args.script.now.text.items (g.W.Write.contents c.args.out.now)
     (g.W.Write.contents c.batches.out) c.batches.batch.answers.letters c.batches.register c.batches.place.rest.now
     c.batches.place.before c.in_err-place.field-0.0 some c.batches.invariant.at
     (subst (λ (i : List (List ℕ)). BatchStops i c.batches.place.before (state_known c.batches.register)
@@ -48,18 +48,18 @@ returns-in_err-place-clause-stops g c =
 pub returns-in_err-print-clause-stops : goal.returns-in_err-print-clause-stops
 returns-in_err-print-clause-stops g c =
     let some : 0 < length c.batches.place.rest.now = search rules in
-    let ids : c.deref.result.now ≡ c.batches.batch.answers.letters = search rules in
+    let ids : c.deref-in-batches.result.now ≡ c.batches.batch.answers.letters = search rules in
     let sent = c.in_ok-place.ensures.handles in
-    let written : c.deref-in-batches.result.now ≡ sent_lines sent.0 =
-    c.deref-in-batches.ensures.value ∙ sent.2.text ∙ ap (λ (t : List ℕ). t ++ sent_lines sent.0) c.batches.invariant.blank in
+    let written : c.deref-in-batches-2.result.now ≡ sent_lines sent.0 =
+    c.deref-in-batches-2.ensures.value ∙ sent.2.text ∙ ap (λ (t : List ℕ). t ++ sent_lines sent.0) c.batches.invariant.blank in
     passed_on c.from_residual-in_err-print.result c.in_err-print.field-0.0
-    (λ fault. Stopped c.args.script.now c.args.register.now fault (g.W.Write.contents c.args.out.now) (g.W.Write.contents c.print.new.out))
+    (λ fault. Stopped c.args.script.now.text.items c.args.register.now fault (g.W.Write.contents c.args.out.now) (g.W.Write.contents c.print.new.out))
     c.from_residual-in_err-print.ensures.1
-    (batch_broken c.args.register.now c.args.script.now (g.W.Write.contents c.args.out.now) (g.W.Write.contents c.batches.out)
+    (batch_broken c.args.register.now c.args.script.now.text.items (g.W.Write.contents c.args.out.now) (g.W.Write.contents c.batches.out)
     (g.W.Write.contents c.print.new.out) c.batches.batch.answers.letters
     c.handle_batch.new.batch.answers.letters c.batches.register c.handle_batch.new.register c.batches.place.rest.now
     c.in_ok-place.place.rest.now c.batches.place.before c.in_ok-place.place.before
-    sent.0 c.deref-in-batches.result.now c.in_err-print.field-0.0 some c.batches.invariant.at
+    sent.0 c.deref-in-batches-2.result.now c.in_err-print.field-0.0 some c.batches.invariant.at
     (subst (λ (i : List (List ℕ)). Handles i c.batches.register (batch_of (lines c.batches.place.rest.now))
     sent.0 c.handle_batch.new.register) ids sent.1)
     c.in_ok-place.ensures.behind c.in_ok-place.ensures.number sent.2.ids written c.in_err-print.ensures.failed c.in_err-print.ensures.front)
@@ -67,16 +67,16 @@ returns-in_err-print-clause-stops g c =
 pub batches-preserved : goal.batches-preserved
 batches-preserved g c =
     let some : 0 < length c.batches.place.rest.now = search rules in
-    let ids : c.deref.result.now ≡ c.batches.batch.answers.letters = search rules in
+    let ids : c.deref-in-batches.result.now ≡ c.batches.batch.answers.letters = search rules in
     let sent = c.in_ok-place.ensures.handles in
-    let written : c.deref-in-batches.result.now ≡ sent_lines sent.0 =
-    c.deref-in-batches.ensures.value ∙ sent.2.text ∙ ap (λ (t : List ℕ). t ++ sent_lines sent.0) c.batches.invariant.blank in
+    let written : c.deref-in-batches-2.result.now ≡ sent_lines sent.0 =
+    c.deref-in-batches-2.ensures.value ∙ sent.2.text ∙ ap (λ (t : List ℕ). t ++ sent_lines sent.0) c.batches.invariant.blank in
     record {
-      at = batch_printed c.args.register.now (lines c.args.script.now) (g.W.Write.contents c.args.out.now) (g.W.Write.contents c.batches.out)
+      at = batch_printed c.args.register.now (lines c.args.script.now.text.items) (g.W.Write.contents c.args.out.now) (g.W.Write.contents c.batches.out)
           (g.W.Write.contents c.print.new.out) c.batches.batch.answers.letters
           c.handle_batch.new.batch.answers.letters c.batches.register c.handle_batch.new.register c.batches.place.rest.now
           c.in_ok-place.place.rest.now c.batches.place.before c.in_ok-place.place.before
-          sent.0 c.deref-in-batches.result.now some c.batches.invariant.at
+          sent.0 c.deref-in-batches-2.result.now some c.batches.invariant.at
           (subst (λ (i : List (List ℕ)). Handles i c.batches.register (batch_of (lines c.batches.place.rest.now))
           sent.0 c.handle_batch.new.register) ids sent.1)
           c.in_ok-place.ensures.behind c.in_ok-place.ensures.number sent.2.ids written c.in_ok-print.ensures.printed;
@@ -87,6 +87,6 @@ batches-preserved g c =
 pub returns-clause-ran : goal.returns-clause-ran
 returns-clause-ran g c =
     let none : length c.batches.place.rest.now ≡ 0 = search rules in
-    script_ends c.args.register.now c.args.script.now (g.W.Write.contents c.args.out.now)
+    script_ends c.args.register.now c.args.script.now.text.items (g.W.Write.contents c.args.out.now)
     (g.W.Write.contents c.batches.out) c.batches.batch.answers.letters c.batches.register c.batches.place.rest.now
     c.batches.place.before c.batches.invariant.at (nothing_left c.batches.place.rest.now none)

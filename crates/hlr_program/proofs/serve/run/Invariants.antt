@@ -5,7 +5,7 @@ use Rattle.hlr_program.proofs.serve.run.Given as goal
 
 abbrev pub invariant-batches : goal.invariant-batches
 invariant-batches g l = record {
-  at : AtPlace l.fn.register (lines l.script) (g.W.Write.contents l.fn.out) (g.W.Write.contents l.out) l.batch.answers.letters l.register
+  at : AtPlace l.fn.register (lines l.script.text.items) (g.W.Write.contents l.fn.out) (g.W.Write.contents l.out) l.batch.answers.letters l.register
       l.place.rest.now l.place.before;
   none : l.batch.gathered.items ≡ [];
   blank : l.batch.answers.text.items ≡ [];

@@ -1,8 +1,4 @@
-use Rattle.std.proofs.Common.{◌≡◌, ◌≤◌, List, ℕ, sym, subst, arith}
-use Rattle.std.specs.List.{AllByRecursion}
-use Rattle.records.specs.File.{lines}
-use Rattle.hlr_program.specs.Batches.{IsGood}
-use Rattle.std.specs.Prelude.{IfSome}
+use Rattle.std.proofs.Common.{◌≤◌, arith}
 use Rattle.hlr_program.proofs.EndLemmas.{ends_in_script, ends_loaded, ends_passed_on}
 use Rattle.hlr_program.proofs.serve.serve.Goals as goal
 
@@ -19,9 +15,8 @@ returns-in_err-script-clause-ends g c =
 pub returns-clause-ends : goal.returns-clause-ends
 returns-clause-ends g c =
     let few : c.args.options.now.workers ≤ 16 = omega arith in
-    ends_loaded c.args.options.now c.in_ok-loaded.loaded c.deref.result.now (g.A.Read.remaining c.args.records.now) (g.B.Read.remaining c.args.script.now)
+    ends_loaded c.args.options.now c.in_ok-loaded.loaded c.in_ok-script.script.text.items (g.A.Read.remaining c.args.records.now) (g.B.Read.remaining c.args.script.now)
     (g.W.Write.contents c.args.out.now)
     (g.W.Write.contents c.run_loaded.new.out) few c.in_ok-loaded.ensures.loaded
-    (subst (λ (s : List ℕ). AllByRecursion IsGood (lines s)) (sym c.deref.ensures.value) c.in_ok-script.ensures.good)
-    (subst (λ (s : List ℕ). IfSome (g.B.Read.remaining c.args.script.now) (λ all. s ≡ all)) (sym c.deref.ensures.value) c.in_ok-script.ensures.whole)
+    c.in_ok-script.ensures.checked.good c.in_ok-script.ensures.whole
     c.run_loaded.result c.run_loaded.ensures.ran c.run_loaded.ensures.stops
