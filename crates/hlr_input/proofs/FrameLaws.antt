@@ -1,15 +1,14 @@
 -- A frame's line, which is read apart from the others.
-use Rattle.std.proofs.Common.{◌≡◌, ℕ, ◌+◌, ◌<◌, ◌≤◌, true, false, List, [], ◌∷◌, length, get_or, take, drop, refl, sym, ap, subst, ◌∙◌, arith, inl, inr}
-use Rattle.std.specs.Prelude.{◌==◌, nat_lt, Some, None, codes, Result, Ok, Err, OnOk}
-use Rattle.std.specs.List.{onto_first, position, position_or_len}
-use Rattle.std.proofs.lemmas.Bool.{cases_Bool, eq-eqb, eqb-true, ltb-false}
-use Rattle.std.proofs.lemmas.List.Quantifiers.{position-Some}
-use Rattle.std.proofs.lemmas.List.Sums.{fails_before_first}
-use Rattle.std.proofs.lemmas.List.Splits.{slice_split-cons_yes, slice_split-cons_no}
-use Rattle.hlr_types.specs.DigitTexts.{IsText}
+use Rattle.std.proofs.Common.{◌≡◌, ℕ, ◌+◌, false, List, [], ◌∷◌, ◌++◌, refl, sym, ap, subst, ◌∙◌, arith, inl, inr}
+use Rattle.std.specs.Prelude.{◌==◌, codes, Result, Ok, Err, OnOk}
+use Rattle.std.specs.List.{onto_first, join_with_byte}
+use Rattle.std.proofs.lemmas.Bool.{cases_Bool, eqb-true}
+use Rattle.std.proofs.lemmas.List.Splits.{join_with_byte-slice_split, slice_split-cons_yes, slice_split-cons_no}
+use Rattle.hlr_types.specs.Digits.{AreSomeDigits}
+use Rattle.hlr_types.specs.DigitTexts.{text_of}
 use Rattle.records.specs.File.{parts}
 use Rattle.records.specs.Spelling.{IsNumber}
-use Rattle.records.proofs.PartsLemmas.{parts_at, parts_cons, parts_none}
+use Rattle.records.proofs.PartsLemmas.{parts_cons}
 use Rattle.hlr_input.specs.declared.group.Group.{Group}
 use Rattle.hlr_input.specs.declared.item.LineFault.{LineFault}
 use Rattle.hlr_input.specs.Octets.{IsOctets}
@@ -23,10 +22,6 @@ use Rattle.hlr_input.proofs.SpaceLaws.{octets_free, one_part, spaced}
 pub kind_cut : (line rest : List ℕ) → line ≡ 70 ∷ 32 ∷ rest → parts 32 line ≡ codes "F" ∷ parts 32 rest
 kind_cut line rest is =
     ap (parts 32) is ∙ slice_split-cons_no (λ b. b == 32) 70 (32 ∷ rest) refl ∙ ap (onto_first 70) (slice_split-cons_yes (λ b. b == 32) 32 rest refl)
-
-pub address_cut : (line rest first second : List ℕ) → line ≡ 70 ∷ 32 ∷ rest → parts 32 rest ≡ first ∷ parts 32 second
-    → parts 32 line ≡ codes "F" ∷ first ∷ parts 32 second
-address_cut line rest first second is are = kind_cut line rest is ∙ ap (λ (ps : List (List ℕ)). codes "F" ∷ ps) are
 
 -- a line whose first part is its kind, and which has another part, begins so
 empty_first : (text : List ℕ) (p : List ℕ) (ps : List (List ℕ)) → parts 32 text ≡ [] ∷ p ∷ ps → (rest : List ℕ) × (text ≡ 32 ∷ rest)
@@ -61,24 +56,16 @@ begins_so (x ∷ xs) p ps e =
 
 -- ---- the address
 
-pub space_found : (text : List ℕ) (at : ℕ) → position (λ c. c == 32) text ≡ Some at → parts 32 text ≡ take at text ∷ parts 32 (drop (at + 1) text)
-space_found text at is =
-    let p = position-Some (λ c. c == 32) text at 0 is in
-    parts_at 32 text at p.0 (λ k l e. before k l (p.2 k l) e) (eqb-true (get_or text at 0) 32 p.1)
-  where
-    before : (k : ℕ) → k < at → (get_or text k 0 == 32) ≡ false → get_or text k 0 ≡ 32 → ⊥
-    before k l other e = let same : (get_or text k 0 == 32) ≡ true = eq-eqb (get_or text k 0) 32 e in absurd cc
+-- it has no space, so it ends at the first
+digits_cut : (digits rest : List ℕ) → parts 32 (text_of digits ++ 32 ∷ rest) ≡ text_of digits ∷ parts 32 rest
+digits_cut [] rest = slice_split-cons_yes (λ b. b == 32) 32 rest refl
+digits_cut (d ∷ ds) rest =
+    slice_split-cons_no (λ b. b == 32) (d + 48) (text_of ds ++ 32 ∷ rest) (grind arith) ∙ ap (onto_first (d + 48)) (digits_cut ds rest)
 
-pub no_space_found : (text : List ℕ) → position (λ c. c == 32) text ≡ None → parts 32 text ≡ text ∷ []
-no_space_found text is =
-    elim (cases_Bool (nat_lt (position_or_len (λ c. c == 32) text) (length text))) [
-      | inl lt ↦ let some : Some (position_or_len (λ c. c == 32) text) ≡ None = rw lt at is in absurd cc
-      | inr all ↦ parts_none 32 text (λ k l e.
-          let past : length text ≤ position_or_len (λ c. c == 32) text = ltb-false (position_or_len (λ c. c == 32) text) (length text) all in
-          let other : (get_or text k 0 == 32) ≡ false = fails_before_first (λ c. c == 32) text k 0 (omega (arith, l, past)) in
-          let same : (get_or text k 0 == 32) ≡ true = eq-eqb (get_or text k 0) 32 e in
-          absurd cc)
-    ]
+pub address_cut : (line rest from octets : List ℕ) → line ≡ 70 ∷ 32 ∷ rest → rest ≡ text_of from ++ 32 ∷ octets
+    → parts 32 line ≡ codes "F" ∷ text_of from ∷ parts 32 octets
+address_cut line rest from octets is are =
+    kind_cut line rest is ∙ ap (λ (ps : List (List ℕ)). codes "F" ∷ ps) (ap (parts 32) are ∙ digits_cut from octets)
 
 -- ---- what the line says
 
@@ -114,19 +101,11 @@ frame_alone line first second from are one said is =
 
 -- ---- the number of the address
 
-pub number_read : (written digits from : List ℕ) → IsText written digits → from ≡ digits → IsNumber written from
-number_read written digits from is same = subst (IsNumber written) (sym same) (is.printed, is.some)
-
-pub number_alone : (written digits from : List ℕ) → from ≡ digits → ((others : List ℕ) → IsText written others → Some digits ≡ Some others)
-    → (others : List ℕ) → IsNumber written others → from ≡ others
-number_alone written digits from same one others is =
-    let are : Some digits ≡ Some others = one others (record { some = is.1; printed = is.0 }) in
-    cc same
-
-pub no_number_read : (written : List ℕ) → ((others : List ℕ) → IsText written others → None ≡ Some others) → (others : List ℕ) → IsNumber written others → ⊥
-no_number_read written none others is =
-    let some : None ≡ Some others = none others (record { some = is.1; printed = is.0 }) in
-    absurd cc
+pub number_alone : (text from octets digits : List ℕ) → text ≡ text_of from ++ 32 ∷ octets
+    → ((others rest : List ℕ) → AreSomeDigits others → text ≡ text_of others ++ 32 ∷ rest → (from ≡ others) × (octets ≡ rest))
+    → IsNumber (text_of from) digits → from ≡ digits
+number_alone text from octets digits is only number =
+    (only digits octets number.1 (is ∙ ap (λ (front : List ℕ). front ++ 32 ∷ octets) number.0)).0
 
 -- ---- where no frame is read, the line is no frame's
 
@@ -137,15 +116,13 @@ no_kind line none from octets is =
     let b = begins_so line f.1 (octets ∷ []) (f.2 ∙ ap (λ (k : List ℕ). k ∷ f.1 ∷ octets ∷ []) kind) in
     none b.0 b.1
 
-pub no_address : (line rest : List ℕ) → line ≡ 70 ∷ 32 ∷ rest → parts 32 rest ≡ rest ∷ [] → (from octets : List ℕ) → IsLine line (Frame from octets) → ⊥
-no_address line rest is alone from octets said =
-    subst (λ (ps : List (List ℕ)). Say ps (Frame from octets)) (kind_cut line rest is ∙ ap (λ (ps : List (List ℕ)). codes "F" ∷ ps) alone) said
-
-pub no_number : (line first second : List ℕ) → parts 32 line ≡ codes "F" ∷ first ∷ parts 32 second → ((digits : List ℕ) → IsNumber first digits → ⊥)
+pub no_address : (line rest : List ℕ) → line ≡ 70 ∷ 32 ∷ rest
+    → ((digits octets : List ℕ) → AreSomeDigits digits → rest ≡ text_of digits ++ 32 ∷ octets → ⊥)
     → (from octets : List ℕ) → IsLine line (Frame from octets) → ⊥
-no_number line first second are none from octets said =
-    elim (cases_Bool (has_space second)) [
-      | inl has ↦ spaced line (codes "F") first second are has (Frame from octets) said
-      | inr free ↦ none from
-          (subst (λ (ps : List (List ℕ)). Say ps (Frame from octets)) (are ∙ ap (λ (ps : List (List ℕ)). codes "F" ∷ first ∷ ps) (one_part second free)) said).1
-    ]
+no_address line rest is none from octets said =
+    let f = frame_fields (parts 32 line) from octets said in
+    let number = (subst (λ (ps : List (List ℕ)). Say ps (Frame from octets)) f.2 said).1 in
+    let are : codes "F" ∷ parts 32 rest ≡ f.0 ∷ f.1 ∷ octets ∷ [] = sym (kind_cut line rest is) ∙ f.2 in
+    let two : parts 32 rest ≡ f.1 ∷ octets ∷ [] = cc in
+    let joined : rest ≡ f.1 ++ 32 ∷ octets = sym (join_with_byte-slice_split 32 rest) ∙ ap (join_with_byte 32) two in
+    none from octets number.1 (joined ∙ ap (λ (front : List ℕ). front ++ 32 ∷ octets) number.0)

@@ -1,7 +1,6 @@
 //! A frame's line of a script. Nearly all lines are frames, so they are read apart from the others, with no room for what those say.
 
-ghost use Rattle.std.specs.Prelude.{◌≡◌, ◌==◌, ◌∷◌, [], ℕ, List, IfSome, IfNone, codes};
-ghost use Rattle.std.specs.List.{position};
+ghost use Rattle.std.specs.Prelude.{◌≡◌, ◌∷◌, ℕ, List, IfSome, IfNone, codes};
 ghost use Rattle.records.specs.File.{parts};
 ghost use Rattle.records.specs.Spelling.{IsNumber};
 ghost use Rattle.hlr_input.specs.Script.{Line, Frame, IsLine};
@@ -28,8 +27,10 @@ pub fn read_frame_line<'a>(line: &'a [u8]) -> Option<FrameLine<'a>>
     ensures none { IfNone result ((from octets : List ℕ) → IsLine line.now (Frame from octets) → ⊥) }
 {
     let rest = behind_kind(line)?;
-    let (from, octets) = cut_address(rest)?;
-    let from = Digits::from_text(from)?;
+    let Some(front) = Digits::from_front(rest, b' ') else {
+        return None;
+    };
+    let (from, octets) = front;
     Some(FrameLine {
         from: Peer::new(from),
         octets,
@@ -45,22 +46,4 @@ fn behind_kind(line: &[u8]) -> Option<&[u8]>
         [b'F', b' ', rest @ ..] => Some(rest),
         _ => None,
     }
-}
-
-/// The text before the first space and the text behind it, if there is a space.
-fn cut_address(text: &[u8]) -> Option<(&[u8], &[u8])>
-    ensures found { IfSome result (λ r. parts 32 text.now ≡ r.0.now ∷ parts 32 r.1.now) }
-    ensures none { IfNone result (parts 32 text.now ≡ text.now ∷ []) }
-{
-    match first_space(text) {
-        Some(at) => Some((&text[..at], &text[at + 1..])),
-        None => None,
-    }
-}
-
-/// The place of the first space. An address is short, so its characters are looked at one by one.
-fn first_space(text: &[u8]) -> Option<usize>
-    ensures { result ≡ position (λ character. character == 32) text.now }
-{
-    text.iter().position(|character| *character == b' ')
 }

@@ -7,6 +7,7 @@ pub mod TbcdLaws
 pub mod ReadLemmas
 pub mod IdentityLaws
 pub mod TextLemmas
+pub mod FrontLemmas
 pub mod IdLemmas
 pub mod IdOrder
 pub mod OrderLemmas

@@ -74,14 +74,14 @@ word_of_text i number text some most e is le ge =
 
 pub ruleset text_steps = (character, word_of_text)
 
-minus-plus : (ds : List ℕ) → map (λ octet. octet - 48) (map (λ d. d + 48) ds) ≡ ds
+pub minus-plus : (ds : List ℕ) → map (λ octet. octet - 48) (map (λ d. d + 48) ds) ≡ ds
 minus-plus [] = refl
 minus-plus (d ∷ ds) =
     let here : (d + 48) - 48 ≡ d = omega arith in
     let rest = minus-plus ds in
     cc
 
-plus-minus : (text : List ℕ) → list_all is_digit text ≡ true → map (λ d. d + 48) (map (λ octet. octet - 48) text) ≡ text
+pub plus-minus : (text : List ℕ) → list_all is_digit text ≡ true → map (λ d. d + 48) (map (λ octet. octet - 48) text) ≡ text
 plus-minus [] e = refl
 plus-minus (b ∷ bs) e =
     let p = and_parts (is_digit b) (list_all is_digit bs) e in
@@ -90,12 +90,15 @@ plus-minus (b ∷ bs) e =
     let rest = plus-minus bs p.1 in
     cc
 
+pub printed_digit : (d : ℕ) → d < 10 → is_digit (d + 48) ≡ true
+printed_digit d small =
+    let low : leb 48 (d + 48) ≡ true = le-leb _ _ (omega arith) in
+    let high : leb (d + 48) 57 ≡ true = le-leb _ _ (omega (arith, small)) in
+    rw (low, high) refl
+
 text_is_digits : (ds : List ℕ) → AllByRecursion (λ d. d < 10) ds → list_all is_digit (map (λ d. d + 48) ds) ≡ true
 text_is_digits [] h = refl
-text_is_digits (d ∷ ds) h =
-    let low : leb 48 (d + 48) ≡ true = le-leb _ _ (omega arith) in
-    let high : leb (d + 48) 57 ≡ true = le-leb _ _ (omega (arith, h.0)) in
-    rw (low, high) (text_is_digits ds h.1)
+text_is_digits (d ∷ ds) h = rw (printed_digit d h.0) (text_is_digits ds h.1)
 
 pub is_ascii : (ds : List ℕ) → AreSomeDigits ds → IsAscii (text_of ds)
 is_ascii ds some = each ds some.each

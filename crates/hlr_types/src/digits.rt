@@ -6,9 +6,9 @@ ghost use Rattle.std.specs.Cmp.Rules.{comparing};
 ghost use Rattle.std.specs.Cmp.{partial_order_from_own_ties};
 ghost use Rattle.std.specs.Fmt.{padded};
 ghost use Rattle.std.specs.Ordering.{nat_cmp, on, as_partial_cmp};
-ghost use Rattle.std.specs.Prelude.{◌≡◌, ◌<◌, ◌≤◌, ◌+◌, ◌-◌, ◌*◌, ◌&&◌, nat_le, slice_index, List, ℕ, length, map, IfSome, Some, true, nat_eq};
+ghost use Rattle.std.specs.Prelude.{◌≡◌, ◌<◌, ◌≤◌, ◌+◌, ◌-◌, ◌*◌, ◌&&◌, ◌∷◌, ◌++◌, nat_le, slice_index, List, ℕ, length, map, IfSome, IsSomeAnd, Some, true, false, not, nat_eq};
 ghost use Rattle.std.specs.Str.{IsAscii};
-ghost use Rattle.std.specs.List.{list_all, starts_with};
+ghost use Rattle.std.specs.List.{list_all, position, starts_with};
 ghost use Rattle.hlr_types.specs.Digits.{AreSomeDigits};
 ghost use Rattle.hlr_types.specs.Words.{IsWord, in_word, packed};
 ghost use Rattle.hlr_types.specs.DigitTexts.{digits_in, is_digit, text_of, AreTextForms, IsText};
@@ -54,6 +54,22 @@ impl Digits {
         ensures exact { result ≡ digits_in text.now }
     {
         from_text(text)
+    }
+
+    /// The digits that an ASCII text begins with, if they are 1 to 16 and this character follows them, and the text behind it.
+    /// One look finds where they end and that they are digits: nearly every line of a script has an address that is read so.
+    pub fn from_front(text: &[u8], end: u8) -> Option<(Digits, &[u8])>
+        ensures found { IfSome result (λ r. AreSomeDigits r.0 × (text.now ≡ text_of r.0 ++ end ∷ r.1.now)) }
+        // What stands there so is found, unless the character is a digit itself.
+        ensures only { is_digit end ≡ false → (digits rest : List ℕ) → AreSomeDigits digits → text.now ≡ text_of digits ++ end ∷ rest
+            → IsSomeAnd result (λ r. (r.0 ≡ digits) × (r.1.now ≡ rest)) }
+    {
+        let count = first_non_digit(text)?;
+        if count == 0 || count > 16 || text[count] != end {
+            return None;
+        }
+        let (digits, rest) = text.split_at(count);
+        Some((Digits::of_word(packed_text(digits)), &rest[1..]))
     }
 
     /// The digits of a word.
@@ -218,7 +234,20 @@ fn from_text(text: &[u8]) -> Option<Digits>
 fn are_digits(text: &[u8]) -> bool
     ensures { result ≡ list_all is_digit text.now }
 {
-    text.iter().all(|octet| b'0' <= *octet && *octet <= b'9')
+    text.iter().all(|octet| is_digit(*octet))
+}
+
+/// The place of the first character that is no digit.
+fn first_non_digit(text: &[u8]) -> Option<usize>
+    ensures { result ≡ position (λ octet. not (is_digit octet)) text.now }
+{
+    text.iter().position(|octet| !is_digit(*octet))
+}
+
+fn is_digit(octet: u8) -> bool
+    ensures { result ≡ is_digit octet }
+{
+    b'0' <= octet && octet <= b'9'
 }
 
 /// The word of a text of digits. It is made from the characters at once, as this is called for each line of a script.
