@@ -157,6 +157,19 @@ impl Invocations {
         // A caller that passes the invoke id on needs its range.
         ensures fits { IfSome result (λ due. FitsSigned w8 due.invoke) }
     {
+        let Some(_) = self.timers.least_due(now) else {
+            return None;
+        };
+        self.first_due(now)
+    }
+
+    /// The same where a timer is due. It stands apart, never inlined, since at nearly each look none is.
+    #[inline(never)]
+    fn first_due(&self, now: u64) -> Option<Due>
+        ensures due { IfSome result (λ due. IsNext self.now now due.id due.invoke (was due.was)) }
+        ensures none { IfNone result (NoneDue self.now now) }
+        ensures fits { IfSome result (λ due. FitsSigned w8 due.invoke) }
+    {
         let Some(least) = self.timers.least_due(now) else {
             return None;
         };
