@@ -1,11 +1,16 @@
 -- What a register's calls leave, from what the node's leave.
-use Rattle.std.proofs.Common.{◌≡◌, ℕ, List, [], ◌∷◌, subst, sym}
-use Rattle.std.specs.Prelude.{Result, Ok, Err, IfOk, MatchResult, Some, slice_get}
+use Rattle.std.proofs.Common.{◌≡◌, ℕ, zero, suc, List, [], ◌∷◌, ap, drop, length, map, refl, subst, sym, ◌∙◌}
+use denote.Ref.{Bor}
+use Rattle.std.specs.Prelude.{Option, None, Result, Ok, Err, IfOk, MatchResult, Some, option_map, slice_get}
+use Rattle.std.specs.Slice.{IsItemAt}
+use Rattle.std.proofs.lemmas.Option.{slice_get-map, slice_get_past, slice_get_read}
 use Rattle.frames.specs.Octets.{RawEvent, RawOut}
 use Rattle.records.specs.File.{Contents}
 use Rattle.records.specs.Loaded.{Subscribers, loaded_from}
 use Rattle.records.specs.declared.fault.RecordsFault.{RecordsFault}
 use Rattle.records.specs.declared.fault.RecordsFault.TheVariants.{Memory}
+use Rattle.shard_state.specs.declared.answer.Out.{Out}
+use Rattle.shard_state.specs.Frames.{raw_out}
 use Rattle.shardlog.specs.declared.entry.Epoch.{Epoch}
 use Rattle.shardlog.specs.declared.entry.Handled.{Handled}
 use Rattle.shardlog.specs.Log.{Log}
@@ -48,6 +53,23 @@ cuts_off before n m place shard waiting epoch is same rest cuts keeps = record {
   keeps = keeps;
   waiting = rest;
 }
+
+-- the first element behind n others
+first_behind : {X : Type 0} (xs : List X) (n : ℕ) → slice_get (drop n xs) 0 ≡ slice_get xs n
+first_behind [] zero = refl
+first_behind [] (suc n) = refl
+first_behind (x ∷ xs) zero = refl
+first_behind (x ∷ xs) (suc n) = first_behind xs n
+
+-- the first frame that waits is the one behind those that were taken
+pub front_is : (frames : List Out) (taken : ℕ) (r : Option (Bor Out)) (waiting : List RawOut) → IsItemAt frames taken r
+    → drop taken (map raw_out frames) ≡ waiting → option_map (λ out. raw_out out.now) r ≡ slice_get waiting 0
+front_is frames taken r waiting at is =
+    sym (ap (λ (w : List RawOut). slice_get w 0) (sym is) ∙ first_behind (map raw_out frames) taken ∙ slice_get-map raw_out frames taken ∙ lent r at)
+  where
+    lent : (r : Option (Bor Out)) → IsItemAt frames taken r → option_map raw_out (slice_get frames taken) ≡ option_map (λ out. raw_out out.now) r
+    lent None at = ap (option_map raw_out) (slice_get_past frames taken at.3)
+    lent (Some out) at = ap (option_map raw_out) (slice_get_read frames (length frames) taken out.now refl at.3.0 at.1)
 
 -- the listing of one shard's journal
 pub lists_shard : {T F : Type 0} (node : NodeState) (n : ℕ) (l : Log) (lines : T → List ℕ) (r : Result T F)

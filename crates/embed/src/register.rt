@@ -21,24 +21,26 @@ use std::marker::Model;
 use std::slice;
 use wholenode::{Cause, Node};
 
-/// The sixteen shards with their journals, an arena for one frame at a time, and the frames of the last event that were not
-/// taken yet.
+/// The sixteen shards with their journals, an arena for one frame at a time, and the frames of the last event, the first of
+/// which, `taken` in number, were taken.
 #[derive(Drop)]
 pub struct Register {
     alloc: Global,
     node: Node,
     bump: Bump,
     sent: OutList,
+    taken: usize,
 }
 
 impl Model for Register {
+    ghost use Rattle.std.specs.Prelude.{drop};
     ghost use Rattle.embed.specs.Registers.{RegisterState, register, register_state_code};
 
     ghost Value = { RegisterState };
 
     ghost coded = { register_state_code };
 
-    ghost view = { λ r. register r.node r.sent };
+    ghost view = { λ r. register r.node (drop r.taken r.sent) };
 }
 
 impl Register {
@@ -70,11 +72,12 @@ impl Register {
             node,
             bump: Bump::new(alloc),
             sent: OutList::none(),
+            taken: 0,
         })
     }
 
-    /// Handles one event. The frames that it sends are then to be taken by `next`; frames of the event before it that were not
-    /// taken are dropped. On error nothing changes, and frames that wait still do.
+    /// Handles one event. The frames that it sends are then to be read by `front` and taken by `drop_front`, one after the other;
+    /// frames of the event before it that were not taken are dropped. On error nothing changes, and frames that wait still do.
     ///
     /// - `JournalFull`: the journal of its shard has 65,536 entries, until `cut`.
     /// - `NoRoom`: it is an operator's change for which the machine has no step: it would open a dialogue beside 4,096.
@@ -87,6 +90,7 @@ impl Register {
         match self.node.handle(&mut self.bump, raw) {
             Ok(handled) => {
                 self.sent = handled.outs;
+                self.taken = 0;
                 Ok(())
             }
             Err(cause) => {
@@ -101,16 +105,17 @@ impl Register {
     pub fn front(&self) -> Option<&Out>
         ensures { option_map (λ out. raw_out out.now) result ≡ slice_get self.now.waiting 0 }
     {
-        self.sent.as_slice().first()
+        self.sent.as_slice().get(self.taken)
     }
 
-    /// Takes the next frame of the last event, in the order in which they are to be sent. `None` if no frame waits.
-    pub fn next(&mut self) -> Option<Out>
-        ensures first { option_map raw_out result ≡ slice_get self.old.waiting 0 }
+    /// Drops the frame that is to be taken next, if one waits.
+    pub fn drop_front(&mut self)
         ensures rest { self.new.waiting ≡ drop 1 self.old.waiting }
         ensures node { self.new.node ≡ self.old.node }
     {
-        self.sent.pop_front()
+        if self.taken < self.sent.as_slice().len() {
+            self.taken += 1;
+        }
     }
 
     /// Cuts the journal of a shard off, and drops it. The states stay the same. The shard's state is copied, as the base of the next

@@ -1,5 +1,7 @@
 -- The lines of sent frames, and the ids in them, some frames more.
 use Rattle.std.proofs.Common.{◌≡◌, ℕ, ◌+◌, ◌<◌, List, [], ◌∷◌, ◌++◌, map, length, take, get_or, refl, sym, ap, subst, ◌∙◌, append_assoc}
+use Rattle.std.specs.List.{flat_map}
+use Rattle.std.proofs.lemmas.Grind.{flat_map-append}
 use Rattle.std.proofs.lemmas.List.{append-nil, take_more, map-append}
 use Rattle.frames.specs.Octets.{RawOut}
 use Rattle.shard_state.specs.declared.answer.Out.{Out}
@@ -45,3 +47,16 @@ pub prints_more : (a b c : SoFar) (frames : List Out) (i : ℕ) (frame : Out) �
 prints_more a b c frames i frame lt is so_far more =
     subst (λ (sent : List RawOut). Prints a sent c) (sym (one_more frames i frame lt is))
     (prints_join a b c (map raw_out (take i frames)) (raw_out frame ∷ []) so_far more)
+
+-- the frames of the lists up to the next one
+one_list_more : (lists : List (List RawOut)) (i : ℕ) (frames : List RawOut) → i < length lists → frames ≡ get_or lists i frames
+    → flat_map (λ o. o) (take (i + 1) lists) ≡ flat_map (λ o. o) (take i lists) ++ frames
+one_list_more lists i frames lt is =
+    ap (flat_map (λ o. o)) (take_more lists i frames lt ∙ ap (λ (f : List RawOut). take i lists ++ f ∷ []) (sym is))
+    ∙ flat_map-append (λ o. o) (take i lists) (frames ∷ []) ∙ ap (λ (l : List RawOut). flat_map (λ o. o) (take i lists) ++ l) (append-nil frames)
+
+pub prints_list_more : (a b c : SoFar) (lists : List (List RawOut)) (i : ℕ) (frames : List RawOut) → i < length lists → frames ≡ get_or lists i frames
+    → Prints a (flat_map (λ o. o) (take i lists)) b → Prints b frames c → Prints a (flat_map (λ o. o) (take (i + 1) lists)) c
+prints_list_more a b c lists i frames lt is so_far more =
+    subst (λ (sent : List RawOut). Prints a sent c) (sym (one_list_more lists i frames lt is))
+    (prints_join a b c (flat_map (λ o. o) (take i lists)) frames so_far more)

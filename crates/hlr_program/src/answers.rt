@@ -1,6 +1,7 @@
 //! What a batch answers, as it is handled.
 
 ghost use Rattle.std.specs.Prelude.{◌≡◌, ◌++◌, ◌∷◌, [], OnOk, map};
+ghost use Rattle.std.specs.List.{flat_map};
 ghost use Rattle.shard_state.specs.Frames.{raw_out};
 ghost use Rattle.hlr_program.specs.Printed.{Prints};
 ghost use Rattle.hlr_program.specs.Answered.{so_far};
@@ -8,7 +9,7 @@ ghost use Rattle.hlr_program.specs.Answered.{so_far};
 use crate::printed::push_sent;
 use bumpalo::Bump;
 use hlr_input::Letters;
-use hlrcore::Out;
+use hlrcore::{Out, OutList};
 use std::alloc::{AllocError, Global};
 
 /// The lines of the frames that a batch has sent so far, and the local ids that letters stand for behind it. Nothing is printed
@@ -41,6 +42,16 @@ impl Answers {
     {
         for frame in sent {
             self.push(frame)?;
+        }
+        Ok(())
+    }
+
+    /// The same for lists of frames, one after the other.
+    pub fn push_lists(&mut self, sent: &[OutList]) -> Result<(), AllocError>
+        ensures { OnOk result (Prints (so_far self.old) (flat_map (λ outs. outs) sent.now) (so_far self.new)) }
+    {
+        for outs in sent {
+            self.push_all(outs.as_slice())?;
         }
         Ok(())
     }

@@ -73,7 +73,7 @@ impl Crew {
     {
         let mut sent = Vec::new(self.alloc);
         match self.register.run_part(rt, self.workers, part, &mut sent) {
-            Ok(()) => Ok(answers.push_all(&sent)?),
+            Ok(()) => Ok(answers.push_lists(&sent)?),
             Err(fault) => Err(Fault::from(fault)),
         }
     }

@@ -1,7 +1,6 @@
 //! The lines that are printed.
 
 ghost use Rattle.std.specs.Prelude.{◌≡◌, ◌++◌, ◌∷◌, [], IfErr, OnOk};
-ghost use Rattle.std.specs.Arc.{arc_slice_items};
 ghost use Rattle.std.specs.Io.KnownBytes.{Appends};
 ghost use Rattle.hlr_program.specs.Printed.{WritesFront, sent_line};
 ghost use Rattle.hlr_program.specs.Statuses.{message_of};
@@ -52,7 +51,7 @@ pub fn tell<W: Write>(fault: Fault, err: &mut W)
 /// Appends the line of a sent frame: `S`, the address, and the octets in upper case, whose digits are made in the arena.
 pub fn push_sent(digits: &Bump, text: &mut Vec<u8>, sent: &Out) -> Result<(), AllocError>
     ensures { OnOk result (text.new.items
-        ≡ text.old.items ++ sent_line sent.now.to (arc_slice_items sent.now.octets)) }
+        ≡ text.old.items ++ sent_line sent.now.to sent.now.octets.items) }
 {
     let octets = encode_upper(digits, sent.octets.as_slice())?;
     text.extend_from_slice(b"S ")?;

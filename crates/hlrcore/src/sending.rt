@@ -11,7 +11,6 @@ use hlr_types::{Imsi, Peer, RemoteId};
 use location::{SentMessage, Why, octets_of};
 use shard_state::{Frames, Out, OutList, StepAnswer};
 use std::alloc::{AllocError, Global};
-use std::sync::ArcSlice;
 
 /// Nothing is sent.
 pub(crate) fn silent() -> StepAnswer
@@ -53,6 +52,5 @@ fn one_out(alloc: Global, to: Peer, message: &SentMessage) -> Result<Frames, All
     let Ok(octets) = octets_of(alloc, message) else {
         return Err(AllocError);
     };
-    let octets = ArcSlice::from_vec(octets)?;
-    Frames::of(alloc, OutList::one(Out { to, octets }))
+    Frames::of(OutList::one(alloc, Out { to, octets })?)
 }

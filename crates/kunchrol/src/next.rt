@@ -37,6 +37,6 @@ pub(crate) fn next_frame(
     }
     to[..digits.len()].copy_from_slice(digits);
     octets[..out.octets.len()].copy_from_slice(&out.octets);
-    drop(register.next());
+    register.drop_front();
     OK
 }

@@ -1,12 +1,11 @@
 -- The frames that a step sends, as in an entry of a journal.
 use Rattle.std.specs.Prelude.{ℕ, List, refl}
-use Rattle.std.specs.Arc.{arc_slice_items}
 use Rattle.std.specs.Coded.{Coded, code_by, coded×, coded_list, coded_ℕ}
 use Rattle.frames.specs.Octets.{RawOut}
 use Rattle.shard_state.specs.declared.answer.Out.{Out}
 
 abbrev pub raw_out : Out → RawOut
-raw_out out = record { to = out.to; octets = arc_slice_items out.octets }
+raw_out out = record { to = out.to; octets = out.octets.items }
 
 abbrev pub raw_out_code : Coded RawOut
 raw_out_code =

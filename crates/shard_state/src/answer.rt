@@ -2,14 +2,12 @@
 
 use crate::sent_frames::Frames;
 use hlr_types::{Imsi, Peer, Tid};
-use std::alloc::Global;
-use std::sync::ArcSlice;
 
-/// A frame to send, with its destination address. Its octets are shared by who sends it and the journal.
+/// A frame to send, with its destination address.
 #[derive(PartialEq, Eq, Drop)]
 pub struct Out {
     pub to: Peer,
-    pub octets: ArcSlice<u8, Global>,
+    pub octets: Vec<u8>,
 }
 
 /// The answer of a step: the frames to send, in order; the local id that it took; its subject.

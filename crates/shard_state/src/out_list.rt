@@ -1,6 +1,6 @@
 //! The frames of one step, in order.
 
-ghost use Rattle.std.specs.Prelude.{◌≡◌, ◌++◌, ◌∷◌, [], IfOk, OnErr, OnOk, map, drop, option_map, slice_get};
+ghost use Rattle.std.specs.Prelude.{◌≡◌, ◌++◌, ◌∷◌, [], IfOk, map};
 ghost use Rattle.std.specs.Option.{option_to_list};
 ghost use Rattle.shard_state.specs.Frames.{raw_out};
 ghost use Rattle.shard_state.specs.Held.{frames_in};
@@ -8,20 +8,21 @@ ghost use Rattle.shard_state.specs.Held.{frames_in};
 use crate::answer::Out;
 use std::alloc::{AllocError, Global};
 use std::marker::Model;
-use std::{mem, slice};
+use std::slice;
+use std::sync::Arc;
 
-/// The frames of one step, in order. Nearly each step sends one or none, which needs no memory beside the octets of the frame.
+/// The frames of one step, in order: none, one or two, in a block that their owners share.
 #[derive(Drop)]
 pub struct OutList {
     held: Held,
 }
 
-/// How many there are.
+/// How many there are. To send none needs no block.
 #[derive(Drop)]
 pub(crate) enum Held {
     Nothing,
-    One(Out),
-    More(Vec<Out>),
+    One(Arc<Out>),
+    Two(Arc<[Out; 2]>),
 }
 
 impl Model for OutList {
@@ -49,12 +50,11 @@ impl OutList {
     }
 
     /// This frame alone.
-    pub fn one(out: Out) -> OutList
-        ensures { result ≡ raw_out out ∷ [] }
+    pub fn one(alloc: Global, out: Out) -> Result<OutList, AllocError>
+        ensures { IfOk result (λ outs. outs ≡ raw_out out ∷ []) }
     {
-        OutList {
-            held: Held::One(out),
-        }
+        let held = Held::One(Arc::new(alloc, out)?);
+        Ok(OutList { held })
     }
 
     /// The first of these frames, if it is there, and then the second.
@@ -64,14 +64,10 @@ impl OutList {
     {
         match (first, second) {
             (None, None) => Ok(OutList::none()),
-            (Some(out), None) | (None, Some(out)) => Ok(OutList::one(out)),
+            (Some(out), None) | (None, Some(out)) => OutList::one(alloc, out),
             (Some(first), Some(second)) => {
-                let mut outs = Vec::with_capacity(alloc, 2)?;
-                outs.push(first)?;
-                outs.push(second)?;
-                Ok(OutList {
-                    held: Held::More(outs),
-                })
+                let held = Held::Two(Arc::new(alloc, [first, second])?);
+                Ok(OutList { held })
             }
         }
     }
@@ -83,72 +79,19 @@ impl OutList {
         match &self.held {
             Held::Nothing => &[],
             Held::One(out) => slice::from_ref(out),
-            Held::More(outs) => outs,
+            Held::Two(outs) => outs.as_slice(),
         }
     }
 
-    /// Moves the frames behind others. On error none of them is there.
-    pub fn append_to(self, outs: &mut Vec<Out>) -> Result<(), AllocError>
-        ensures ok { OnOk result (map raw_out outs.new.items
-            ≡ map raw_out outs.old.items ++ self) }
-        ensures err { OnErr result (outs.new.items ≡ outs.old.items) }
-    {
-        match self.held {
-            Held::Nothing => Ok(()),
-            Held::One(out) => Ok(outs.push(out)?),
-            Held::More(mut more) => outs.append(&mut more),
-        }
-    }
-
-    /// Takes the first frame, if there is one.
-    pub fn pop_front(&mut self) -> Option<Out>
-        ensures first { option_map raw_out result ≡ slice_get self.old 0 }
-        ensures rest { self.new ≡ drop 1 self.old }
-    {
-        let (first, held) = cut_first(mem::replace(&mut self.held, Held::Nothing));
-        self.held = held;
-        first
-    }
-
-    /// The same frames for one more owner of their octets.
-    pub fn try_share(&self, alloc: Global) -> Result<OutList, AllocError>
+    /// The same frames for one more owner. Does not allocate.
+    pub fn try_share(&self) -> Result<OutList, AllocError>
         ensures { IfOk result (λ shared. shared ≡ self.now) }
     {
         let held = match &self.held {
             Held::Nothing => Held::Nothing,
-            Held::One(out) => Held::One(out.try_share()?),
-            Held::More(outs) => Held::More(shared(alloc, outs)?),
+            Held::One(out) => Held::One(out.clone()?),
+            Held::Two(outs) => Held::Two(outs.clone()?),
         };
         Ok(OutList { held })
     }
-}
-
-/// The first frame, if there is one, and the others.
-fn cut_first(held: Held) -> (Option<Out>, Held)
-    ensures first { option_map raw_out result.0 ≡ slice_get (frames_in held) 0 }
-    ensures rest { frames_in result.1 ≡ drop 1 (frames_in held) }
-{
-    match held {
-        Held::Nothing => (None, Held::Nothing),
-        Held::One(out) => (Some(out), Held::Nothing),
-        Held::More(outs) => {
-            let mut rest = outs;
-            if rest.is_empty() {
-                return (None, Held::Nothing);
-            }
-            let first = rest.remove(0);
-            (Some(first), Held::More(rest))
-        }
-    }
-}
-
-/// The same frames, in the same order.
-fn shared(alloc: Global, outs: &[Out]) -> Result<Vec<Out>, AllocError>
-    ensures { IfOk result (λ shared. map raw_out shared.items ≡ map raw_out outs.now) }
-{
-    let mut shared = Vec::with_capacity(alloc, outs.len())?;
-    for out in outs {
-        shared.push(out.try_share()?)?;
-    }
-    Ok(shared)
 }

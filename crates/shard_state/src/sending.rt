@@ -11,7 +11,6 @@ use crate::out_list::OutList;
 use crate::sent_frames::Frames;
 use location::{Addressed, CancelBegin, octets_of};
 use std::alloc::{AllocError, Global};
-use std::sync::ArcSlice;
 
 /// A message as a frame.
 fn spelled(alloc: Global, sent: &Addressed) -> Result<Out, AllocError>
@@ -22,7 +21,7 @@ fn spelled(alloc: Global, sent: &Addressed) -> Result<Out, AllocError>
     };
     Ok(Out {
         to: sent.to,
-        octets: ArcSlice::from_vec(octets)?,
+        octets,
     })
 }
 
@@ -58,5 +57,5 @@ pub(crate) fn outs_of(
 {
     let first = spelled_message(alloc, message)?;
     let second = spelled_cancel(alloc, cancel)?;
-    Frames::of(alloc, OutList::of(alloc, first, second)?)
+    Frames::of(OutList::of(alloc, first, second)?)
 }

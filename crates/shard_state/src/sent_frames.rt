@@ -5,7 +5,7 @@ ghost use Rattle.shard_state.specs.Frames.{raw_out};
 
 use crate::answer::Out;
 use crate::out_list::OutList;
-use std::alloc::{AllocError, Global};
+use std::alloc::AllocError;
 use std::marker::Model;
 
 /// The frames that a step sends, in order, once to send and once for the journal. Both lists are made before
@@ -43,10 +43,10 @@ impl Frames {
     }
 
     /// These frames.
-    pub fn of(alloc: Global, sent: OutList) -> Result<Frames, AllocError>
+    pub fn of(sent: OutList) -> Result<Frames, AllocError>
         ensures { IfOk result (λ frames. frames ≡ sent) }
     {
-        let kept = sent.try_share(alloc)?;
+        let kept = sent.try_share()?;
         Ok(Frames { sent, kept })
     }
 
@@ -63,17 +63,5 @@ impl Frames {
         ensures kept { result.1 ≡ self }
     {
         (self.sent, self.kept)
-    }
-}
-
-impl Out {
-    /// The same frame for one more owner of its octets, which are not copied. Does not allocate.
-    pub fn try_share(&self) -> Result<Out, AllocError>
-        ensures { IfOk result (λ shared. raw_out shared ≡ raw_out self.now) }
-    {
-        Ok(Out {
-            to: self.to,
-            octets: self.octets.clone()?,
-        })
     }
 }

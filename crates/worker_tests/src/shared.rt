@@ -3,7 +3,7 @@
 use crate::given::{clock, frame};
 use crate::samples::{DATA_TAKEN, RECORDS, ROUTE, ROUTE_ANSWER, UPDATE};
 use hlr_types::{Digits, Imsi};
-use hlrcore::{Change, Out, RawEvent};
+use hlrcore::{Change, OutList, RawEvent};
 use records::{Codes, read_records};
 use std::alloc::Global;
 use std::process::Abort;
@@ -21,7 +21,7 @@ fn take<R: Threads + Wait + Sync>(
     rt: &R,
     workers: usize,
     part: Vec<RawEvent>,
-    sent: &mut Vec<Out>,
+    sent: &mut Vec<OutList>,
 ) -> Result<Result<(), SharedFault>, Fail> {
     if workers == 0 || workers > 16 {
         return Err(Fail::from("workers"));
@@ -32,9 +32,21 @@ fn take<R: Threads + Wait + Sync>(
     Ok(register.run_part(rt, workers, part, sent))
 }
 
-/// The octets of the last frame sent, empty if there was none.
-fn last(sent: &[Out]) -> &[u8] {
-    match sent.last() {
+/// How many frames were sent.
+fn count(sent: &[OutList]) -> usize {
+    let mut frames: usize = 0;
+    for outs in sent {
+        frames = frames.saturating_add(outs.as_slice().len());
+    }
+    frames
+}
+
+/// The octets of the last frame that the last event sent, empty if it sent none.
+fn last(sent: &[OutList]) -> &[u8] {
+    let Some(outs) = sent.last() else {
+        return &[];
+    };
+    match outs.as_slice().last() {
         Some(out) => &out.octets,
         None => &[],
     }
@@ -52,7 +64,7 @@ fn parts_go_on<R: Threads + Wait + Sync + Abort>(
     let update = frame(alloc, b"447700900012", &UPDATE)?;
     let first = vec![in alloc; update, clock(3, 1)?]?;
     take(&mut register, rt, workers, first, &mut sent)??;
-    let begun = sent.len();
+    let begun = count(&sent);
     let taken = frame(alloc, b"447700900012", &DATA_TAKEN)?;
     take(
         &mut register,
@@ -61,7 +73,7 @@ fn parts_go_on<R: Threads + Wait + Sync + Abort>(
         vec![in alloc; taken]?,
         &mut sent,
     )??;
-    let done = sent.len();
+    let done = count(&sent);
     let route = frame(alloc, b"447700909999", &ROUTE)?;
     take(
         &mut register,
@@ -70,7 +82,10 @@ fn parts_go_on<R: Threads + Wait + Sync + Abort>(
         vec![in alloc; route]?,
         &mut sent,
     )??;
-    assert_eq!(rt; (begun < done, done + 1 == sent.len()), (true, true));
+    assert_eq!(rt;
+        (begun < done, count(&sent)),
+        (true, done.saturating_add(1))
+    );
     assert_eq!(rt; last(&sent), ROUTE_ANSWER.as_slice());
     let shards = register.close()?;
     let mut entries: usize = 0;
@@ -114,6 +129,9 @@ fn no_room(rt: HostRuntime) -> Result<(), Fail> {
     take(&mut register, &rt, 2, changes, &mut sent)??;
     let more = vec![in alloc; clock(3, 1)?, change(alloc)?]?;
     let stopped = take(&mut register, &rt, 2, more, &mut sent)?;
-    assert_eq!(rt; (sent.len(), stopped), (MAX_OPEN, Err(SharedFault::NoRoom)));
+    assert_eq!(rt;
+        (count(&sent), stopped),
+        (MAX_OPEN, Err(SharedFault::NoRoom))
+    );
     Ok(())
 }

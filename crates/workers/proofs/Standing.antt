@@ -1,6 +1,6 @@
 -- What a shared register has handled, when its journals are cut, when jobs are added, and at the end.
 use Rattle.std.proofs.Common.{◌≡◌, ℕ, List, [], ◌∷◌, ◌++◌, length, map, append_assoc, sym, refl, ap, ap₂, ◌∙◌, subst}
-use Rattle.std.specs.Prelude.{All, IfOk, Option, Some, None, Result, Ok, Err, flat_map, option_map, slice_get}
+use Rattle.std.specs.Prelude.{All, IfOk, Option, Some, None, Result, Ok, Err, option_map, slice_get}
 use Rattle.std.proofs.Math.Path.{fun_ext}
 use Rattle.std.proofs.lemmas.List.{append-nil, length-map, map-append}
 use Rattle.std.proofs.lemmas.List.Elements.{All-push}
@@ -216,12 +216,12 @@ closes items s office jobs receipts (Ok v) was settled = hands_out s (items v)
 closes items s office jobs receipts (Err fault) was settled = tt
 
 -- What a part does, once there is room.
-pub part_handled : (a b c after : SharedState) (jobs : List Job) (receipts : List Receipt) (raws : List RawEvent) (before now : List RawOut) → GoesOn a [] [] b
+pub part_handled : (a b c after : SharedState) (jobs : List Job) (receipts : List Receipt) (raws : List RawEvent) (before now : List (List RawOut)) → GoesOn a [] [] b
     → c ≡ b
     → events_of_jobs jobs ≡ raws
-    → jobs_of_receipts receipts ≡ numbers_of_jobs jobs → now ≡ before ++ flat_map (λ outs. outs) (sent_for receipts)
+    → jobs_of_receipts receipts ≡ numbers_of_jobs jobs → now ≡ before ++ sent_for receipts
     → after ≡ shared_state c.bases (c.jobs ++ jobs) (c.receipts ++ receipts)
-    → (outs : List (List RawOut)) × GoesOn a raws outs after × (now ≡ before ++ flat_map (λ o. o) outs)
+    → (outs : List (List RawOut)) × GoesOn a raws outs after × (now ≡ before ++ outs)
 part_handled a b c after jobs receipts raws before now room same events pairs sent kept = (
   sent_for receipts,
   subst (λ (es : List RawEvent). GoesOn a es (sent_for receipts) after) events

@@ -1,9 +1,8 @@
 //! A part of a batch: its events under numbers, and what is sent for them.
 
-ghost use Rattle.std.specs.Prelude.{◌≡◌, ◌++◌, map, max, flat_map, fold, Contains, IfOk, IfSome, OnOk, None};
+ghost use Rattle.std.specs.Prelude.{◌≡◌, ◌++◌, map, max, fold, Contains, IfOk, IfSome, OnOk, None};
 ghost use Rattle.frames.specs.Account.{Receipt};
 ghost use Rattle.hlrcore.specs.Events.{raw_event};
-ghost use Rattle.shard_state.specs.Frames.{raw_out};
 ghost use Rattle.workers.specs.Shared.{CountsFrom, end_at, events_of_jobs, numbers_of_jobs, sent_at, sent_for};
 ghost use Rattle.workers.specs.SharedFaults.{fault_in};
 
@@ -12,7 +11,7 @@ use crate::placed::Placed;
 use crate::receipt::Receipt;
 use crate::refusal::Refusal;
 use crate::shared_fault::SharedFault;
-use hlrcore::{Out, RawEvent};
+use hlrcore::{OutList, RawEvent};
 use machine::numbers::MAX_ENTRIES;
 use std::alloc::{AllocError, Global};
 
@@ -62,39 +61,22 @@ pub(crate) fn first_fault(receipts: &[Receipt]) -> Option<SharedFault>
     None
 }
 
-/// Appends copies of the frames to those to be sent.
-fn copy_outs(alloc: Global, outs: &[Out], sent: &mut Vec<Out>) -> Result<(), AllocError>
-    ensures { OnOk result (map raw_out sent.new.items
-        ≡ map raw_out sent.old.items ++ map raw_out outs.now) }
-{
-    for out in outs {
-        sent.push(out.try_share()?)?;
-    }
-    Ok(())
-}
-
-/// Appends copies of the frames sent for a job.
-fn copy_answer(alloc: Global, receipt: &Receipt, sent: &mut Vec<Out>) -> Result<(), AllocError>
-    ensures { OnOk result (map raw_out sent.new.items
-        ≡ map raw_out sent.old.items ++ sent_at receipt.now.place) }
+/// The frames sent for a job, shared with its receipt: none if it was refused.
+fn outs_of(receipt: &Receipt) -> Result<OutList, AllocError>
+    ensures { IfOk result (λ outs. outs ≡ sent_at receipt.now.place) }
 {
     match &receipt.answer {
-        Ok(placed) => copy_outs(alloc, placed.outs.as_slice(), sent),
-        Err(_) => Ok(()),
+        Ok(placed) => placed.outs.try_share(),
+        Err(_) => Ok(OutList::none()),
     }
 }
 
-/// Appends copies of the frames sent for jobs, in the order of the receipts.
-pub(crate) fn copy_sent(
-    alloc: Global,
-    receipts: &[Receipt],
-    sent: &mut Vec<Out>,
-) -> Result<(), AllocError>
-    ensures { OnOk result (map raw_out sent.new.items
-        ≡ map raw_out sent.old.items ++ flat_map (λ outs. outs) (sent_for receipts.now)) }
+/// Appends the frames sent for jobs, one list for each receipt, in the order of the receipts. Both share them.
+pub(crate) fn copy_sent(receipts: &[Receipt], sent: &mut Vec<OutList>) -> Result<(), AllocError>
+    ensures { OnOk result (sent.new.items ≡ sent.old.items ++ sent_for receipts.now) }
 {
     for receipt in receipts {
-        copy_answer(alloc, receipt, sent)?;
+        sent.push(outs_of(receipt)?)?;
     }
     Ok(())
 }

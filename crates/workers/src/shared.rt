@@ -8,7 +8,7 @@ use crate::part::{copy_sent, first_fault, longest_with, number_jobs};
 use crate::receipt::Receipt;
 use crate::settle::{cut_all, settle};
 use crate::shared_fault::SharedFault;
-use hlrcore::{Out, RawEvent};
+use hlrcore::{OutList, RawEvent};
 use machine::numbers::MAX_ENTRIES;
 use records::Loaded;
 use shardlog::Shard;
@@ -43,14 +43,13 @@ impl Model for SharedRegister {
 }
 
 impl SharedRegister {
-    ghost use Rattle.std.specs.Prelude.{◌≡◌, ◌≤◌, ◌++◌, [], List, length, map, flat_map, IfOk, OnOk};
+    ghost use Rattle.std.specs.Prelude.{◌≡◌, ◌≤◌, ◌++◌, [], List, length, map, IfOk, OnOk};
     ghost use Rattle.std.specs.List.Sorted.{IsStrictlyIncreasing};
     ghost use Rattle.frames.specs.Octets as octets;
     ghost use Rattle.hlrcore.specs.Events.{raw_event};
     ghost use Rattle.machine.specs.declared.numbers.TheConstants.{MAX_ENTRIES};
     ghost use Rattle.machine.specs.Opening.{opening};
     ghost use Rattle.machine.specs.State.{State};
-    ghost use Rattle.shard_state.specs.Frames.{raw_out};
     ghost use Rattle.shard_state.specs.Shards.{directory_of, records_of};
     ghost use Rattle.workers.specs.Shared.{GoesOn, HandsOut, StandsBehind, events_of_jobs, jobs_of_receipts, numbers_of_jobs, shared_state};
 
@@ -71,7 +70,8 @@ impl SharedRegister {
         })
     }
 
-    /// Has 1 to 16 workers handle a part of a batch. What it sends is appended to `sent`, event by event in the order of the part.
+    /// Has 1 to 16 workers handle a part of a batch. What it sends is appended to `sent`, a list for each event, in the order of
+    /// the part.
     ///
     /// If by the receipts some journal has no room for that many more entries, all journals are cut first, once jobs and receipts
     /// account for them. The epochs are dropped.
@@ -83,18 +83,18 @@ impl SharedRegister {
         rt: &R,
         workers: usize,
         part: Vec<RawEvent>,
-        sent: &mut Vec<Out>,
+        sent: &mut Vec<OutList>,
     ) -> Result<(), SharedFault>
         requires workers { (1 ≤ workers) × (workers ≤ 16) }
         requires few { length part.items ≤ MAX_ENTRIES }
         ensures handles { OnOk result ((outs : List (List octets.RawOut))
             × GoesOn self.old (map raw_event part.items) outs self.new
-            × (map raw_out sent.new.items ≡ map raw_out sent.old.items ++ flat_map (λ o. o) outs)) }
+            × (sent.new.items ≡ sent.old.items ++ outs)) }
     {
         self.make_room(part.len())?;
         let jobs = self.number(part)?;
         let receipts = self.handle(rt, workers, &jobs)?;
-        copy_sent(self.alloc, &receipts, sent)?;
+        copy_sent(&receipts, sent)?;
         self.keep(jobs, receipts)?;
         Ok(())
     }

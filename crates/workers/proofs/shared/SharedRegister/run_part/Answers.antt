@@ -1,7 +1,5 @@
 use Rattle.std.proofs.Common.{◌≡◌, ◌++◌, [], map, rules}
-use Rattle.std.specs.Prelude.{flat_map}
 use Rattle.hlrcore.specs.Events.{raw_event}
-use Rattle.shard_state.specs.Frames.{raw_out}
 use Rattle.workers.specs.Shared.{GoesOn, jobs_of_receipts, numbers_of_jobs, sent_for, shared_state}
 use Rattle.workers.proofs.Standing.{part_handled}
 use Rattle.workers.proofs.shared.SharedRegister.run_part.Goals as goal
@@ -12,11 +10,10 @@ returns g c =
     let same : c.number.new.self ≡ c.make_room.new.self = search rules in
     let room : GoesOn c.args.self.now [] [] c.make_room.new.self = c.in_ok-make_room.ensures in
     let pairs : jobs_of_receipts receipts ≡ numbers_of_jobs jobs = search rules in
-    let sent : map raw_out c.copy_sent.new.sent.items ≡ map raw_out c.args.sent.now.items ++ flat_map (λ outs. outs) (sent_for receipts) = search rules in
+    let sent : c.copy_sent.new.sent.items ≡ c.args.sent.now.items ++ sent_for receipts = search rules in
     let kept : c.keep.new.self ≡ shared_state c.number.new.self.bases (c.number.new.self.jobs ++ jobs)
     (c.number.new.self.receipts ++ receipts) = c.in_ok-keep.ensures in
     record {
       handles = part_handled c.args.self.now c.make_room.new.self c.number.new.self c.keep.new.self jobs receipts (map raw_event c.args.part.items)
-          (map raw_out c.args.sent.now.items)
-          (map raw_out c.copy_sent.new.sent.items) room same c.in_ok-jobs.ensures.events pairs sent kept;
+          c.args.sent.now.items c.copy_sent.new.sent.items room same c.in_ok-jobs.ensures.events pairs sent kept;
     }

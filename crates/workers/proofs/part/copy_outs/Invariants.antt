@@ -1,6 +1,0 @@
-use Rattle.std.specs.Prelude.{◌≡◌, ◌++◌, take, map}
-use Rattle.shard_state.specs.Frames.{raw_out}
-use Rattle.workers.proofs.part.copy_outs.Given as goal
-
-abbrev pub invariant-loop-out : goal.invariant-loop-out
-invariant-loop-out l = map raw_out l.sent.items ≡ map raw_out l.initial.sent.items ++ map raw_out (take l.out-index l.outs)
