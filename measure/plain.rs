@@ -9,6 +9,8 @@
 //! journal: the event, the local id that it took, its subject, and what was sent. Journals are cut
 //! where the register cuts them.
 //!
+//! Built with `--cfg crate_hex` it reads the octets of a frame as the crate `hex` does.
+//!
 //! Left out are letters, listings, workers, records of version 2, and refused allocations. A fault
 //! ends it as it ends `hlr`, with another line.
 

@@ -90,9 +90,30 @@ pub fn are_octets(text: &[u8]) -> bool {
 }
 
 /// The octets of a text that is pairs of hexadecimal digits.
+#[cfg(not(crate_hex))]
 pub fn octets(text: &[u8]) -> Option<Vec<u8>> {
     let pairs = text.chunks_exact(2);
     are_octets(text).then(|| pairs.map(|pair| value(pair[0]) << 4 | value(pair[1])).collect())
+}
+
+/// The same as the function `decode` of the crate `hex` 0.4.3 has it, which the register calls: branches for each digit.
+#[cfg(crate_hex)]
+pub fn octets(text: &[u8]) -> Option<Vec<u8>> {
+    if text.len() % 2 != 0 {
+        return None;
+    }
+    let octet = |pair: &[u8]| Some(branched_value(pair[0])? << 4 | branched_value(pair[1])?);
+    text.chunks(2).map(octet).collect()
+}
+
+#[cfg(crate_hex)]
+fn branched_value(character: u8) -> Option<u8> {
+    match character {
+        b'A'..=b'F' => Some(character - b'A' + 10),
+        b'a'..=b'f' => Some(character - b'a' + 10),
+        b'0'..=b'9' => Some(character - b'0'),
+        _ => None,
+    }
 }
 
 /// Appends octets in upper case.

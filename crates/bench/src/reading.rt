@@ -24,8 +24,10 @@ fn count(node: &Node<'_>, levels: usize) -> u64 {
         return 0;
     }
     let mut elements = 1u64;
-    for child in node.nodes() {
-        elements = elements.saturating_add(count(child, levels - 1));
+    let mut rest = node.nodes();
+    while let Some((child, behind)) = rest.split_first() {
+        elements = elements.saturating_add(count(&child, levels - 1));
+        rest = behind;
     }
     elements
 }

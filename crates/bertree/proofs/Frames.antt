@@ -1,207 +1,245 @@
 -- The elements that the code has open, as frames.
-use Rattle.std.proofs.Common.{◌≡◌, ℕ, suc, ◌+◌, ◌*◌, ◌/◌, ◌-◌, ◌<◌, ◌≤◌, max, Option, Some, None, List, [], ◌∷◌, ◌++◌, length, take, drop, reverse, refl, sym, ◌∙◌, ap, subst, arith, length-append, length-take, append-nil, take_all, true, false}
-use Rattle.std.proofs.lemmas.List.{reverse-append, length-reverse, take-append-le, drop-append-le, drop_all, take_rest}
+use Rattle.std.proofs.Common.{◌≡◌, ℕ, suc, ◌+◌, ◌*◌, ◌/◌, ◌-◌, ◌<◌, ◌≤◌, max, Option, Some, None, List, [], ◌∷◌, ◌++◌, length, set, reverse, refl, sym, ◌∙◌, ap, subst, arith, length-append, append-nil, append_assoc, true, false}
+use Rattle.std.proofs.lemmas.List.{reverse-append, length-reverse, length-set}
 use Rattle.std.specs.Borrow.{Bor}
 use Rattle.x690.specs.Identifier.{IsTag, identifier}
-use Rattle.x690.specs.Tree.{Tree, Primitive, element, levels}
+use Rattle.x690.specs.Tree.{Tree, Primitive, element, trees, levels}
 use Rattle.x690.specs.Spelling.{Definite, Spells}
 use Rattle.x690.specs.declared.Tag.{Tag}
 use Rattle.x690.proofs.Identifiers.{identifier-length}
 use Rattle.x690.proofs.Lengths.{IsLength-length}
 use Rattle.x690.proofs.Spellings.{Spells-inj}
 use Rattle.bertree.specs.Head.{IsElement, Opens, followed_by, BeginsNoElement}
+use Rattle.bertree.specs.Listed.{IsListed, AreListed}
 use Rattle.bertree.specs.declared.node.Node.TheVariants as node
-use Rattle.bertree.proofs.Trees.{tree-Primitive}
-use Rattle.bertree.specs.Nodes.{tree, elements}
+use Rattle.bertree.specs.declared.nodes.Entry.{Entry}
+use Rattle.bertree.specs.declared.nodes.Entry.TheVariants as entry
+use Rattle.bertree.specs.declared.nodes.Nodes.{Nodes}
+use Rattle.bertree.proofs.Listings.{are-listed, listed-push, marked}
+use Rattle.bertree.proofs.Trees.{tree-Primitive, tree-Constructed}
+use Rattle.bertree.specs.Nodes.{tree, elements, listed}
 use Rattle.bertree.specs.Contents.{Closes}
-use Rattle.bertree.specs.declared.node.Node.{Node}
 use Rattle.bertree.specs.declared.read.Open.{Open}
-use Rattle.bertree.proofs.States.{Frame, grown, ended, opened, closed, weight, IsAt, IsAt-first, IsAt-opened, IsAt-grown, IsAt-closed, IsAt-last, IsAt-more, IsAt-stuck, levels-grown, levels-opened}
+use Rattle.bertree.proofs.States.{Frame, opened, closed, weight, IsAt, IsAt-first, IsAt-opened, IsAt-grown, IsAt-closed, IsAt-last, IsAt-more, IsAt-stuck, levels-grown, levels-opened}
 
-abbrev frame : Tag → List Tree → Option (List ℕ) → Frame
-frame tag children after = record { tag = tag; children = children; after = after }
+-- an element that is open, with its children so far
+abbrev pub frame_of : Open → List Tree → Frame
+frame_of o children = record { tag = o.tag; children = children; after = followed_by o.after }
 
--- an element that is open, if its nodes are the last ones
-abbrev pub frame_of : Open → List Node → Frame
-frame_of o nodes = frame o.tag (elements (drop o.before nodes)) (followed_by o.after)
+-- the elements that are open, from the inside out, with their children so far
+abbrev pub frames : List Open → List (List Tree) → List Frame
+frames [] all = []
+frames (o ∷ os) [] = []
+frames (o ∷ os) (ts ∷ all) = frame_of o ts ∷ frames os all
 
--- the elements that are open, from the inside out: the nodes before those of one belong to the elements around it
-abbrev pub frames : List Open → List Node → List Frame
-frames [] nodes = []
-frames (o ∷ os) nodes = frame_of o nodes ∷ frames os (take o.before nodes)
-
--- each element's nodes begin within the list, and the outermost one's begin it
-abbrev pub ArePlaced : List Open → List Node → Type 0
-ArePlaced [] nodes = nodes ≡ []
-ArePlaced (o ∷ os) nodes = (o.before ≤ length nodes) × ArePlaced os (take o.before nodes)
+-- The entries list the children so far of an open element, behind its own entry, which is not told yet how many are in it; and
+-- before that those of the elements around it, so. The outermost one has no entry.
+abbrev pub ArePlaced : Open → List Open → List Tree → List (List Tree) → List Entry → Type 0
+ArePlaced o [] ts [] entries = AreListed (trees ts) entries × (o.before ≡ 0)
+ArePlaced o [] ts (us ∷ all) entries = ⊥
+ArePlaced o (p ∷ os) ts [] entries = ⊥
+ArePlaced o (p ∷ os) ts (us ∷ all) entries =
+    (there : List Entry) × (mark : Entry) × (found : List Entry) × (entries ≡ there ++ mark ∷ found) × AreListed (trees ts) found
+    × (o.before ≡ length there + 1) × ArePlaced p os us all there
 
 -- the code keeps the elements around the innermost one from the outside in
 reverse-push : (os : List Open) (o : Open) → reverse (os ++ o ∷ []) ≡ o ∷ reverse os
 reverse-push os o = reverse-append os (o ∷ [])
 
-length-frames : (os : List Open) (nodes : List Node) → length (frames os nodes) ≡ length os
-length-frames [] nodes = refl
-length-frames (o ∷ os) nodes = ap suc (length-frames os (take o.before nodes))
+-- each element but the outermost one has an entry
+placed-length : (o : Open) (os : List Open) (ts : List Tree) (all : List (List Tree)) (entries : List Entry) → ArePlaced o os ts all entries
+    → (length os ≤ length entries) × (length (frames os all) ≡ length os)
+placed-length o [] ts [] entries p = (omega arith, refl)
+placed-length o [] ts (us ∷ all) entries p = absurd p
+placed-length o (q ∷ os) ts [] entries p = absurd p
+placed-length o (q ∷ os) ts (us ∷ all) entries (there, mark, found, is, are, at, p) =
+    let r = placed-length q os us all there p in let l = ap length is ∙ length-append there (mark ∷ found) in
+    (omega (arith, r.0), ap suc r.1)
 
-pub map-push : (xs : List Node) (x : Node) → elements (xs ++ x ∷ []) ≡ elements xs ++ tree x ∷ []
-map-push [] x = refl
-map-push (y ∷ ys) x = ap (λ z. tree y ∷ z) (map-push ys x)
+-- an element behind all others is the innermost one's
+placed-grown : (o : Open) (os : List Open) (ts : List Tree) (all : List (List Tree)) (entries front : List Entry) (t : Tree)
+    → ArePlaced o os ts all entries → IsListed t front → ArePlaced o os (ts ++ t ∷ []) all (entries ++ front)
+placed-grown o [] ts [] entries front t (are, at) one = (listed-push ts t entries front are one, at)
+placed-grown o [] ts (us ∷ all) entries front t p one = absurd p
+placed-grown o (q ∷ os) ts [] entries front t p one = absurd p
+placed-grown o (q ∷ os) ts (us ∷ all) entries front t (there, mark, found, is, are, at, p) one = (
+  there,
+  mark,
+  found ++ front,
+  ap (λ es. es ++ front) is ∙ append_assoc there (mark ∷ found) front,
+  listed-push ts t found front are one,
+  at,
+  p,
+)
 
--- a new element has no nodes, and leaves the others theirs
-frame-opened : (o : Open) (nodes : List Node) (tag : Tag) (after : Option (Bor (List ℕ)))
-    → o.tag ≡ tag → o.before ≡ length nodes → o.after ≡ after → frame_of o nodes ≡ opened tag (followed_by after)
-frame-opened o nodes tag after p e q =
-    let m = ap elements (drop_all o.before nodes (omega (arith, e))) in
-    let a = ap followed_by q in
-    let e : frame o.tag (elements (drop o.before nodes)) (followed_by o.after) ≡ frame tag [] (followed_by after) = cc in
-    e
+-- where the entry of an open element stands, and how many are in it so far
+pub record IsMarked (o : Open) (entries : List Entry) : Type 0 where
+  pub some : 0 < o.before
+  pub most : o.before ≤ length entries
 
--- a node behind all others is the innermost element's
-frame-grown : (o : Open) (nodes : List Node) (n : Node) → o.before ≤ length nodes
-    → frame_of o (nodes ++ n ∷ []) ≡ grown (frame_of o nodes) (tree n)
-frame-grown o nodes n h =
-    let d = ap elements (drop-append-le o.before nodes (n ∷ []) h) ∙ map-push (drop o.before nodes) n in
-    ap (λ ts. frame o.tag ts (followed_by o.after)) d
+placed-marked : (o p : Open) (os : List Open) (ts : List Tree) (all : List (List Tree)) (entries : List Entry)
+    → ArePlaced o (p ∷ os) ts all entries → IsMarked o entries
+placed-marked o p os ts [] entries q = absurd q
+placed-marked o p os ts (us ∷ all) entries (there, mark, found, is, are, at, q) =
+    let l = ap length is ∙ length-append there (mark ∷ found) in
+    record { some = omega arith; most = omega arith }
 
-ArePlaced-grown : (o : Open) (os : List Open) (nodes : List Node) (n : Node) → ArePlaced (o ∷ os) nodes → ArePlaced (o ∷ os) (nodes ++ n ∷ [])
-ArePlaced-grown o os nodes n p =
-    let t = take-append-le o.before nodes (n ∷ []) p.0 in
-    (omega (arith, p.0, length-append nodes (n ∷ [])), subst (λ ns. ArePlaced os ns) (sym t) p.1)
+-- the innermost element ends: it is a child of the one around it
+placed-closed : (o p : Open) (os : List Open) (ts us : List Tree) (all : List (List Tree)) (entries entries' : List Entry) (inside : ℕ)
+    → ArePlaced o (p ∷ os) ts (us ∷ all) entries → inside ≡ length entries - o.before
+    → entries' ≡ set entries (o.before - 1) (entry.Constructed o.tag inside)
+    → ArePlaced p os (us ++ element o.tag ts ∷ []) all entries'
+placed-closed o p os ts us all entries entries' inside (there, mark, found, is, are, at, q) count told =
+    let l = ap length is ∙ length-append there (mark ∷ found) in
+    let place : o.before - 1 ≡ length there = omega arith in
+    let n : inside ≡ length found = omega arith in
+    let m = told ∙ marked there found entries mark (entry.Constructed o.tag inside) (o.before - 1) is place in
+    let g = placed-grown p os us all there (entry.Constructed o.tag inside ∷ found) (element o.tag ts) q
+    (found, are, ap (λ k. entry.Constructed o.tag k ∷ found) n) in
+    subst (λ es. ArePlaced p os (us ++ element o.tag ts ∷ []) all es) (sym m) g
 
 -- the reader is at this element, with these around it, and these octets left; the tree has as many levels so far
 pub record IsWithin (every : List ℕ) (f : Frame) (gs : List Frame) (octets : List ℕ) (deepest : ℕ) : Type 0 where
   pub at : IsAt every f gs octets
   pub deep : deepest ≡ levels (closed f gs)
 
--- the code is at this element, with these around it, these nodes, and these octets left
-pub record IsReading (every : List ℕ) (inner : Open) (outer : List Open) (nodes : List Node) (octets : List ℕ) (deepest : ℕ) : Type 0 where
-  pub within : IsWithin every (frame_of inner nodes) (frames (reverse outer) (take inner.before nodes)) octets deepest
-  pub placed : ArePlaced (inner ∷ reverse outer) nodes
-
--- the node is the innermost element, if it ends now
-pub node-ended : (inner : Open) (nodes all : List Node) (n : Node) → all ≡ nodes
-    → tree n ≡ element inner.tag (elements (take (length all - inner.before) (drop inner.before all))) → tree n ≡ ended (frame_of inner nodes)
-node-ended inner nodes all n same e =
-    e ∙ ap (λ ns. element inner.tag (elements ns)) (take_rest all inner.before ∙ ap (drop inner.before) same)
+-- the code is at this element, with these around it, these entries, and these octets left
+pub record IsReading (every : List ℕ) (inner : Open) (outer : List Open) (entries : List Entry) (octets : List ℕ) (deepest : ℕ) : Type 0 where
+  pub children : List Tree
+  pub around : List (List Tree)
+  pub within : IsWithin every (frame_of inner children) (frames (reverse outer) around) octets deepest
+  pub placed : ArePlaced inner (reverse outer) children around entries
 
 module _ (every : List ℕ) where
-  -- the innermost element's next child has been read
-  IsReading-grown : (o : Open) (outer : List Open) (nodes : List Node) (n : Node) (octets : List ℕ) (deepest : ℕ)
-      → ArePlaced (o ∷ reverse outer) nodes
-      → IsWithin every (grown (frame_of o nodes) (tree n)) (frames (reverse outer) (take o.before nodes)) octets deepest
-      → IsReading every o outer (nodes ++ n ∷ []) octets deepest
-  IsReading-grown o outer nodes n octets deepest p w =
-      let t = take-append-le o.before nodes (n ∷ []) p.0 in
-      let v = subst (λ f. IsWithin every f (frames (reverse outer) (take o.before nodes)) octets deepest) (sym (frame-grown o nodes n p.0)) w in
-      record {
-        within = subst (λ ns. IsWithin every (frame_of o (nodes ++ n ∷ [])) (frames (reverse outer) ns) octets deepest) (sym t) v;
-        placed = ArePlaced-grown o (reverse outer) nodes n p;
-      }
+  pub reading-first : (new : Open) (outer : List Open) (entries : List Entry) (contents : List ℕ) (tag : Tag) (after : Option (Bor (List ℕ)))
+      → outer ≡ [] → entries ≡ [] → new.tag ≡ tag → new.before ≡ 0 → new.after ≡ after
+      → IsTag true tag × Opens (followed_by after) every tag contents → IsReading every new outer entries contents 1
+  reading-first new outer entries contents tag after none fresh p b q h =
+      let o : Opens (followed_by new.after) every new.tag contents = rw (q, p) h.1 in
+      let k : IsTag true new.tag = rw p h.0 in
+      let w : IsWithin every (opened new.tag (followed_by new.after)) [] contents 1
+      = record { at = IsAt-first (followed_by new.after) every contents new.tag k o; deep = refl } in
+      rw (none, fresh) (record { children = []; around = []; within = w; placed = (refl, b) })
 
-  -- a constructed element has begun
-  IsReading-opened : (o : Open) (outer : List Open) (nodes : List Node) (octets : List ℕ) (deepest : ℕ) (tag : Tag) (after : Option (Bor (List ℕ)))
-      → o.tag ≡ tag → o.before ≡ length nodes → o.after ≡ after → ArePlaced (reverse outer) nodes
-      → IsWithin every (opened tag (followed_by after)) (frames (reverse outer) nodes) octets deepest
-      → IsReading every o outer nodes octets deepest
-  IsReading-opened o outer nodes octets deepest tag after tag-is e after-is p w =
-      let t = take_all o.before nodes (omega (arith, e)) in
-      let f = frame-opened o nodes tag after tag-is e after-is in
-      let v = subst (λ f. IsWithin every f (frames (reverse outer) nodes) octets deepest) (sym f) w in
-      record {
-        within = subst (λ ns. IsWithin every (frame_of o nodes) (frames (reverse outer) ns) octets deepest) (sym t) v;
-        placed = (omega (arith, e), subst (λ ns. ArePlaced (reverse outer) ns) (sym t) p);
-      }
-
-  pub reading-first : (new : Open) (outer : List Open) (nodes : List Node) (contents : List ℕ) (tag : Tag) (after : Option (Bor (List ℕ)))
-      → outer ≡ [] → nodes ≡ [] → new.tag ≡ tag → new.before ≡ 0 → new.after ≡ after
-      → IsTag true tag × Opens (followed_by after) every tag contents → IsReading every new outer nodes contents 1
-  reading-first new outer nodes contents tag after none fresh p b q h =
-      let w : IsWithin every (opened tag (followed_by after)) [] contents 1
-      = record { at = IsAt-first (followed_by after) every contents tag h.0 h.1; deep = refl } in
-      rw (none, fresh) (IsReading-opened new [] [] contents 1 tag after p b q refl w)
-
-  pub reading-opened : (inner new : Open) (outer outer' : List Open) (nodes : List Node) (octets contents : List ℕ) (tag : Tag)
-      (after : Option (Bor (List ℕ))) (deepest deepest' : ℕ)
-      → IsReading every inner outer nodes octets deepest → outer' ≡ outer ++ inner ∷ []
-      → new.tag ≡ tag → new.before ≡ length nodes → new.after ≡ after
+  pub reading-opened : (inner new : Open) (outer outer' : List Open) (entries entries' : List Entry) (mark : Entry) (octets contents : List ℕ)
+      (tag : Tag) (after : Option (Bor (List ℕ))) (deepest deepest' : ℕ)
+      → IsReading every inner outer entries octets deepest → outer' ≡ outer ++ inner ∷ [] → entries' ≡ entries ++ mark ∷ []
+      → new.tag ≡ tag → new.before ≡ length entries' → new.after ≡ after
       → IsTag true tag × Opens (followed_by after) octets tag contents → deepest' ≡ max deepest (length outer + 2)
-      → IsReading every new outer' nodes contents deepest'
-  reading-opened inner new outer outer' nodes octets contents tag after deepest deepest' r pushed p b q h d =
-      let f = frame_of inner nodes in
-      let gs = frames (reverse outer) (take inner.before nodes) in
+      → IsReading every new outer' entries' contents deepest'
+  reading-opened inner new outer outer' entries entries' mark octets contents tag after deepest deepest' r pushed marked p b q h d =
+      let f = frame_of inner r.children in
+      let gs = frames (reverse outer) r.around in
       let u = ap reverse pushed ∙ reverse-push outer inner in
-      let l = levels-opened f gs tag (followed_by after) in
-      let n = length-frames (reverse outer) (take inner.before nodes) ∙ length-reverse outer in
-      let w : IsWithin every (opened tag (followed_by after)) (f ∷ gs) contents deepest' = record {
-        at = IsAt-opened (followed_by after) every f gs octets contents tag r.within.at h.0 h.1;
+      let o : Opens (followed_by new.after) octets new.tag contents = rw (q, p) h.1 in
+      let k : IsTag true new.tag = rw p h.0 in
+      let l = levels-opened f gs new.tag (followed_by new.after) in
+      let n = (placed-length inner (reverse outer) r.children r.around entries r.placed).1 ∙ length-reverse outer in
+      let m = ap length marked ∙ length-append entries (mark ∷ []) in
+      let w : IsWithin every (opened new.tag (followed_by new.after)) (f ∷ gs) contents deepest' = record {
+        at = IsAt-opened (followed_by new.after) every f gs octets contents new.tag r.within.at k o;
         deep = omega (arith, r.within.deep);
       } in
-      IsReading-opened new outer' nodes contents deepest' tag after p b q (subst (λ os. ArePlaced os nodes) (sym u) r.placed)
-      (subst (λ os. IsWithin every (opened tag (followed_by after)) (frames os nodes) contents deepest') (sym u) w)
+      record {
+        children = [];
+        around = r.children ∷ r.around;
+        within = subst (λ os. IsWithin every (opened new.tag (followed_by new.after)) (frames os (r.children ∷ r.around)) contents deepest') (sym u) w;
+        placed = subst (λ os. ArePlaced new os [] (r.children ∷ r.around) entries') (sym u)
+            (entries, mark, [], marked, refl, omega arith, r.placed);
+      }
 
-  pub reading-grown : (inner : Open) (outer : List Open) (nodes nodes' : List Node) (octets : List ℕ) (tag : Tag) (contents after : Bor (List ℕ))
+  pub reading-grown : (inner : Open) (outer : List Open) (entries entries' : List Entry) (octets : List ℕ) (tag : Tag) (contents after : Bor (List ℕ))
       (deepest deepest' : ℕ)
-      → IsReading every inner outer nodes octets deepest → nodes' ≡ nodes ++ node.Primitive tag contents ∷ []
+      → IsReading every inner outer entries octets deepest → entries' ≡ entries ++ entry.Primitive tag contents ∷ []
       → IsTag false tag × IsElement octets tag contents.now after.now
-      → deepest' ≡ max deepest (length outer + 2) → IsReading every inner outer nodes' after.now deepest'
-  reading-grown inner outer nodes nodes' octets tag contents after deepest deepest' r pushed h d =
-      let leaf : Node = node.Primitive tag contents in
-      let f = frame_of inner nodes in
-      let gs = frames (reverse outer) (take inner.before nodes) in
-      let t = tree-Primitive tag contents in
-      let one = ap levels t in
-      let s = subst (λ u. Spells h.1.front u) (sym t) (h.0, h.1.definite) in
-      let l = levels-grown f gs (tree leaf) in
-      let n = length-frames (reverse outer) (take inner.before nodes) ∙ length-reverse outer in
-      let w : IsWithin every (grown f (tree leaf)) gs after.now deepest' = record {
-        at = IsAt-grown every f gs octets h.1.front after.now (tree leaf) r.within.at s h.1.split;
-        deep = omega (arith, r.within.deep);
-      } in
-      subst (λ ns. IsReading every inner outer ns after.now deepest') (sym pushed)
-      (IsReading-grown inner outer nodes leaf after.now deepest' r.placed w)
+      → deepest' ≡ max deepest (length outer + 2) → IsReading every inner outer entries' after.now deepest'
+  reading-grown inner outer entries entries' octets tag contents after deepest deepest' r pushed h d =
+      let leaf = Primitive tag contents.now in
+      let f = frame_of inner r.children in
+      let gs = frames (reverse outer) r.around in
+      let l = levels-grown f gs leaf in
+      let n = (placed-length inner (reverse outer) r.children r.around entries r.placed).1 ∙ length-reverse outer in
+      record {
+        children = r.children ++ leaf ∷ [];
+        around = r.around;
+        within = record {
+          at = IsAt-grown every f gs octets h.1.front after.now leaf r.within.at (h.0, h.1.definite) h.1.split;
+          deep = omega (arith, r.within.deep);
+        };
+        placed = subst (λ es. ArePlaced inner (reverse outer) (r.children ++ leaf ∷ []) r.around es) (sym pushed)
+            (placed-grown inner (reverse outer) r.children r.around entries (entry.Primitive tag contents ∷ []) leaf r.placed (contents, refl, refl));
+      }
 
-  pub reading-closed : (inner parent : Open) (outer outer' : List Open) (nodes kept nodes' : List Node) (n : Node) (octets after : List ℕ)
+  closed-within : (inner parent : Open) (os : List Open) (ts : List Tree) (all : List (List Tree)) (entries entries' : List Entry) (inside : ℕ)
+      (octets after : List ℕ) (deepest : ℕ)
+      → IsWithin every (frame_of inner ts) (frames (parent ∷ os) all) octets deepest → ArePlaced inner (parent ∷ os) ts all entries
+      → Closes (followed_by inner.after) octets [] after → inside ≡ length entries - inner.before
+      → entries' ≡ set entries (inner.before - 1) (entry.Constructed inner.tag inside)
+      → (us : List Tree) × (rest : List (List Tree)) × IsWithin every (frame_of parent us) (frames os rest) after deepest
+      × ArePlaced parent os us rest entries'
+  closed-within inner parent os ts [] entries entries' inside octets after deepest w p c count told = absurd p
+  closed-within inner parent os ts (us ∷ rest) entries entries' inside octets after deepest w p c count told = (
+    us ++ element inner.tag ts ∷ [],
+    rest,
+    record { at = IsAt-closed every (frame_of inner ts) (frame_of parent us) (frames os rest) octets after w.at c; deep = w.deep },
+    placed-closed inner parent os ts us rest entries entries' inside p count told,
+  )
+
+  pub reading-closed : (inner parent : Open) (outer outer' : List Open) (entries entries' : List Entry) (inside : ℕ) (octets after : List ℕ)
       (deepest : ℕ)
-      → IsReading every inner outer nodes octets deepest → outer ≡ outer' ++ parent ∷ [] → Closes (followed_by inner.after) octets [] after
-      → tree n ≡ ended (frame_of inner nodes) → kept ≡ take inner.before nodes → nodes' ≡ kept ++ n ∷ []
-      → IsReading every parent outer' nodes' after deepest
-  reading-closed inner parent outer outer' nodes kept nodes' n octets after deepest r popped c t k pushed =
-      let f = frame_of inner nodes in
+      → IsReading every inner outer entries octets deepest → outer ≡ outer' ++ parent ∷ [] → Closes (followed_by inner.after) octets [] after
+      → inside ≡ length entries - inner.before → entries' ≡ set entries (inner.before - 1) (entry.Constructed inner.tag inside)
+      → IsReading every parent outer' entries' after deepest
+  reading-closed inner parent outer outer' entries entries' inside octets after deepest r popped c count told =
       let u = ap reverse popped ∙ reverse-push outer' parent in
-      let v : IsWithin every f (frames (parent ∷ reverse outer') kept) octets deepest
-      = rw k (subst (λ os. IsWithin every f (frames os (take inner.before nodes)) octets deepest) u r.within) in
-      let p : ArePlaced (parent ∷ reverse outer') kept = rw k (subst (λ os. ArePlaced os (take inner.before nodes)) u r.placed.1) in
-      let g = frame_of parent kept in
-      let gs = frames (reverse outer') (take parent.before kept) in
-      let w : IsWithin every (grown g (ended f)) gs after deepest = record { at = IsAt-closed every f g gs octets after v.at c; deep = v.deep } in
-      let x = subst (λ u. IsWithin every (grown g u) gs after deepest) (sym t) w in
-      subst (λ ns. IsReading every parent outer' ns after deepest) (sym pushed)
-      (IsReading-grown parent outer' kept n after deepest p x)
+      let (us, rest, w, p) = closed-within inner parent (reverse outer') r.children r.around entries entries' inside octets after deepest
+      (subst (λ os. IsWithin every (frame_of inner r.children) (frames os r.around) octets deepest) u r.within)
+      (subst (λ os. ArePlaced inner os r.children r.around entries) u r.placed) c count told in
+      record { children = us; around = rest; within = w; placed = p }
+
+  -- the element that ends is not the outermost one
+  pub reading-marked : (inner parent : Open) (outer outer' : List Open) (entries : List Entry) (octets : List ℕ) (deepest : ℕ)
+      → IsReading every inner outer entries octets deepest → outer ≡ outer' ++ parent ∷ [] → IsMarked inner entries
+  reading-marked inner parent outer outer' entries octets deepest r popped =
+      let u = ap reverse popped ∙ reverse-push outer' parent in
+      placed-marked inner parent (reverse outer') r.children r.around entries
+      (subst (λ os. ArePlaced inner os r.children r.around entries) u r.placed)
 
   -- no element is around the innermost one
-  reading-outermost : (inner : Open) (outer : List Open) (nodes : List Node) (octets : List ℕ) (deepest : ℕ)
-      → IsReading every inner outer nodes octets deepest → outer ≡ [] → IsWithin every (frame_of inner nodes) [] octets deepest
-  reading-outermost inner outer nodes octets deepest r none =
-      subst (λ os. IsWithin every (frame_of inner nodes) (frames (reverse os) (take inner.before nodes)) octets deepest) none r.within
+  alone-within : (inner : Open) (ts : List Tree) (all : List (List Tree)) (entries : List Entry) (octets : List ℕ) (deepest : ℕ)
+      → IsWithin every (frame_of inner ts) (frames [] all) octets deepest → ArePlaced inner [] ts all entries
+      → IsWithin every (frame_of inner ts) [] octets deepest × (listed entries ≡ ts)
+  alone-within inner ts [] entries octets deepest w p = (w, are-listed ts entries p.0)
+  alone-within inner ts (us ∷ all) entries octets deepest w p = absurd p
 
-  pub reading-last : (inner : Open) (outer : List Open) (nodes : List Node) (n : Node) (octets after : List ℕ) (deepest : ℕ)
-      → IsReading every inner outer nodes octets deepest → outer ≡ [] → Closes (followed_by inner.after) octets [] after → after ≡ []
-      → tree n ≡ ended (frame_of inner nodes) → Spells every (tree n) × (levels (tree n) ≡ deepest)
-  reading-last inner outer nodes n octets after deepest r none c e t =
-      let w = reading-outermost inner outer nodes octets deepest r none in
-      (subst (λ u. Spells every u) (sym t) (IsAt-last every (frame_of inner nodes) octets after w.at c e), ap levels t ∙ sym w.deep)
+  reading-outermost : (inner : Open) (outer : List Open) (entries : List Entry) (octets : List ℕ) (deepest : ℕ)
+      → (r : IsReading every inner outer entries octets deepest) → outer ≡ []
+      → IsWithin every (frame_of inner r.children) [] octets deepest × (listed entries ≡ r.children)
+  reading-outermost inner outer entries octets deepest r none =
+      alone-within inner r.children r.around entries octets deepest
+      (subst (λ os. IsWithin every (frame_of inner r.children) (frames (reverse os) r.around) octets deepest) none r.within)
+      (subst (λ os. ArePlaced inner (reverse os) r.children r.around entries) none r.placed)
 
-  pub reading-more : (inner : Open) (outer : List Open) (nodes : List Node) (octets after : List ℕ) (deepest : ℕ)
-      → IsReading every inner outer nodes octets deepest
+  pub reading-last : (inner : Open) (outer : List Open) (entries : List Entry) (nodes : Nodes) (octets after : List ℕ) (deepest : ℕ)
+      → IsReading every inner outer entries octets deepest → outer ≡ [] → Closes (followed_by inner.after) octets [] after → after ≡ []
+      → elements nodes ≡ listed entries
+      → Spells every (tree (node.Constructed inner.tag nodes)) × (levels (tree (node.Constructed inner.tag nodes)) ≡ deepest)
+  reading-last inner outer entries nodes octets after deepest r none c e is =
+      let (w, are) = reading-outermost inner outer entries octets deepest r none in
+      let t = tree-Constructed inner.tag nodes ∙ ap (element inner.tag) (is ∙ are) in
+      (subst (λ u. Spells every u) (sym t) (IsAt-last every (frame_of inner r.children) octets after w.at c e), ap levels t ∙ sym w.deep)
+
+  pub reading-more : (inner : Open) (outer : List Open) (entries : List Entry) (octets after : List ℕ) (deepest : ℕ)
+      → IsReading every inner outer entries octets deepest
       → outer ≡ [] → Closes (followed_by inner.after) octets [] after → (after ≡ [] → ⊥) → (t : Tree) → Spells every t → ⊥
-  reading-more inner outer nodes octets after deepest r none c ne =
-      IsAt-more every (frame_of inner nodes) octets after (reading-outermost inner outer nodes octets deepest r none).at c ne
+  reading-more inner outer entries octets after deepest r none c ne =
+      IsAt-more every (frame_of inner r.children) octets after (reading-outermost inner outer entries octets deepest r none).0.at c ne
 
-  pub reading-stuck : (inner : Open) (outer : List Open) (nodes : List Node) (octets : List ℕ) (deepest : ℕ)
-      → IsReading every inner outer nodes octets deepest
+  pub reading-stuck : (inner : Open) (outer : List Open) (entries : List Entry) (octets : List ℕ) (deepest : ℕ)
+      → IsReading every inner outer entries octets deepest
       → ((rest : List ℕ) → Closes (followed_by inner.after) octets [] rest → ⊥) → BeginsNoElement octets → (t : Tree) → Spells every t → ⊥
-  reading-stuck inner outer nodes octets deepest r no_end no_head =
-      IsAt-stuck every (frame_of inner nodes) (frames (reverse outer) (take inner.before nodes)) octets r.within.at no_end no_head
+  reading-stuck inner outer entries octets deepest r no_end no_head =
+      IsAt-stuck every (frame_of inner r.children) (frames (reverse outer) r.around) octets r.within.at no_end no_head
 
 -- each step leaves less to do
 pub head-length : (octets : List ℕ) (tag : Tag) (contents rest : List ℕ) → IsElement octets tag contents rest → length contents + length rest + 2 ≤ length octets
@@ -264,9 +302,11 @@ pub primitive-more : (tag : Tag) (octets contents after : List ℕ) → IsTag fa
 primitive-more tag octets contents after h ne t s =
     ne (sym (Spells-inj t (Primitive tag contents) octets h.1.front [] after s (h.0, h.1.definite) (append-nil octets ∙ h.1.split)).1)
 
--- what is left to read, and two octets for each node and for each element that is open
-abbrev pub taken : Open → List Open → List Node → List ℕ → ℕ
-taken inner outer nodes rest = 2 * length nodes + length outer + 1 + (length rest + waiting (inner ∷ outer))
+-- What is left to read, and two octets for each entry and for the outermost element, are no more than there were octets. Each
+-- element that is open waits for one step, which is no octet.
+pub record AreTaken (inner : Open) (outer : List Open) (entries : List Entry) (rest : List ℕ) (octets : ℕ) : Type 0 where
+  pub most : 2 * length entries + 1 + (length rest + waiting (inner ∷ outer)) ≤ octets + length outer
+  pub each : length outer ≤ length entries
 
 weight-some : (form : Option (List ℕ)) → 0 < weight form
 weight-some None = omega arith
@@ -276,49 +316,51 @@ waiting-each : (os : List Open) → length os ≤ waiting os
 waiting-each [] = omega arith
 waiting-each (o ∷ os) = let w = weight-some (followed_by o.after) in omega (arith, waiting-each os)
 
--- so there is room for one more node, and for one more element that is open, if there is for half as many as there were octets
-pub taken-room : (inner : Open) (outer : List Open) (nodes : List Node) (rest : List ℕ) (octets : ℕ) → taken inner outer nodes rest ≤ octets
-    → (length nodes < octets / 2) × (length outer < octets / 2)
-taken-room inner outer nodes rest octets h =
+-- so there is room for one more entry, and for one more element that is open, if there is for half as many as there were octets
+pub taken-room : (inner : Open) (outer : List Open) (entries : List Entry) (rest : List ℕ) (octets : ℕ) → AreTaken inner outer entries rest octets
+    → (length entries < octets / 2) × (length outer < octets / 2)
+taken-room inner outer entries rest octets h =
     let w = weight-some (followed_by inner.after) in let e = waiting-each outer in
-    (omega arith, omega arith)
+    (omega (arith, h.most, h.each), omega (arith, h.most, h.each))
 
-pub taken-first : (new : Open) (outer : List Open) (nodes : List Node) (octets contents : List ℕ) (tag : Tag) (after : Option (Bor (List ℕ)))
-    → outer ≡ [] → nodes ≡ [] → new.after ≡ after → IsTag true tag × Opens (followed_by after) octets tag contents
-    → taken new outer nodes contents ≤ length octets
-taken-first new outer nodes octets contents tag after none fresh q h =
+pub taken-first : (new : Open) (outer : List Open) (entries : List Entry) (octets contents : List ℕ) (tag : Tag) (after : Option (Bor (List ℕ)))
+    → outer ≡ [] → entries ≡ [] → new.after ≡ after → IsTag true tag × Opens (followed_by after) octets tag contents
+    → AreTaken new outer entries contents (length octets)
+taken-first new outer entries octets contents tag after none fresh q h =
     let w = ap (λ a. weight (followed_by a)) q in
     let o = Opens-length (followed_by after) octets contents tag h.1 in
-    rw (none, fresh) (omega arith)
+    rw (none, fresh) (record { most = omega arith; each = omega arith })
 
-pub taken-opened : (inner new : Open) (outer outer' : List Open) (nodes : List Node) (octets contents : List ℕ) (tag : Tag) (after : Option (Bor (List ℕ)))
-    → outer' ≡ outer ++ inner ∷ [] → new.after ≡ after → IsTag true tag × Opens (followed_by after) octets tag contents
-    → taken new outer' nodes contents ≤ taken inner outer nodes octets
-taken-opened inner new outer outer' nodes octets contents tag after pushed q h =
+pub taken-opened : (inner new : Open) (outer outer' : List Open) (entries entries' : List Entry) (mark : Entry) (octets contents : List ℕ) (tag : Tag)
+    (after : Option (Bor (List ℕ))) (all : ℕ)
+    → AreTaken inner outer entries octets all → outer' ≡ outer ++ inner ∷ [] → entries' ≡ entries ++ mark ∷ [] → new.after ≡ after
+    → IsTag true tag × Opens (followed_by after) octets tag contents → AreTaken new outer' entries' contents all
+taken-opened inner new outer outer' entries entries' mark octets contents tag after all r pushed marked q h =
     let u = ap waiting pushed ∙ waiting-push outer inner in
     let n = ap length pushed ∙ length-append outer (inner ∷ []) in
+    let m = ap length marked ∙ length-append entries (mark ∷ []) in
     let w = ap (λ a. weight (followed_by a)) q in
     let o = Opens-length (followed_by after) octets contents tag h.1 in
-    omega arith
+    record { most = omega (arith, r.most); each = omega (arith, r.each) }
 
-pub taken-grown : (inner : Open) (outer : List Open) (nodes nodes' : List Node) (n : Node) (octets : List ℕ) (tag : Tag) (contents after : List ℕ)
-    → nodes' ≡ nodes ++ n ∷ [] → IsElement octets tag contents after → taken inner outer nodes' after ≤ taken inner outer nodes octets
-taken-grown inner outer nodes nodes' n octets tag contents after pushed e =
-    let m = ap length pushed ∙ length-append nodes (n ∷ []) in
-    let l = head-length octets tag contents after e in
-    omega arith
+pub taken-grown : (inner : Open) (outer : List Open) (entries entries' : List Entry) (e : Entry) (octets : List ℕ) (tag : Tag) (contents after : List ℕ)
+    (all : ℕ)
+    → AreTaken inner outer entries octets all → entries' ≡ entries ++ e ∷ [] → IsElement octets tag contents after
+    → AreTaken inner outer entries' after all
+taken-grown inner outer entries entries' e octets tag contents after all r pushed h =
+    let m = ap length pushed ∙ length-append entries (e ∷ []) in
+    let l = head-length octets tag contents after h in
+    record { most = omega (arith, r.most); each = omega (arith, r.each) }
 
-pub taken-closed : (inner parent : Open) (outer outer' : List Open) (nodes kept nodes' : List Node) (n : Node) (octets after : List ℕ)
-    → outer ≡ outer' ++ parent ∷ [] → Closes (followed_by inner.after) octets [] after → kept ≡ take inner.before nodes → nodes' ≡ kept ++ n ∷ []
-    → taken parent outer' nodes' after ≤ taken inner outer nodes octets
-taken-closed inner parent outer outer' nodes kept nodes' n octets after popped c k pushed =
+pub taken-closed : (inner parent : Open) (outer outer' : List Open) (entries entries' : List Entry) (place : ℕ) (e : Entry) (octets after : List ℕ) (all : ℕ)
+    → AreTaken inner outer entries octets all → outer ≡ outer' ++ parent ∷ [] → Closes (followed_by inner.after) octets [] after
+    → entries' ≡ set entries place e → AreTaken parent outer' entries' after all
+taken-closed inner parent outer outer' entries entries' place e octets after all r popped c told =
     let p = ap waiting popped ∙ waiting-push outer' parent in
     let l = ap length popped ∙ length-append outer' (parent ∷ []) in
-    let t = ap length k in
-    let s = length-take inner.before nodes in
-    let m = ap length pushed ∙ length-append kept (n ∷ []) in
+    let m = ap length told ∙ length-set entries place e in
     let d = Closes-smaller (followed_by inner.after) octets after c in
-    omega arith
+    record { most = omega (arith, r.most); each = omega (arith, r.each) }
 
 pub no-items : (xs : List Open) → length xs ≡ 0 → xs ≡ []
 no-items [] e = refl

@@ -1,4 +1,5 @@
 pub mod Contents
 pub mod Faults
 pub mod Head
+pub mod Listed
 pub mod Nodes

@@ -1,19 +1,30 @@
--- A node as the tree that it is, wherever it is in memory.
-use Rattle.std.specs.Prelude.{List, map}
+-- What lists of entries mean, wherever they are in memory: elements in a row.
+use Rattle.std.specs.Prelude.{ℕ, zero, suc, List, [], ◌∷◌, length, take, drop}
 use Rattle.x690.specs.Tree.{Tree, element}
 use Rattle.x690.specs.Tree as x690
+use Rattle.bertree.specs.declared.nodes.Entry.{Entry}
+use Rattle.bertree.specs.declared.nodes.Entry.TheVariants as entry
+use Rattle.bertree.specs.declared.nodes.Nodes.{Nodes}
 use Rattle.bertree.specs.declared.node.Node.{Node}
-use Rattle.bertree.specs.declared.node.Node.TheOpen.{Node-F, Primitive, Constructed}
-use Rattle.bertree.specs.declared.node.Node.TheFolds.{fold-Node}
+use Rattle.bertree.specs.declared.node.Node.TheVariants.{Primitive, Constructed}
 
--- one node, with the tree of each child in its place
-abbrev pub tree_step : Node-F Tree → Tree
-tree_step (Primitive tag octets) = x690.Primitive tag octets.now
-tree_step (Constructed tag nodes) = element tag nodes.now
+-- the first elements that entries list: so many of a constructed one's followers are in it, and then come the elements after it
+abbrev pub first_listed : ℕ → List Entry → List Tree
+first_listed zero entries = []
+first_listed (suc n) [] = []
+first_listed (suc n) (entry.Primitive tag octets ∷ entries) = x690.Primitive tag octets.now ∷ first_listed n entries
+first_listed (suc n) (entry.Constructed tag inside ∷ entries) =
+    element tag (first_listed n (take inside entries)) ∷ first_listed n (drop inside entries)
 
+-- all of them: each has an entry
+unfoldable pub listed : List Entry → List Tree
+listed entries = first_listed (length entries) entries
+
+-- elements in a row
+unfoldable pub elements : Nodes → List Tree
+elements nodes = listed nodes.entries.now
+
+-- one element
 unfoldable pub tree : Node → Tree
-tree = fold-Node Tree tree_step
-
--- the trees of several nodes
-abbrev pub elements : List Node → List Tree
-elements nodes = map tree nodes
+tree (Primitive tag octets) = x690.Primitive tag octets.now
+tree (Constructed tag nodes) = element tag (elements nodes)

@@ -8,11 +8,13 @@ pub mod elements;
 mod fault;
 mod head;
 mod node;
+mod nodes;
 mod read;
 mod short;
 
 pub use fault::TreeFault;
 pub use node::Node;
+pub use nodes::Nodes;
 pub use read::read_tree;
 pub use x690::limits::{MAX_LEVELS, MAX_OCTETS};
 pub use x690::{Class, Tag};

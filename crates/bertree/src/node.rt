@@ -4,6 +4,8 @@ ghost use Rattle.std.specs.Option.{option_copied};
 ghost use Rattle.x690.specs.Reading.{tag_of, octets_of, octet_of, children_of, children, only_child};
 ghost use Rattle.bertree.specs.Nodes.{tree, elements};
 
+use crate::elements::at_most_one;
+use crate::nodes::Nodes;
 use x690::Tag;
 
 /// An element of a tree that octets spell: its tag with its contents, which are a slice of the octets that were read, or
@@ -11,7 +13,7 @@ use x690::Tag;
 #[derive(Clone, Copy)]
 pub enum Node<'a> {
     Primitive(Tag, &'a [u8]),
-    Constructed(Tag, &'a [Node<'a>]),
+    Constructed(Tag, Nodes<'a>),
 }
 
 #[tactic(auto, using(crate::proofs::Trees::tree_views))]
@@ -46,34 +48,29 @@ impl<'a> Node<'a> {
     }
 
     /// The children, if the element is constructed and has this tag.
-    pub fn children(&self, tag: Tag) -> Option<&'a [Node<'a>]>
-        ensures { option_map (λ nodes. elements nodes.now) result
-            ≡ children_of tag (tree self.now) }
+    pub fn children(&self, tag: Tag) -> Option<Nodes<'a>>
+        ensures { option_map elements result ≡ children_of tag (tree self.now) }
     {
         match self {
-            Node::Constructed(own, nodes) if *own == tag => Some(nodes),
+            Node::Constructed(own, nodes) if *own == tag => Some(*nodes),
             _ => None,
         }
     }
 
     /// The one child, if the element is constructed and has this tag and no other child.
-    #[tactic(auto, using(crate::proofs::Trees::lists))]
-    pub fn only_child(&self, tag: Tag) -> Option<&'a Node<'a>>
-        ensures { option_map (λ node. tree node.now) result ≡ only_child tag (tree self.now) }
+    pub fn only_child(&self, tag: Tag) -> Option<Node<'a>>
+        ensures { option_map tree result ≡ only_child tag (tree self.now) }
     {
-        match self.children(tag)? {
-            [node] => Some(node),
-            _ => None,
-        }
+        at_most_one(self.children(tag)?)?
     }
 
     /// All children, whatever the tag; a primitive element has none.
-    pub fn nodes(&self) -> &'a [Node<'a>]
-        ensures { elements result.now ≡ children (tree self.now) }
+    pub fn nodes(&self) -> Nodes<'a>
+        ensures { elements result ≡ children (tree self.now) }
     {
         match self {
-            Node::Primitive(_, _) => &[],
-            Node::Constructed(_, nodes) => nodes,
+            Node::Primitive(_, _) => Nodes::none(),
+            Node::Constructed(_, nodes) => *nodes,
         }
     }
 }

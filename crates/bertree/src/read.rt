@@ -1,24 +1,25 @@
 //! The reader: trees of short elements alone are read by recursion, as they have too few octets to be deep; all others in one pass
 //! over the octets, without recursion at any depth.
 ghost use Rattle.std.specs.Prelude.{◌≡◌, ℕ, ◌+◌, ◌<◌, ◌≤◌, ◌↔◌, List, [], length, IfSome, IfNone, IfOk, IfErr, MatchResult};
-ghost use Rattle.x690.specs.Tree.{Tree, element, levels};
+ghost use Rattle.x690.specs.Tree.{Tree, levels};
 ghost use Rattle.x690.specs.Spelling.{Spells};
 ghost use Rattle.bertree.specs.Contents.{Closes};
 ghost use Rattle.bertree.specs.Faults.{SpellsNone, SpellsTooDeep, IsRefused};
 ghost use Rattle.bertree.specs.Head.{followed_by};
-ghost use Rattle.bertree.specs.Nodes.{tree, elements};
+ghost use Rattle.bertree.specs.Nodes.{tree};
 
 use crate::fault::TreeFault;
 use crate::head::{Head, next, read_head};
 use crate::node::Node;
+use crate::nodes::{Entry, Nodes};
 use crate::short::read_short_tree;
 use bumpalo::Bump;
-use std::alloc::AllocError;
+use bumpalo::collections::into_bump_slice;
 use x690::Tag;
 use x690::limits::{MAX_LEVELS, MAX_OCTETS};
 
-/// A constructed element that has begun: how many nodes stand before its children and, if its length is definite, what
-/// follows it.
+/// A constructed element that has begun: how many entries stand before those of its children and, if its length is definite,
+/// what follows it.
 #[derive(Clone, Copy)]
 struct Open<'a> {
     tag: Tag,
@@ -34,14 +35,6 @@ impl<'a> Open<'a> {
         ensures after { result.after ≡ after.entry }
     {
         Open { tag, before, after }
-    }
-
-    /// The element, with a copy of these nodes as its children.
-    #[inline(always)]
-    fn around(self, bump: &'a Bump, nodes: &[Node<'a>]) -> Result<Node<'a>, AllocError>
-        ensures { IfOk result (λ node. tree node ≡ element self.entry.tag (elements nodes.now)) }
-    {
-        Ok(Node::Constructed(self.tag, bump.try_alloc_slice_copy(nodes)?))
     }
 }
 
@@ -80,9 +73,9 @@ fn alone<'a>(node: Node<'a>, after: &[u8]) -> Result<Node<'a>, TreeFault>
 }
 
 /// The tree that the octets spell, and its levels. The elements that have begun are in `outer`, outermost first, and in
-/// `inner`; `rest` is what is left of the contents of `inner`. Their children so far are in `nodes`, those of each element
-/// behind those of the elements around it. They are copied to the arena when the element ends, so that there is one list. Both
-/// lists have room for all that they can hold from the start, since each element takes at least two octets.
+/// `inner`; `rest` is what is left of the contents of `inner`. What is in the outermost one stands in `nodes`, in the order of the
+/// octets; when an element ends, its entry is told how many are in it. Both lists have room for all that they can hold from the
+/// start, since each element takes at least two octets.
 // Not inlined: few frames come here, and among what is done around it the loop would have no registers left.
 #[inline(never)]
 fn read_levels<'a>(bump: &'a Bump, octets: &'a [u8]) -> Result<(Node<'a>, usize), TreeFault>
@@ -102,17 +95,17 @@ fn read_levels<'a>(bump: &'a Bump, octets: &'a [u8]) -> Result<(Node<'a>, usize)
     };
     let most = octets.len() / 2;
     let mut outer: Vec<Open<'a>, &'a Bump> = Vec::with_capacity(bump, most)?;
-    let mut nodes: Vec<Node<'a>, &'a Bump> = Vec::with_capacity(bump, most)?;
+    let mut nodes: Vec<Entry<'a>, &'a Bump> = Vec::with_capacity(bump, most)?;
     let mut deepest = 1;
     loop {
         if let Some(after) = end(inner.after, rest) {
-            let node = inner.around(bump, &nodes[inner.before..])?;
-            nodes.truncate(inner.before);
             let Some(parent) = outer.pop() else {
+                let node = Node::Constructed(inner.tag, Nodes::new(into_bump_slice(nodes)));
                 return Ok((alone(node, after)?, deepest));
             };
+            let inside = nodes.len() - inner.before;
+            nodes[inner.before - 1] = Entry::Constructed(inner.tag, inside);
             inner = parent;
-            nodes.push_reserved(node);
             rest = after;
             continue;
         }
@@ -122,11 +115,12 @@ fn read_levels<'a>(bump: &'a Bump, octets: &'a [u8]) -> Result<(Node<'a>, usize)
         deepest = deepest.max(outer.len() + 2);
         match head {
             Head::Primitive(tag, contents, after) => {
-                nodes.push_reserved(Node::Primitive(tag, contents));
+                nodes.push_reserved(Entry::Primitive(tag, contents));
                 rest = after;
             }
             Head::Constructed(tag, contents, after) => {
                 outer.push_reserved(inner);
+                nodes.push_reserved(Entry::Constructed(tag, 0));
                 inner = Open::new(tag, nodes.len(), after);
                 rest = contents;
             }

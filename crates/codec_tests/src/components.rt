@@ -14,7 +14,7 @@ use std::process::Abort;
 use std::test::Fail;
 
 /// A component, with the outline of its parameter, or `none`.
-fn told(alloc: Global, found: &Component<&Node>) -> Result<String, AllocError> {
+fn told(alloc: Global, found: &Component<Node>) -> Result<String, AllocError> {
     let parameter = match found {
         Component::Invoke {
             parameter: Some(node),
@@ -83,7 +83,7 @@ const PORTIONS: &str = "
 ";
 
 /// The components, each followed by a comma.
-fn told_each(alloc: Global, found: &[Component<&Node>]) -> Result<String, AllocError> {
+fn told_each(alloc: Global, found: &[Component<Node>]) -> Result<String, AllocError> {
     let mut text = String::new(alloc);
     for one in found {
         write!(text, "{}, ", told(alloc, one)?)?;

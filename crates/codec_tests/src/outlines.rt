@@ -34,8 +34,10 @@ fn push_node(text: &mut String, node: &Node, levels: usize) -> Result<(), AllocE
     }
     text.push('[')?;
     if levels > 0 {
-        for child in node.nodes() {
-            push_node(text, child, levels - 1)?;
+        let mut rest = node.nodes();
+        while let Some((child, behind)) = rest.split_first() {
+            push_node(text, &child, levels - 1)?;
+            rest = behind;
         }
     }
     text.push_str(" ]")

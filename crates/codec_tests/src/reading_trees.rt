@@ -2,7 +2,7 @@
 
 use crate::outlines::outline;
 use crate::tables::{FIRST_ROUTE, check, octets};
-use bertree::{Class, Node, Tag, TreeFault, elements, read_tree};
+use bertree::{Class, Node, Nodes, Tag, TreeFault, elements, read_tree};
 use bumpalo::Bump;
 use std::alloc::Global;
 use std::test::Fail;
@@ -108,7 +108,7 @@ fn tag(class: Class, constructed: bool, number: u32) -> Tag {
 }
 
 /// The elements of the one component of a Begin from 00000001 with both portions.
-fn component_of<'a>(begin: &Node<'a>) -> Option<&'a [Node<'a>]> {
+fn component_of<'a>(begin: &Node<'a>) -> Option<Nodes<'a>> {
     let nodes = begin.children(tag(Class::Application, true, 2))?;
     let (origin, nodes) = elements::octets(nodes, tag(Class::Application, false, 8))?;
     let (dialogue, nodes) = elements::optional_node(nodes, tag(Class::Application, true, 11));
@@ -119,13 +119,13 @@ fn component_of<'a>(begin: &Node<'a>) -> Option<&'a [Node<'a>]> {
 }
 
 /// The code of an Invoke with the id 1 and without a linked id, and how many elements its argument has.
-fn invoke_of(component: &[Node]) -> Option<(u8, usize)> {
+fn invoke_of(component: Nodes) -> Option<(u8, usize)> {
     let integer = tag(Class::Universal, false, 2);
     let (id, nodes) = elements::octets(component, integer)?;
     let (linked, nodes) = elements::optional_octets(nodes, tag(Class::ContextSpecific, false, 0));
     let (code, nodes) = elements::node(nodes, integer)?;
     let (argument, _) = elements::children(nodes, tag(Class::Universal, true, 16))?;
-    (id == [1].as_slice() && linked.is_none()).then_some((code.octet(integer)?, argument.len()))
+    (id == [1].as_slice() && linked.is_none()).then_some((code.octet(integer)?, argument.count()))
 }
 
 #[test]
@@ -145,7 +145,7 @@ fn refused_growth_is_memory(rt: HostRuntime) -> Result<(), Fail> {
     let bump = Bump::new(rt.alloc());
     let octets: [u8; 12] = [0x62, 0x80, 0x30, 0x80, 0x05, 0, 0x05, 0, 0, 0, 0, 0];
     match read_tree(&bump, &octets) {
-        Ok(node) => assert_eq!(rt; node.nodes().len(), 1),
+        Ok(node) => assert_eq!(rt; node.nodes().count(), 1),
         Err(fault) => assert_eq!(rt; fault, TreeFault::Memory),
     }
     Ok(())

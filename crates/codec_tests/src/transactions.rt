@@ -19,7 +19,7 @@ fn told_portions(alloc: Global, portions: &Portions) -> Result<String, AllocErro
     } else {
         "-"
     };
-    format!(in alloc; "{dialogue} {}", portions.components.len())
+    format!(in alloc; "{dialogue} {}", portions.components.count())
 }
 
 /// A message, its ids, and its portions.

@@ -1,11 +1,9 @@
 -- A word grows by a digit at its low end, and loses one at its high end.
-use Rattle.std.proofs.Common.{◌≡◌, ℕ, zero, suc, ◌+◌, ◌-◌, ◌*◌, ◌/◌, ◌%◌, ◌^◌, ◌<◌, ◌≤◌, List, [], ◌∷◌, length, take, ◌++◌, append_assoc, append-nil, length-append, slice_index, refl, sym, ap, eqb, false, ◌∙◌, subst, arith}
+use Rattle.std.proofs.Common.{◌≡◌, ℕ, zero, suc, ◌+◌, ◌-◌, ◌*◌, ◌/◌, ◌%◌, ◌^◌, ◌<◌, ◌≤◌, List, [], ◌∷◌, length, take, ◌++◌, append_assoc, append-nil, length-append, slice_index, refl, sym, ap, ◌∙◌, subst, arith}
 use Rattle.std.proofs.Math.Nat.{pow-suc, mul_assoc, pow-le-pow_right}
 use Rattle.std.proofs.lemmas.Nat.{div-mul-add}
 use Rattle.std.proofs.lemmas.List.{take_all}
 use Rattle.std.specs.List.{AllByRecursion}
-use Rattle.std.specs.Prelude.{◌==◌, if◌then◌else◌}
-use Rattle.std.proofs.lemmas.Bool.Decides.{nat_tests}
 use Rattle.hlr_types.specs.Tbcd.{tbcd}
 use Rattle.hlr_types.specs.Digits.{AreSomeDigits}
 use Rattle.hlr_types.specs.Words.{packed, word_of, in_word, IsWord}
@@ -182,15 +180,13 @@ pub record IsUnwritten (rest : ℕ) (octets all : List ℕ) : Type 0 where
   pub whole : octets ++ tbcd left ≡ tbcd all
   pub word : rest ≡ word_of left
 
-abbrev pub half_of : ℕ → ℕ
-half_of word = if word / 2 ^ 60 == 0 then 15 else word / 2 ^ 60 - 1
+-- the octet of two half octets, each a digit plus one: modulo 256 the 0 of no digit becomes the filler
+abbrev pub octet_of : ℕ → ℕ
+octet_of pair = (pair % 16 * 16 + pair / 16 + 239) % 256
 
 pub record IsPair (rest : ℕ) (octets all : List ℕ) : Type 0 where
-  pub least : 1 ≤ rest / 2 ^ 60
-  pub most : rest / 2 ^ 60 ≤ 10
-  pub half : half_of (rest * 16 % 2 ^ 64) ≤ 15
   pub room : length octets < 8
-  pub next : IsUnwritten (rest * 16 % 2 ^ 64 * 16 % 2 ^ 64) (octets ++ (rest / 2 ^ 60 - 1 + 16 * half_of (rest * 16 % 2 ^ 64)) ∷ []) all
+  pub next : IsUnwritten (rest * 256 % 2 ^ 64) (octets ++ octet_of (rest / 2 ^ 56) ∷ []) all
 
 pair-by : (rest : ℕ) (octets all left : List ℕ) → AllByRecursion (λ d. d < 10) left → 2 * length octets + length left ≤ 16 → octets ++ tbcd left ≡ tbcd all
     → rest ≡ word_of left → 0 < rest → IsPair rest octets all
@@ -198,19 +194,16 @@ pair-by rest octets all [] each count whole word pos = absurd (omega (arith, pos
 pair-by rest octets all (d ∷ []) each count whole word pos =
     let first : rest / 2 ^ 60 ≡ d + 1 = ap (λ w. w / 2 ^ 60) word ∙ first_digit d [] tt in
     let other : rest * 16 % 2 ^ 64 ≡ 0 = ap (λ w. w * 16 % 2 ^ 64) word ∙ other_digits d [] (omega arith) tt ∙ no_digits in
-    let half : half_of (rest * 16 % 2 ^ 64) ≡ 15 = ap half_of other in
-    let octet : rest / 2 ^ 60 - 1 + 16 * half_of (rest * 16 % 2 ^ 64) ≡ d + 16 * 15 = omega (arith, first, half) in
+    let halves : rest / 2 ^ 56 ≡ (d + 1) * 16 = omega (arith, first, other) in
+    let octet : octet_of (rest / 2 ^ 56) ≡ d + 16 * 15 = omega (arith, halves, each.0) in
     record {
-      least = omega (arith, first);
-      most = omega (arith, first, each.0);
-      half = omega (arith, half);
       room = omega (arith, count);
       next = record {
         left = [];
         some = tt;
-        count = omega (arith, count, length-append octets ((rest / 2 ^ 60 - 1 + 16 * half_of (rest * 16 % 2 ^ 64)) ∷ []));
+        count = omega (arith, count, length-append octets (octet_of (rest / 2 ^ 56) ∷ []));
         whole = append-nil _ ∙ ap (λ x. octets ++ x ∷ []) octet ∙ whole;
-        word = ap (λ w. w * 16 % 2 ^ 64) other ∙ sym no_digits;
+        word = omega (arith, other) ∙ sym no_digits;
       };
     }
 pair-by rest octets all (d ∷ e ∷ ds) each count whole word pos =
@@ -218,27 +211,19 @@ pair-by rest octets all (d ∷ e ∷ ds) each count whole word pos =
     let first : rest / 2 ^ 60 ≡ d + 1 = ap (λ w. w / 2 ^ 60) word ∙ first_digit d (e ∷ ds) each.1 in
     let other : rest * 16 % 2 ^ 64 ≡ word_of (e ∷ ds) = ap (λ w. w * 16 % 2 ^ 64) word ∙ other_digits d (e ∷ ds) (omega (arith, few)) each.1 in
     let second : rest * 16 % 2 ^ 64 / 2 ^ 60 ≡ e + 1 = ap (λ w. w / 2 ^ 60) other ∙ first_digit e ds each.1.1 in
-    let half : half_of (rest * 16 % 2 ^ 64) ≡ e = half-is (rest * 16 % 2 ^ 64) e second in
-    let octet : rest / 2 ^ 60 - 1 + 16 * half_of (rest * 16 % 2 ^ 64) ≡ d + 16 * e = omega (arith, first, half) in
+    let halves : rest / 2 ^ 56 ≡ (d + 1) * 16 + (e + 1) = omega (arith, first, second) in
+    let octet : octet_of (rest / 2 ^ 56) ≡ d + 16 * e = omega (arith, halves, each.0, each.1.0) in
+    let shifted : rest * 256 % 2 ^ 64 ≡ rest * 16 % 2 ^ 64 * 16 % 2 ^ 64 = omega arith in
     record {
-      least = omega (arith, first);
-      most = omega (arith, first, each.0);
-      half = omega (arith, half, each.1.0);
       room = omega (arith, count);
       next = record {
         left = ds;
         some = each.1.1;
-        count = omega (arith, count, length-append octets ((rest / 2 ^ 60 - 1 + 16 * half_of (rest * 16 % 2 ^ 64)) ∷ []));
+        count = omega (arith, count, length-append octets (octet_of (rest / 2 ^ 56) ∷ []));
         whole = append_assoc octets _ (tbcd ds) ∙ ap (λ x. octets ++ x ∷ tbcd ds) octet ∙ whole;
-        word = ap (λ w. w * 16 % 2 ^ 64) other ∙ other_digits e ds (omega (arith, few)) each.1.1;
+        word = shifted ∙ ap (λ w. w * 16 % 2 ^ 64) other ∙ other_digits e ds (omega (arith, few)) each.1.1;
       };
     }
-  where
-    half-is : (w e : ℕ) → w / 2 ^ 60 ≡ e + 1 → half_of w ≡ e
-    half-is w e h =
-        let t : eqb (e + 1) 0 ≡ false = grind (arith, nat_tests) in
-        let s : (e + 1) - 1 ≡ e = omega arith in
-        rw (h, t, s) refl
 
 pub pair : (rest : ℕ) (octets all : List ℕ) → IsUnwritten rest octets all → 0 < rest → IsPair rest octets all
 pair rest octets all is pos = pair-by rest octets all is.left is.some is.count is.whole is.word pos

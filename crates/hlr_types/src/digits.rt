@@ -6,9 +6,9 @@ ghost use Rattle.std.specs.Cmp.Rules.{comparing};
 ghost use Rattle.std.specs.Cmp.{partial_order_from_own_ties};
 ghost use Rattle.std.specs.Fmt.{padded};
 ghost use Rattle.std.specs.Ordering.{nat_cmp, on, as_partial_cmp};
-ghost use Rattle.std.specs.Prelude.{◌≡◌, ◌<◌, ◌≤◌, ◌+◌, ◌-◌, ◌*◌, ◌&&◌, ◌∷◌, ◌++◌, nat_le, slice_index, List, ℕ, length, map, IfSome, IsSomeAnd, Some, true, false, not, nat_eq};
+ghost use Rattle.std.specs.Prelude.{◌≡◌, ◌<◌, ◌≤◌, ◌+◌, ◌-◌, ◌*◌, ◌&&◌, ◌∷◌, ◌++◌, nat_le, slice_index, List, ℕ, length, map, take, IfSome, IsSomeAnd, Some, true, false, nat_eq};
 ghost use Rattle.std.specs.Str.{IsAscii};
-ghost use Rattle.std.specs.List.{list_all, position, starts_with};
+ghost use Rattle.std.specs.List.{list_all, starts_with};
 ghost use Rattle.hlr_types.specs.Digits.{AreSomeDigits};
 ghost use Rattle.hlr_types.specs.Words.{IsWord, in_word, packed};
 ghost use Rattle.hlr_types.specs.DigitTexts.{digits_in, is_digit, text_of, AreTextForms, IsText};
@@ -64,12 +64,14 @@ impl Digits {
         ensures only { is_digit end ≡ false → (digits rest : List ℕ) → AreSomeDigits digits → text.now ≡ text_of digits ++ end ∷ rest
             → IsSomeAnd result (λ r. (r.0 ≡ digits) × (r.1.now ≡ rest)) }
     {
-        let count = first_non_digit(text)?;
-        if count == 0 || count > 16 || text[count] != end {
+        let (number, count) = leading_number(text);
+        if count == 0 || text.len() <= count || text[count] != end {
             return None;
         }
-        let (digits, rest) = text.split_at(count);
-        Some((Digits::of_word(packed_text(digits)), &rest[1..]))
+        Some((
+            Digits::of_word(number << (64 - 4 * count)),
+            &text[count + 1..],
+        ))
     }
 
     /// The digits of a word.
@@ -237,11 +239,27 @@ fn are_digits(text: &[u8]) -> bool
     text.iter().all(|octet| is_digit(*octet))
 }
 
-/// The place of the first character that is no digit.
-fn first_non_digit(text: &[u8]) -> Option<usize>
-    ensures { result ≡ position (λ octet. not (is_digit octet)) text.now }
+/// The number that the digits at the front of a text make, a half octet for each, and how many they are; the first sixteen, if
+/// they are more.
+#[tactic(auto, using(crate::proofs::FrontLemmas::front_steps))]
+fn leading_number(text: &[u8]) -> (u64, usize)
+    ensures within { result.1 ≤ length text.now }
+    ensures most { result.1 ≤ 16 }
+    ensures digits { list_all is_digit (take result.1 text.now) ≡ true }
+    ensures number { result.0 ≡ packed result.1 (map (λ octet. octet - 48) (take result.1 text.now)) }
+    // Behind them the text ends or has another character, or they are sixteen.
+    ensures last { result.1 < 16 → result.1 < length text.now → is_digit (slice_index text.now result.1) ≡ false }
 {
-    text.iter().position(|octet| !is_digit(*octet))
+    let mut number = 0;
+    let mut count = 0;
+    for character in text {
+        if count == 16 || !is_digit(*character) {
+            break;
+        }
+        number = number * 16 + u64::from(*character - (b'0' - 1));
+        count += 1;
+    }
+    (number, count)
 }
 
 fn is_digit(octet: u8) -> bool

@@ -1,7 +1,7 @@
 //! Telephony binary coded decimal (TS 29.002 17.7.8, TBCD-STRING): two digits to an octet, the first in the low half;
 //! 1111 in the last high half fills an odd count.
 
-ghost use Rattle.std.specs.Prelude.{◌≡◌, ◌<◌, ◌≤◌, ◌*◌, ◌-◌, ◌/◌, ◌^◌, ◌==◌, if◌then◌else◌, ℕ, List, [], ◌∷◌, ◌++◌, length, IfOk, Ok, Err, Some, None, true};
+ghost use Rattle.std.specs.Prelude.{◌≡◌, ◌<◌, ◌≤◌, ◌+◌, ◌*◌, ◌-◌, ◌/◌, ◌%◌, ◌^◌, ◌==◌, if◌then◌else◌, ℕ, List, [], ◌∷◌, ◌++◌, length, IfOk, Ok, Err, Some, None, true};
 ghost use Rattle.hlr_types.specs.declared.tbcd.TbcdFault.TheVariants.{BadDigit};
 ghost use Rattle.hlr_types.specs.Tbcd.{IsTbcd, tbcd, digits_of, halves, last_halves, are_digits, AreTwoForms, AreInverse};
 ghost use Rattle.hlr_types.specs.Words.{IsWord, in_word, packed};
@@ -118,18 +118,16 @@ fn octets_of(word: u64) -> Tbcd
     let mut octets = ShortList::new();
     let mut rest = word;
     while rest != 0 {
-        let first = (rest >> 60) as u8 - 1;
-        rest <<= 4;
-        octets.push(first + 16 * high_half(rest));
-        rest <<= 4;
+        octets.push(octet_of((rest >> 56) as u8));
+        rest <<= 8;
     }
     octets
 }
 
-/// The high half octet: the first digit of a word, or the filler where there is none.
-fn high_half(word: u64) -> u8
-    ensures { result ≡ (if word / 2 ^ 60 == 0 then 15 else word / 2 ^ 60 - 1) }
+/// The octet of two half octets of a word, the first digit in its low half. Both are digits plus one; where the second is the 0
+/// of no digit, one less is the filler.
+fn octet_of(pair: u8) -> u8
+    ensures { result ≡ (pair % 16 * 16 + pair / 16 + 239) % 256 }
 {
-    let half = (word >> 60) as u8;
-    if half == 0 { 15 } else { half - 1 }
+    (pair % 16 * 16 + pair / 16).wrapping_sub(17)
 }

@@ -24,7 +24,7 @@ pub struct RouteArg {
 }
 
 /// The octets of the msisdn, if the type is right. The sm-RP-PRI is a BOOLEAN, of one octet (X.690, 8.2.1).
-#[tactic(auto, using(bertree::proofs::Trees::lists), unfolding(frames::specs::Arguments::route_typed))]
+#[tactic(auto, unfolding(frames::specs::Arguments::route_typed))]
 fn typed<'a>(parameter: &Node<'a>) -> Option<&'a [u8]>
     ensures { option_map (λ o. o.now) result ≡ route_typed (tree parameter.now) }
 {

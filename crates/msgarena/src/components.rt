@@ -9,7 +9,8 @@ ghost use Rattle.msgarena.specs.Seen.{parameter};
 
 use crate::heard::Heard;
 use crate::parameter::{Parameter, parameter_of};
-use bertree::Node;
+use bertree::elements::at_most_one;
+use bertree::{Node, Nodes};
 use machine::numbers::MAX_COMPONENTS;
 use q773_comp::{CompFault, Component, read_component};
 use std::alloc::Global;
@@ -28,7 +29,7 @@ fn heard(node: &Node) -> Component<Parameter>
             id,
             linked,
             operation,
-            parameter: parameter.map(|node| parameter_of(operation, node)),
+            parameter: parameter.map(|node| parameter_of(operation, &node)),
         },
         Component::ResultLast { id } => Component::ResultLast { id },
         Component::ResultNotLast { id } => Component::ResultNotLast { id },
@@ -41,17 +42,35 @@ fn heard(node: &Node) -> Component<Parameter>
 
 /// The components that nodes are heard as, in order. `TooMany` is found before anything is allocated, and a
 /// component that is alone needs no block.
-pub(crate) fn all_heard(alloc: Global, nodes: &[Node]) -> Result<Heard, CompFault>
+pub(crate) fn all_heard(alloc: Global, nodes: Nodes) -> Result<Heard, CompFault>
     ensures heard { IfOk result (λ heard. map (component parameter) (kept heard)
-        ≡ all_heard (elements nodes.now)) }
-    ensures too_many { (result ≡ Err CompFault.TooMany) ↔ (MAX_COMPONENTS < length nodes.now) }
+        ≡ all_heard (elements nodes.entry)) }
+    ensures too_many { (result ≡ Err CompFault.TooMany)
+        ↔ (MAX_COMPONENTS < length (elements nodes.entry)) }
 {
-    if nodes.len() > MAX_COMPONENTS {
+    match at_most_one(nodes) {
+        Some(None) => Ok(Heard::Nothing),
+        Some(Some(only)) => Ok(Heard::One(heard(&only))),
+        None => more_heard(alloc, nodes),
+    }
+}
+
+/// The same for more than one.
+fn more_heard(alloc: Global, nodes: Nodes) -> Result<Heard, CompFault>
+    ensures heard { IfOk result (λ heard. map (component parameter) (kept heard)
+        ≡ all_heard (elements nodes.entry)) }
+    ensures too_many { (result ≡ Err CompFault.TooMany)
+        ↔ (MAX_COMPONENTS < length (elements nodes.entry)) }
+{
+    let count = nodes.count();
+    if count > MAX_COMPONENTS {
         return Err(CompFault::TooMany);
     }
-    match nodes {
-        [] => Ok(Heard::Nothing),
-        [only] => Ok(Heard::One(heard(only))),
-        _ => Ok(Heard::More(nodes.iter().map(heard).collect(alloc)?)),
+    let mut components = Vec::with_capacity(alloc, count)?;
+    let mut rest = nodes;
+    while let Some((node, behind)) = rest.split_first() {
+        components.push_reserved(heard(&node));
+        rest = behind;
     }
+    Ok(Heard::More(components))
 }

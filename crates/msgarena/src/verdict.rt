@@ -21,27 +21,27 @@ use std::alloc::{AllocError, Global};
 
 /// The context that the AARQ of a dialogue portion requests, if there is a portion; nothing if it is unreadable or holds
 /// another APDU.
-fn requested(dialogue: Option<&Node>) -> Option<Option<ContextName>>
-    ensures { result ≡ portion_of request_in (option_map (λ node. tree node.now) dialogue.entry) }
+fn requested(dialogue: Option<Node>) -> Option<Option<ContextName>>
+    ensures { result ≡ portion_of request_in (option_map tree dialogue.entry) }
 {
     let Some(node) = dialogue else {
         return Some(None);
     };
-    match read_dialogue(node) {
+    match read_dialogue(&node) {
         Ok(Apdu::Aarq(name)) => Some(Some(ShortList::from_slice(name))),
         _ => None,
     }
 }
 
 /// The AARE of a dialogue portion, if there is a portion; nothing if it is unreadable or holds another APDU.
-fn responded(dialogue: Option<&Node>) -> Option<Option<Response>>
+fn responded(dialogue: Option<Node>) -> Option<Option<Response>>
     ensures { option_map (option_map response) result
-        ≡ portion_of response_in (option_map (λ node. tree node.now) dialogue.entry) }
+        ≡ portion_of response_in (option_map tree dialogue.entry) }
 {
     let Some(node) = dialogue else {
         return Some(None);
     };
-    match read_dialogue(node) {
+    match read_dialogue(&node) {
         Ok(Apdu::Aare(read)) => Some(Some(Response {
             context: ShortList::from_slice(read.context),
             result: read.result,

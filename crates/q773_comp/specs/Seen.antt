@@ -1,6 +1,5 @@
 -- A component of the code as the one of the definitions.
 use Rattle.std.specs.Prelude.{option_map}
-use Rattle.std.specs.Borrow.{Bor}
 use Rattle.x690.specs.Tree.{Tree}
 use Rattle.machine.specs.Received as received
 use Rattle.machine.specs.Sent as sent
@@ -35,8 +34,8 @@ component parameter (Bad id problem) = received.Bad id problem
 component parameter Ignored = received.Ignored
 
 -- a component with a node as its parameter, as the one with the node's tree
-abbrev pub seen : Component (Bor Node) → received.ComponentOf Tree
-seen c = component (λ node. tree node.now) c
+abbrev pub seen : Component Node → received.ComponentOf Tree
+seen c = component tree c
 
 abbrev pub rejection : Rejection → sent.Rejection
 rejection r = record { id = r.id; side = side r.side; problem = r.problem }

@@ -9,7 +9,7 @@ ghost use Rattle.q773_comp.specs.Seen.{seen};
 
 use crate::component::Component;
 use crate::reading::read_component;
-use bertree::Node;
+use bertree::{Node, Nodes};
 use machine::numbers::MAX_COMPONENTS;
 use std::alloc::{AllocError, AllocFailed, Global};
 use thiserror::Error;
@@ -52,24 +52,28 @@ impl<T: Drop> From<AllocFailed<T>> for CompFault {
 /// `TooMany` is found before anything is allocated.
 pub fn read_components<'a>(
     alloc: Global,
-    nodes: &'a [Node<'a>],
-) -> Result<Vec<Component<&'a Node<'a>>>, CompFault>
+    nodes: Nodes<'a>,
+) -> Result<Vec<Component<Node<'a>>>, CompFault>
     // What is read has its form, and whatever has a form is read as it.
-    ensures found { IfOk result (λ components. AreRead (elements nodes.now)
+    ensures found { IfOk result (λ components. AreRead (elements nodes.entry)
         (map seen components.items)) }
-    ensures only { (cs : List (ComponentOf Tree)) → AreRead (elements nodes.now) cs
+    ensures only { (cs : List (ComponentOf Tree)) → AreRead (elements nodes.entry) cs
         → IfOk result (λ components. map seen components.items ≡ cs) }
     // The result is a function of the trees.
     ensures exact { IfOk result (λ components. map seen components.items
-        ≡ components_of (elements nodes.now)) }
-    ensures too_many { (result ≡ Err CompFault.TooMany) ↔ (MAX_COMPONENTS < length nodes.now) }
+        ≡ components_of (elements nodes.entry)) }
+    ensures too_many { (result ≡ Err CompFault.TooMany)
+        ↔ (MAX_COMPONENTS < length (elements nodes.entry)) }
 {
-    if nodes.len() > MAX_COMPONENTS {
+    let count = nodes.count();
+    if count > MAX_COMPONENTS {
         return Err(CompFault::TooMany);
     }
-    let mut components = Vec::with_capacity(alloc, nodes.len())?;
-    for node in nodes {
-        components.push(read_component(node))?;
+    let mut components = Vec::with_capacity(alloc, count)?;
+    let mut rest = nodes;
+    while let Some((node, behind)) = rest.split_first() {
+        components.push(read_component(&node))?;
+        rest = behind;
     }
     Ok(components)
 }

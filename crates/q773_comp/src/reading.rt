@@ -10,7 +10,7 @@ ghost use Rattle.q773_comp.specs.Kinds.{body_of};
 ghost use Rattle.q773_comp.specs.Seen.{code, side, seen};
 
 use crate::component::{Code, Component, Kind, Side};
-use bertree::{Node, Tag, elements};
+use bertree::{Node, Nodes, Tag, elements};
 use frames::numbers::{MISTYPED_COMPONENT, UNRECOGNIZED_COMPONENT};
 use frames::tags::{
     ERROR_PROBLEM, GENERAL_PROBLEM, INTEGER, INVOKE, INVOKE_PROBLEM, LINKED_ID, NULL,
@@ -43,23 +43,21 @@ fn code_of(node: &Node) -> Option<Code>
 }
 
 /// The id at the front, and what follows it.
-#[tactic(auto, using(bertree::proofs::Trees::lists))]
-fn first_id<'a>(nodes: &'a [Node<'a>]) -> Option<(i8, &'a [Node<'a>])>
-    ensures { option_map (λ found. (found.0, elements found.1.now)) result
-        ≡ first (id_under INTEGER) (elements nodes.now) }
+fn first_id<'a>(nodes: Nodes<'a>) -> Option<(i8, Nodes<'a>)>
+    ensures { option_map (λ found. (found.0, elements found.1)) result
+        ≡ first (id_under INTEGER) (elements nodes.entry) }
 {
     let (node, rest) = nodes.split_first()?;
-    Some((id_under(node, INTEGER)?, rest))
+    Some((id_under(&node, INTEGER)?, rest))
 }
 
 /// A linked id, if there is one, and what follows it.
-#[tactic(auto, using(bertree::proofs::Trees::lists))]
-fn optional_linked<'a>(nodes: &'a [Node<'a>]) -> (Option<i8>, &'a [Node<'a>])
-    ensures { (result.0, elements result.1.now)
-        ≡ optional (id_under LINKED_ID) (elements nodes.now) }
+fn optional_linked<'a>(nodes: Nodes<'a>) -> (Option<i8>, Nodes<'a>)
+    ensures { (result.0, elements result.1)
+        ≡ optional (id_under LINKED_ID) (elements nodes.entry) }
 {
-    if let [node, rest @ ..] = nodes
-        && let Some(id) = id_under(node, LINKED_ID)
+    if let Some((node, rest)) = nodes.split_first()
+        && let Some(id) = id_under(&node, LINKED_ID)
     {
         return (Some(id), rest);
     }
@@ -67,24 +65,19 @@ fn optional_linked<'a>(nodes: &'a [Node<'a>]) -> (Option<i8>, &'a [Node<'a>])
 }
 
 /// A code, and what follows it.
-#[tactic(auto, using(bertree::proofs::Trees::lists))]
-fn first_code<'a>(nodes: &'a [Node<'a>]) -> Option<(Code, &'a [Node<'a>])>
-    ensures { option_map (λ found. (code found.0, elements found.1.now)) result
-        ≡ first code_of (elements nodes.now) }
+fn first_code<'a>(nodes: Nodes<'a>) -> Option<(Code, Nodes<'a>)>
+    ensures { option_map (λ found. (code found.0, elements found.1)) result
+        ≡ first code_of (elements nodes.entry) }
 {
     let (node, rest) = nodes.split_first()?;
-    Some((code_of(node)?, rest))
+    Some((code_of(&node)?, rest))
 }
 
 /// A code and at most one parameter.
-#[tactic(auto, using(bertree::proofs::Trees::lists), unfolding(frames::specs::Components::coded))]
-fn coded<'a>(nodes: &'a [Node<'a>]) -> Option<(Code, Option<&'a Node<'a>>)>
-    ensures { option_map (λ found. (
-      code found.0,
-      option_map
-          (λ node. tree node.now) found.1,
-    )) result
-        ≡ coded (elements nodes.now) }
+#[tactic(auto, unfolding(frames::specs::Components::coded))]
+fn coded<'a>(nodes: Nodes<'a>) -> Option<(Code, Option<Node<'a>>)>
+    ensures { option_map (λ found. (code found.0, option_map tree found.1)) result
+        ≡ coded (elements nodes.entry) }
 {
     let (code, rest) = first_code(nodes)?;
     Some((code, elements::at_most_one(rest)?))
@@ -92,8 +85,8 @@ fn coded<'a>(nodes: &'a [Node<'a>]) -> Option<(Code, Option<&'a Node<'a>>)>
 
 /// What follows the id of an Invoke.
 #[tactic(auto, unfolding(frames::specs::Components::invoke))]
-fn invoke<'a>(id: i8, nodes: &'a [Node<'a>]) -> Option<Component<&'a Node<'a>>>
-    ensures { option_map seen result ≡ invoke id (elements nodes.now) }
+fn invoke<'a>(id: i8, nodes: Nodes<'a>) -> Option<Component<Node<'a>>>
+    ensures { option_map seen result ≡ invoke id (elements nodes.entry) }
 {
     let (linked, nodes) = optional_linked(nodes);
     let (operation, parameter) = coded(nodes)?;
@@ -106,27 +99,23 @@ fn invoke<'a>(id: i8, nodes: &'a [Node<'a>]) -> Option<Component<&'a Node<'a>>>
 }
 
 /// What follows the id of a result: nothing, or a code and at most one parameter in a SEQUENCE.
-#[tactic(auto, using(bertree::proofs::Trees::lists), unfolding(frames::specs::Components::outcome))]
-fn outcome<'a>(
-    made: Component<&'a Node<'a>>,
-    nodes: &'a [Node<'a>],
-) -> Option<Component<&'a Node<'a>>>
-    ensures { option_map seen result ≡ outcome (seen made.entry) (elements nodes.now) }
+#[tactic(auto, unfolding(frames::specs::Components::outcome))]
+fn outcome<'a>(made: Component<Node<'a>>, nodes: Nodes<'a>) -> Option<Component<Node<'a>>>
+    ensures { option_map seen result ≡ outcome (seen made.entry) (elements nodes.entry) }
 {
-    match nodes {
-        [] => Some(made),
-        [node] => {
+    match elements::at_most_one(nodes)? {
+        None => Some(made),
+        Some(node) => {
             coded(node.children(SEQUENCE)?)?;
             Some(made)
         }
-        _ => None,
     }
 }
 
 /// What follows the id of an error.
 #[tactic(auto, unfolding(frames::specs::Components::error))]
-fn error<'a>(id: i8, nodes: &'a [Node<'a>]) -> Option<Component<&'a Node<'a>>>
-    ensures { option_map seen result ≡ error id (elements nodes.now) }
+fn error<'a>(id: i8, nodes: Nodes<'a>) -> Option<Component<Node<'a>>>
+    ensures { option_map seen result ≡ error id (elements nodes.entry) }
 {
     let (error, _parameter) = coded(nodes)?;
     Some(Component::ReturnError { id, error })
@@ -162,21 +151,21 @@ fn rejected_id(node: &Node) -> Option<Option<i8>>
 }
 
 /// The elements of a Reject.
-#[tactic(auto, using(bertree::proofs::Trees::lists), unfolding(frames::specs::Components::reject))]
-fn reject<'a>(nodes: &'a [Node<'a>]) -> Option<Component<&'a Node<'a>>>
-    ensures { option_map seen result ≡ reject (elements nodes.now) }
+#[tactic(auto, unfolding(frames::specs::Components::reject))]
+fn reject<'a>(nodes: Nodes<'a>) -> Option<Component<Node<'a>>>
+    ensures { option_map seen result ≡ reject (elements nodes.entry) }
 {
-    let [id, problem] = nodes else {
-        return None;
-    };
-    let id = rejected_id(id)?;
-    let (side, problem) = problem_of(problem)?;
+    let (id, rest) = nodes.split_first()?;
+    let (problem, rest) = rest.split_first()?;
+    elements::no_more(rest)?;
+    let id = rejected_id(&id)?;
+    let (side, problem) = problem_of(&problem)?;
     Some(Component::Reject { id, side, problem })
 }
 
 /// What follows the id of a component of this kind.
-fn behind_id<'a>(kind: Kind, id: i8, nodes: &'a [Node<'a>]) -> Option<Component<&'a Node<'a>>>
-    ensures { option_map seen result ≡ body_of kind id (elements nodes.now) }
+fn behind_id<'a>(kind: Kind, id: i8, nodes: Nodes<'a>) -> Option<Component<Node<'a>>>
+    ensures { option_map seen result ≡ body_of kind id (elements nodes.entry) }
 {
     match kind {
         Kind::Invoke => invoke(id, nodes),
@@ -187,8 +176,8 @@ fn behind_id<'a>(kind: Kind, id: i8, nodes: &'a [Node<'a>]) -> Option<Component<
 }
 
 /// A component of this kind. It is bad if it does not begin with an id, or if anything after the id is wrong.
-fn identified<'a>(kind: Kind, nodes: &'a [Node<'a>]) -> Component<&'a Node<'a>>
-    ensures { seen result ≡ identified (body_of kind) (elements nodes.now) }
+fn identified<'a>(kind: Kind, nodes: Nodes<'a>) -> Component<Node<'a>>
+    ensures { seen result ≡ identified (body_of kind) (elements nodes.entry) }
 {
     let Some((id, nodes)) = first_id(nodes) else {
         return Component::Bad(None, MISTYPED_COMPONENT);
@@ -198,7 +187,7 @@ fn identified<'a>(kind: Kind, nodes: &'a [Node<'a>]) -> Component<&'a Node<'a>>
 
 /// The component that a node is, whatever it is. It does not allocate.
 #[tactic(auto, using(frames::proofs::ComponentLaws::component_laws), unfolding(frames::specs::Components::component_of))]
-pub fn read_component<'a>(node: &'a Node<'a>) -> Component<&'a Node<'a>>
+pub fn read_component<'a>(node: &Node<'a>) -> Component<Node<'a>>
     // What is read has its form, and whatever has a form is read as it, ill-formed components too.
     ensures found { IsComponent (tree node.now) (seen result) }
     ensures only { (c : ComponentOf Tree) → IsComponent (tree node.now) c → seen result ≡ c }

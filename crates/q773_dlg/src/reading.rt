@@ -1,5 +1,5 @@
 //! The dialogue APDU that a node holds (Q.773, dialogue portion).
-ghost use Rattle.std.specs.Prelude.{◌≡◌, Some, IfOk, option_map};
+ghost use Rattle.std.specs.Prelude.{◌≡◌, ◌∷◌, [], Some, IfOk, option_map};
 ghost use Rattle.x690.specs.Elements.{first, optional};
 ghost use Rattle.x690.specs.Reading.{octets_of};
 ghost use Rattle.machine.specs.Received as received;
@@ -9,8 +9,8 @@ ghost use Rattle.bertree.specs.Nodes.{tree, elements};
 ghost use Rattle.q773_dlg.specs.Seen.{diagnostic, seen, answer};
 
 use crate::apdu::{Apdu, Diagnostic, Response, Unreadable};
-use bertree::Node;
-use bertree::elements::optional_octets;
+use bertree::elements::{at_most_one, no_more, optional_octets};
+use bertree::{Node, Nodes};
 use frames::numbers::DIALOGUE_AS_ID;
 use frames::tags::{
     AARE, AARQ, ABORT_SOURCE, ABRT, CONTEXT_NAME, DIAGNOSTIC_OF_PROVIDER, DIAGNOSTIC_OF_USER,
@@ -30,9 +30,9 @@ fn is_version(octets: &[u8]) -> bool
 }
 
 /// What follows an optional version.
-fn after_version<'a>(nodes: &'a [Node<'a>]) -> Option<&'a [Node<'a>]>
-    ensures { option_map (λ rest. elements rest.now) result
-        ≡ after_version (optional (octets_of VERSION) (elements nodes.now)) }
+fn after_version<'a>(nodes: Nodes<'a>) -> Option<Nodes<'a>>
+    ensures { option_map elements result
+        ≡ after_version (optional (octets_of VERSION) (elements nodes.entry)) }
 {
     match optional_octets(nodes, VERSION) {
         (None, rest) => Some(rest),
@@ -49,13 +49,12 @@ fn context_of<'a>(node: &Node<'a>) -> Option<&'a [u8]>
 }
 
 /// The name of an application context, and what follows it.
-#[tactic(auto, using(bertree::proofs::Trees::lists))]
-fn first_context<'a>(nodes: &'a [Node<'a>]) -> Option<(&'a [u8], &'a [Node<'a>])>
-    ensures { option_map (λ found. (found.0.now, elements found.1.now)) result
-        ≡ first context_of (elements nodes.now) }
+fn first_context<'a>(nodes: Nodes<'a>) -> Option<(&'a [u8], Nodes<'a>)>
+    ensures { option_map (λ found. (found.0.now, elements found.1)) result
+        ≡ first context_of (elements nodes.entry) }
 {
     let (node, rest) = nodes.split_first()?;
-    Some((context_of(node)?, rest))
+    Some((context_of(&node)?, rest))
 }
 
 /// The result of a response.
@@ -80,37 +79,35 @@ fn diagnostic_of(node: &Node) -> Option<Diagnostic>
 }
 
 /// Whether an APDU may end with these: nothing, or user information.
-#[tactic(auto, using(bertree::proofs::Trees::lists))]
-fn may_end(nodes: &[Node]) -> bool
-    ensures { result ≡ may_end_apdu (elements nodes.now) }
+fn may_end(nodes: Nodes) -> bool
+    ensures { result ≡ may_end_apdu (elements nodes.entry) }
 {
-    match nodes {
-        [] => true,
-        [node] => node.children(USER_INFORMATION).is_some(),
-        _ => false,
+    match at_most_one(nodes) {
+        None => false,
+        Some(None) => true,
+        Some(Some(node)) => node.children(USER_INFORMATION).is_some(),
     }
 }
 
 /// The contents of an AARQ.
-#[tactic(auto, using(bertree::proofs::Trees::lists), unfolding(frames::specs::Dialogues::request_of))]
-fn request_of<'a>(nodes: &'a [Node<'a>]) -> Option<Apdu<'a>>
-    ensures { option_map seen result ≡ request_of (elements nodes.now) }
+#[tactic(auto, unfolding(frames::specs::Dialogues::request_of))]
+fn request_of<'a>(nodes: Nodes<'a>) -> Option<Apdu<'a>>
+    ensures { option_map seen result ≡ request_of (elements nodes.entry) }
 {
     let (context, rest) = first_context(after_version(nodes)?)?;
     may_end(rest).then_some(Apdu::Aarq(context))
 }
 
 /// The contents of an AARE.
-#[tactic(auto, using(bertree::proofs::Trees::lists), unfolding(frames::specs::Dialogues::response_of))]
-fn response_of<'a>(nodes: &'a [Node<'a>]) -> Option<Apdu<'a>>
-    ensures { option_map seen result ≡ response_of (elements nodes.now) }
+#[tactic(auto, unfolding(frames::specs::Dialogues::response_of))]
+fn response_of<'a>(nodes: Nodes<'a>) -> Option<Apdu<'a>>
+    ensures { option_map seen result ≡ response_of (elements nodes.entry) }
 {
     let (context, rest) = first_context(after_version(nodes)?)?;
-    let [outcome, source, rest @ ..] = rest else {
-        return None;
-    };
-    let result = result_of(outcome)?;
-    let diagnostic = diagnostic_of(source)?;
+    let (outcome, rest) = rest.split_first()?;
+    let (source, rest) = rest.split_first()?;
+    let result = result_of(&outcome)?;
+    let diagnostic = diagnostic_of(&source)?;
     may_end(rest).then_some(Apdu::Aare(Response {
         context,
         result,
@@ -119,9 +116,9 @@ fn response_of<'a>(nodes: &'a [Node<'a>]) -> Option<Apdu<'a>>
 }
 
 /// The contents of an ABRT.
-#[tactic(auto, using(bertree::proofs::Trees::lists), unfolding(frames::specs::Dialogues::dialogue_abort_of))]
-fn abort_of<'a>(nodes: &'a [Node<'a>]) -> Option<Apdu<'a>>
-    ensures { option_map seen result ≡ dialogue_abort_of (elements nodes.now) }
+#[tactic(auto, unfolding(frames::specs::Dialogues::dialogue_abort_of))]
+fn abort_of<'a>(nodes: Nodes<'a>) -> Option<Apdu<'a>>
+    ensures { option_map seen result ≡ dialogue_abort_of (elements nodes.entry) }
 {
     let (node, rest) = nodes.split_first()?;
     let source = node.octet(ABORT_SOURCE)?;
@@ -141,21 +138,28 @@ fn apdu_of<'a>(node: &Node<'a>) -> Option<Apdu<'a>>
     abort_of(node.children(ABRT)?)
 }
 
-/// The APDU in the contents of an EXTERNAL (X.690, 8.18) of the dialogue's abstract syntax.
-#[tactic(auto, using(bertree::proofs::Trees::lists))]
-fn in_external<'a>(nodes: &'a [Node<'a>]) -> Option<Apdu<'a>>
-    ensures { option_map seen result ≡ in_external (elements nodes.now) }
+/// The APDU in the encoding of an EXTERNAL, if this is the dialogue's abstract syntax.
+fn in_encoding<'a>(syntax: &Node<'a>, encoding: &Node<'a>) -> Option<Apdu<'a>>
+    ensures { option_map seen result
+        ≡ in_external (tree syntax.now ∷ tree encoding.now ∷ []) }
 {
-    let [syntax, encoding] = nodes else {
-        return None;
-    };
     let name = syntax.octets(OBJECT_IDENTIFIER)?;
     let apdu = encoding.only_child(SINGLE_ASN1_TYPE)?;
     if name == DIALOGUE_AS_ID.as_slice() {
-        apdu_of(apdu)
+        apdu_of(&apdu)
     } else {
         None
     }
+}
+
+/// The APDU in the contents of an EXTERNAL (X.690, 8.18) of the dialogue's abstract syntax.
+fn in_external<'a>(nodes: Nodes<'a>) -> Option<Apdu<'a>>
+    ensures { option_map seen result ≡ in_external (elements nodes.entry) }
+{
+    let (syntax, rest) = nodes.split_first()?;
+    let (encoding, rest) = rest.split_first()?;
+    no_more(rest)?;
+    in_encoding(&syntax, &encoding)
 }
 
 /// The APDU of a dialogue portion, if it holds one.

@@ -10,7 +10,7 @@ use Rattle.q773_msg.specs.declared.message.Unread.{Unread}
 use Rattle.q773_msg.specs.declared.message.Unread.TheVariants as refusal
 
 abbrev pub portions : Portions → frames.Portions
-portions p = record { dialogue = option_map (λ node. tree node.now) p.dialogue; components = elements p.components.now }
+portions p = record { dialogue = option_map tree p.dialogue; components = elements p.components }
 
 abbrev pub message : Message → TcMessage
 message (Begin origin p) = frames.Begin origin (portions p)

@@ -1,14 +1,14 @@
 //! Received messages (Q.773, transaction portion).
 
-use bertree::Node;
+use bertree::{Node, Nodes};
 use hlr_types::RemoteId;
 use thiserror::Error;
 
 /// The dialogue portion, whatever it holds, and the elements of the component portion, none if there is no such portion.
 #[derive(Clone, Copy)]
 pub struct Portions<'a> {
-    pub dialogue: Option<&'a Node<'a>>,
-    pub components: &'a [Node<'a>],
+    pub dialogue: Option<Node<'a>>,
+    pub components: Nodes<'a>,
 }
 
 /// A received message, its portions unread. Transaction ids are as they were received.

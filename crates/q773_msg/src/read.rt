@@ -10,8 +10,8 @@ ghost use Rattle.frames.specs.Points.{message_points, IsSaidFirst, IsMessageOrNo
 ghost use Rattle.q773_msg.specs.Seen.{portions, message, unread, answer};
 
 use crate::message::{Message, Portions, Unread};
-use bertree::elements::{optional_children, optional_node};
-use bertree::{Node, Tag};
+use bertree::elements::{at_most_one, no_more, optional_children, optional_node};
+use bertree::{Node, Nodes, Tag};
 use frames::numbers::{
     BADLY_FORMATTED_TRANSACTION_PORTION, INCORRECT_TRANSACTION_PORTION, UNRECOGNIZED_MESSAGE_TYPE,
 };
@@ -22,24 +22,23 @@ use frames::tags::{
 use hlr_types::RemoteId;
 
 /// The transaction id of 1 to 4 octets that the first element is, if it has this tag, and the elements after it.
-#[tactic(auto, using(bertree::proofs::Trees::lists))]
-fn transaction_id<'a>(nodes: &'a [Node<'a>], tag: Tag) -> Option<(RemoteId, &'a [Node<'a>])>
-    ensures { option_map (λ found. (found.0, elements found.1.now)) result
-        ≡ first (transaction_id_under tag) (elements nodes.now) }
+fn transaction_id<'a>(nodes: Nodes<'a>, tag: Tag) -> Option<(RemoteId, Nodes<'a>)>
+    ensures { option_map (λ found. (found.0, elements found.1)) result
+        ≡ first (transaction_id_under tag) (elements nodes.entry) }
 {
     let (node, rest) = nodes.split_first()?;
     Some((RemoteId::read(node.octets(tag)?)?, rest))
 }
 
 /// An optional dialogue portion `6B`, an optional component portion `6C`, and no more.
-#[tactic(auto, using(bertree::proofs::Trees::lists))]
-fn read_portions<'a>(nodes: &'a [Node<'a>]) -> Option<Portions<'a>>
-    ensures { option_map portions result ≡ portions_of (elements nodes.now) }
+fn read_portions<'a>(nodes: Nodes<'a>) -> Option<Portions<'a>>
+    ensures { option_map portions result ≡ portions_of (elements nodes.entry) }
 {
     let (dialogue, nodes) = optional_node(nodes, DIALOGUE_PORTION);
     let (components, nodes) = optional_children(nodes, COMPONENT_PORTION);
-    let components = components.unwrap_or(&[]);
-    nodes.is_empty().then_some(Portions {
+    let components = components.unwrap_or(Nodes::none());
+    no_more(nodes)?;
+    Some(Portions {
         dialogue,
         components,
     })
@@ -47,8 +46,8 @@ fn read_portions<'a>(nodes: &'a [Node<'a>]) -> Option<Portions<'a>>
 
 /// The Begin with these elements.
 #[tactic(auto, unfolding(frames::specs::Messages::begin_of))]
-fn read_begin<'a>(nodes: &'a [Node<'a>]) -> Result<Message<'a>, Unread>
-    ensures { answer result ≡ begin_of (elements nodes.now) }
+fn read_begin<'a>(nodes: Nodes<'a>) -> Result<Message<'a>, Unread>
+    ensures { answer result ≡ begin_of (elements nodes.entry) }
 {
     let Some((origin, nodes)) = transaction_id(nodes, ORIGIN) else {
         return Err(Unread::Discard);
@@ -62,8 +61,8 @@ fn read_begin<'a>(nodes: &'a [Node<'a>]) -> Result<Message<'a>, Unread>
 
 /// The Continue with these elements.
 #[tactic(auto, unfolding(frames::specs::Messages::continue_of))]
-fn read_continue<'a>(nodes: &'a [Node<'a>]) -> Result<Message<'a>, Unread>
-    ensures { answer result ≡ continue_of (elements nodes.now) }
+fn read_continue<'a>(nodes: Nodes<'a>) -> Result<Message<'a>, Unread>
+    ensures { answer result ≡ continue_of (elements nodes.entry) }
 {
     let Some((origin, nodes)) = transaction_id(nodes, ORIGIN) else {
         return Err(Unread::Discard);
@@ -84,8 +83,8 @@ fn read_continue<'a>(nodes: &'a [Node<'a>]) -> Result<Message<'a>, Unread>
 
 /// The End with these elements.
 #[tactic(auto, unfolding(frames::specs::Messages::end_of))]
-fn read_end<'a>(nodes: &'a [Node<'a>]) -> Result<Message<'a>, Unread>
-    ensures { answer result ≡ end_of (elements nodes.now) }
+fn read_end<'a>(nodes: Nodes<'a>) -> Result<Message<'a>, Unread>
+    ensures { answer result ≡ end_of (elements nodes.entry) }
 {
     let Some((destination, nodes)) = transaction_id(nodes, DESTINATION) else {
         return Err(Unread::Discard);
@@ -98,21 +97,20 @@ fn read_end<'a>(nodes: &'a [Node<'a>]) -> Result<Message<'a>, Unread>
 }
 
 /// Whether an Abort may end with these: nothing, a P-Abort cause `4A`, or a dialogue portion `6B`, whatever they hold.
-#[tactic(auto, using(bertree::proofs::Trees::lists))]
-fn may_end_abort(nodes: &[Node]) -> bool
-    ensures { result ≡ may_end_abort (elements nodes.now) }
+fn may_end_abort(nodes: Nodes) -> bool
+    ensures { result ≡ may_end_abort (elements nodes.entry) }
 {
-    match nodes {
-        [] => true,
-        [node] => node.tag() == ABORT_CAUSE || node.tag() == DIALOGUE_PORTION,
-        _ => false,
+    match at_most_one(nodes) {
+        None => false,
+        Some(None) => true,
+        Some(Some(node)) => node.tag() == ABORT_CAUSE || node.tag() == DIALOGUE_PORTION,
     }
 }
 
 /// The Abort with these elements.
 #[tactic(auto, unfolding(frames::specs::Messages::abort_of))]
-fn read_abort<'a>(nodes: &'a [Node<'a>]) -> Result<Message<'a>, Unread>
-    ensures { answer result ≡ abort_of (elements nodes.now) }
+fn read_abort<'a>(nodes: Nodes<'a>) -> Result<Message<'a>, Unread>
+    ensures { answer result ≡ abort_of (elements nodes.entry) }
 {
     let Some((destination, nodes)) = transaction_id(nodes, DESTINATION) else {
         return Err(Unread::Discard);

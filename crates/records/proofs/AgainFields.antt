@@ -9,7 +9,9 @@ use Rattle.std.proofs.lemmas.List.Splits.{slice_split-cons_yes, slice_split-cons
 use Rattle.std.proofs.lemmas.Map.Keys.{IsDistinct-head, IsDistinct-tail}
 use Rattle.hex.specs.Hex.{decode_of, decode_sized}
 use Rattle.hex.proofs.HexLemmas.{decode_sized-twice, decode_of-ok}
+use Rattle.hlr_types.specs.Digits.{AreImsiDigits}
 use Rattle.hlr_types.specs.DigitTexts.{digits_in, is_digit, text_of}
+use Rattle.hlr_types.specs.Identities.{imsi_from}
 use Rattle.records.specs.File.{parts}
 use Rattle.records.specs.Reading.{octet_in, codes_after, prefixes_after, imsi_in}
 use Rattle.records.specs.Spelling.{IsNumber, IsImsiNumber, IsCode, Each}
@@ -34,11 +36,14 @@ number_again text digits h =
     let made : digits_in (text_of digits) ≡ Some digits = rw (one, most, all) (ap (λ (ds : List ℕ). Some ds) (digits_back digits)) in
     ap digits_in h.0 ∙ made
 
+pub imsi_counted : (digits : List ℕ) → AreImsiDigits digits → result_ok (imsi_from digits) ≡ Some digits
+imsi_counted digits h =
+    let least : nat_le 5 (length digits) ≡ true = le-leb 5 (length digits) h.least in
+    let most : nat_le (length digits) 15 ≡ true = le-leb (length digits) 15 h.most in
+    rw (least, most) refl
+
 pub imsi_again : (text digits : List ℕ) → IsImsiNumber text digits → imsi_in text ≡ Some digits
-imsi_again text digits h =
-    let least : nat_le 5 (length digits) ≡ true = le-leb 5 (length digits) h.1.least in
-    let most : nat_le (length digits) 15 ≡ true = le-leb (length digits) 15 h.1.most in
-    rw (number_again text digits h.0, least, most) refl
+imsi_again text digits h = rw (number_again text digits h.0) (imsi_counted digits h.1)
 
 -- ---- octets
 

@@ -14,10 +14,10 @@ use Rattle.records.specs.declared.version.Version.{Version}
 use Rattle.records.specs.declared.version.Version.TheVariants.{One, Two}
 use Rattle.records.specs.Subscriber.{Subscriber}
 use Rattle.records.specs.File.{parts}
-use Rattle.records.specs.Reading.{◌>>=◌, is_text, codes_after, codes_in, prefixes_after, roam_in, lmsi_in, purged_in, withdrawn_in, register_of, register_in, subscriber_of, record_of, header_in}
+use Rattle.records.specs.Reading.{◌>>=◌, is_text, codes_after, codes_in, prefixes_after, roam_in, lmsi_in, purged_in, withdrawn_in, register_of, register_in, subscriber_of, subscriber_from, record_of, header_in}
 use Rattle.records.specs.Spelling.{IsNumber, IsCode, Each, IsCodes, IsRoam, IsLmsiField, IsRegister, purged_text, withdrawn_text, sixth, IsRecordLine, IsHeader, mark_of}
 use Rattle.records.proofs.FieldLaws.{is_text_true}
-use Rattle.records.proofs.AgainFields.{number_again, imsi_again, octets_again, codes_after_again, prefixes_after_again, Lacks, Lacks-join, Lacks-digits, parts-join}
+use Rattle.records.proofs.AgainFields.{number_again, imsi_counted, octets_again, codes_after_again, prefixes_after_again, Lacks, Lacks-join, Lacks-digits, parts-join}
 
 -- ---- what lacks a separator
 
@@ -224,7 +224,7 @@ with_current s c = record s { current = c }
 
 subscriber_again : (version : Version) (line : List ℕ) (s : Subscriber) (h : IsRecordLine version line s) → (s.withdrawn ≡ true → s.register ≡ None)
     → subscriber_of h.imsi h.msisdn h.codes h.roam h.register s.withdrawn ≡ Some s
-unfolding subscriber_of
+unfolding subscriber_of subscriber_from
 subscriber_again version line s h free =
     let made : Subscriber = record {
       imsi = s.imsi;
@@ -238,8 +238,9 @@ subscriber_again version line s h free =
     } in
     let same : made ≡ s = ap (λ (c : Option (List ℕ)). with_current s c) (sym h.no_current) in
     rw (
-      imsi_again h.imsi s.imsi h.is_imsi,
+      number_again h.imsi s.imsi h.is_imsi.0,
       number_again h.msisdn s.msisdn h.is_msisdn,
+      imsi_counted s.imsi h.is_imsi.1,
       codes_again h.codes s.codes h.is_codes,
       roam_again h.roam s.roam h.is_roam,
       register_again h.register s.register s.purged h.is_register,

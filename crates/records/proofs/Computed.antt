@@ -4,7 +4,7 @@ use Rattle.std.specs.Prelude.{Err}
 use Rattle.hex.specs.Hex.{decode_pairs}
 use Rattle.records.specs.declared.fault.RecordsFault.TheVariants.{BadLine, Twice}
 use Rattle.records.specs.File.{IsBadLine, IsTwice, lines}
-use Rattle.records.specs.Reading.{codes_after, codes_in, contents_of, header_in, prefixes_after, record_of, records_after, register_in, register_of, roam_in, subscriber_of}
+use Rattle.records.specs.Reading.{codes_after, codes_in, contents_of, header_in, prefixes_after, record_of, records_after, register_in, register_of, roam_in, subscriber_from, subscriber_of}
 use Rattle.records.specs.Examples as example
 use Rattle.records.proofs.FileLaws.{file_found}
 use Rattle.records.proofs.AgainFiles.{file_fault}
@@ -28,7 +28,7 @@ twice written n e = ⊎_elim
     (file_fault written (Twice n) e)
 
 pub worked_files : example.WorkedFiles
-unfolding decode_pairs lines contents_of header_in records_after record_of subscriber_of codes_in codes_after roam_in prefixes_after register_in register_of
+unfolding decode_pairs lines contents_of header_in records_after record_of subscriber_of subscriber_from codes_in codes_after roam_in prefixes_after register_in register_of
 worked_files = record {
   whole = file_found _ _ refl;
   imsi_twice_fault = twice _ 3 refl;

@@ -4,12 +4,15 @@ use Rattle.std.specs.Prelude.{◌&&◌, is_some, Option, Some, None, IfSome}
 use Rattle.std.specs.List.{AllByRecursion}
 use Rattle.hlr_types.specs.declared.register.Register.{Register}
 use Rattle.hlr_types.specs.Digits.{AreSomeDigits}
-use Rattle.hlr_types.specs.DigitTexts.{digits_in}
+use Rattle.std.specs.Result.{result_ok}
+use Rattle.hlr_types.specs.DigitTexts.{text_of}
+use Rattle.hlr_types.specs.Identities.{imsi_from}
 use Rattle.records.specs.Subscriber.{Subscriber, AreAllowed, AreOctets, MayRoam, MayServe, IsRecord}
 use Rattle.records.specs.Spelling.{IsNumber, Each, IsCodes, IsRoam, IsRegister}
-use Rattle.records.specs.Reading.{imsi_in, codes_in, roam_in, register_in, subscriber_of}
+use Rattle.records.specs.Reading.{codes_in, roam_in, register_in, subscriber_of, subscriber_from}
 use Rattle.records.proofs.FieldLaws.{none_twice, codes_found}
 use Rattle.records.proofs.LineLaws.{subscriber_found}
+use Rattle.records.proofs.AgainFields.{number_again}
 
 no_codes : AreAllowed []
 no_codes = record { most = omega arith; different = none_twice }
@@ -68,11 +71,14 @@ abbrev pub record_with : List ℕ → List ℕ → List ℕ → Option (List (Li
 record_with imsi msisdn codes roam register purged withdrawn =
     record { imsi = imsi; msisdn = msisdn; codes = codes; roam = roam; register = register; purged = purged; current = None; withdrawn = withdrawn }
 
-pub fields_keep : (imsi msisdn codes roam register : List ℕ) (w : Bool) (i m cs : List ℕ) (ro : Option (List (List ℕ))) (re : Option Register) (p : Bool)
-    → imsi_in imsi ≡ Some i → digits_in msisdn ≡ Some m → codes_in codes ≡ Some cs → roam_in roam ≡ Some ro → register_in register ≡ Some (re, p)
-    → (w && is_some re) ≡ false
-    → AreOctets cs → MayServe re → IsRecord (record_with i m cs ro re p w)
-unfolding subscriber_of
-fields_keep imsi msisdn codes roam register w i m cs ro re p is_i is_m is_c is_ro is_re left octets serves =
-    let read : subscriber_of imsi msisdn codes roam register w ≡ Some (record_with i m cs ro re p w) = rw (is_i, is_m, is_c, is_ro, is_re, left) refl in
-    keeps imsi msisdn codes roam register w (record_with i m cs ro re p w) read octets serves
+pub fields_keep : (imsi msisdn codes roam register : List ℕ) (w : Bool) (i cs : List ℕ) (ro : Option (List (List ℕ))) (re : Option Register) (p : Bool)
+    → AreSomeDigits imsi → AreSomeDigits msisdn → result_ok (imsi_from imsi) ≡ Some i → codes_in codes ≡ Some cs → roam_in roam ≡ Some ro
+    → register_in register ≡ Some (re, p) → (w && is_some re) ≡ false
+    → AreOctets cs → MayServe re → IsRecord (record_with i msisdn cs ro re p w)
+unfolding subscriber_of subscriber_from
+fields_keep imsi msisdn codes roam register w i cs ro re p some_i some_m is_i is_c is_ro is_re left octets serves =
+    let text_i = number_again (text_of imsi) imsi (refl, some_i) in
+    let text_m = number_again (text_of msisdn) msisdn (refl, some_m) in
+    let read : subscriber_of (text_of imsi) (text_of msisdn) codes roam register w ≡ Some (record_with i msisdn cs ro re p w) =
+    rw (text_i, text_m, is_i, is_c, is_ro, is_re, left) refl in
+    keeps (text_of imsi) (text_of msisdn) codes roam register w (record_with i msisdn cs ro re p w) read octets serves

@@ -10,6 +10,7 @@ pub mod FieldLaws
 pub mod LineLaws
 pub mod AgainFields
 pub mod AgainLines
+pub mod DigitParts
 pub mod Facts
 pub mod FileLaws
 pub mod AgainFiles

@@ -9,17 +9,21 @@ use Rattle.std.proofs.lemmas.Option.{cond_some}
 use Rattle.std.proofs.lemmas.List.{take-append-drop}
 use Rattle.hlr_types.specs.Digits.{AreImsiDigits}
 use Rattle.hlr_types.specs.DigitTexts.{digits_in}
+use Rattle.hlr_types.specs.Identities.{imsi_from}
 use Rattle.records.specs.declared.version.Version.{Version}
 use Rattle.records.specs.declared.version.Version.TheVariants.{One, Two}
 use Rattle.records.specs.Subscriber.{Subscriber}
 use Rattle.records.specs.File.{parts}
-use Rattle.records.specs.Reading.{is_text, codes_in, roam_in, register_in, withdrawn_in, subscriber_of, record_of, version_in, header_in, imsi_in}
+use Rattle.records.specs.Reading.{is_text, codes_in, roam_in, register_in, withdrawn_in, subscriber_of, subscriber_from, record_of, version_in, header_in, imsi_in}
 use Rattle.records.specs.Spelling.{IsNumber, IsImsiNumber, IsCodes, IsRoam, IsRegister, IsRecordLine, IsHeader, MayBeWithdrawn, sixth, withdrawn_text, mark_of}
 use Rattle.records.proofs.FieldLaws.{bind_some, guard_none, chosen, number_found, codes_found, roam_found, register_found, withdrawn_found, is_text_true, joined_again}
 
 counted : (b : Bool) (d e : List ℕ) → result_ok (cond b (Ok d) (Err BadCount)) ≡ Some e → (b ≡ true) × (d ≡ e)
 counted true d e is = (refl, cc)
 counted false d e is = absurd cc
+
+imsi_by : (text digits imsi : List ℕ) → digits_in text ≡ Some digits → result_ok (imsi_from digits) ≡ Some imsi → imsi_in text ≡ Some imsi
+imsi_by text digits imsi e is = rw e is
 
 pub imsi_found : (text digits : List ℕ) → imsi_in text ≡ Some digits → IsImsiNumber text digits
 imsi_found text digits e =
@@ -49,18 +53,19 @@ free_of false o e is = absurd (false≢true is)
 
 pub subscriber_found : (imsi msisdn codes roam register : List ℕ) (w : Bool) (s : Subscriber) → subscriber_of imsi msisdn codes roam register w ≡ Some s
     → SubscriberFound imsi msisdn codes roam register w s
-unfolding subscriber_of
+unfolding subscriber_of subscriber_from
 subscriber_found imsi msisdn codes roam register w s e =
-    let i = bind_some (imsi_in imsi) _ s e in
-    let m = bind_some (digits_in msisdn) _ s i.2 in
-    let c = bind_some (codes_in codes) _ s m.2 in
+    let digits = bind_some (digits_in imsi) _ s e in
+    let m = bind_some (digits_in msisdn) _ s digits.2 in
+    let i = bind_some (result_ok (imsi_from digits.0)) _ s m.2 in
+    let c = bind_some (codes_in codes) _ s i.2 in
     let ro = bind_some (roam_in roam) _ s c.2 in
     let re = bind_some (register_in register) _ s ro.2 in
     let g = guard_none (w && is_some re.0.0) _ s re.2 in
     let made : Subscriber = record { imsi = i.0; msisdn = m.0; codes = c.0; roam = ro.0; register = re.0.0; purged = re.0.1; current = None; withdrawn = w } in
     let same : made ≡ s = cc in
     subst (λ (x : Subscriber). SubscriberFound imsi msisdn codes roam register w x) same (record {
-      is_imsi = imsi_found imsi i.0 i.1;
+      is_imsi = imsi_found imsi i.0 (imsi_by imsi digits.0 i.0 digits.1 i.1);
       is_msisdn = number_found msisdn m.0 m.1;
       is_codes = codes_found codes c.0 c.1;
       is_roam = roam_found roam ro.0 ro.1;

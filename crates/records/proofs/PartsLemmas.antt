@@ -6,9 +6,8 @@ use Rattle.std.proofs.lemmas.Bool.{eq-eqb, eqb-true, ne_eqb}
 use Rattle.memchr.specs.Find.{IsFirstByte, is_byte}
 use Rattle.std.proofs.lemmas.List.Splits.{slice_split-cons_yes, slice_split-cons_no, length-slice_split}
 use Rattle.std.specs.Prelude.{None, Some, Option}
-use Rattle.records.specs.declared.version.Version.TheVariants.{One, Two}
 use Rattle.records.specs.File.{parts}
-use Rattle.records.specs.Reading.{register_of, record_of, octet_in, codes_after}
+use Rattle.records.specs.Reading.{octet_in, codes_after}
 
 at_first : (at : ℕ) (text : List ℕ) (i : ℕ) → i < length text → ((k : ℕ) → k < i → get_or text k 0 ≡ at → ⊥) → get_or text i 0 ≡ at
     → parts at text ≡ take i text ∷ parts at (drop (suc i) text)
@@ -45,19 +44,6 @@ parts_cons at text =
       | [] ↦ λ e. absurd (omega arith)
       | x ∷ xs ↦ λ e. (x, xs, refl)
     ] long
-
--- more fields than a line may have
-pub register_of_five : (a b c d text : List ℕ) → register_of (a ∷ b ∷ c ∷ d ∷ parts 44 text) ≡ None
-unfolding register_of
-register_of_five a b c d text = let p = parts_cons 44 text in rw p.2 refl
-
-pub record_of_seven : (a b c d e f text : List ℕ) → record_of Two (a ∷ b ∷ c ∷ d ∷ e ∷ f ∷ parts 32 text) ≡ None
-unfolding record_of
-record_of_seven a b c d e f text = let p = parts_cons 32 text in rw p.2 refl
-
-pub record_of_six : (a b c d e text : List ℕ) → record_of One (a ∷ b ∷ c ∷ d ∷ e ∷ parts 32 text) ≡ None
-unfolding record_of
-record_of_six a b c d e text = let p = parts_cons 32 text in rw p.2 refl
 
 -- a code that occurs twice
 pub codes_after-repeated : (found : List ℕ) (part : List ℕ) (more : List (List ℕ)) (code : ℕ) (total : Option (List ℕ)) → octet_in part ≡ Some code

@@ -35,6 +35,11 @@ abbrev pub parts_left : ℕ → Option (List ℕ) → List (List ℕ)
 parts_left separator None = []
 parts_left separator (Some rest) = parts separator rest
 
+-- The digits that the first part is, and the parts behind it, of which there is one.
+abbrev pub first_digits : List (List ℕ) → Option (List ℕ × List (List ℕ))
+first_digits (first ∷ next ∷ more) = option_map (λ digits. (digits, next ∷ more)) (digits_in first)
+first_digits _ = None
+
 -- ---- fields
 
 abbrev pub imsi_in : List ℕ → Option (List ℕ)
@@ -75,23 +80,39 @@ register_of (vlr ∷ msc ∷ lmsi ∷ mark ∷ []) =
     digits_in vlr >>= λ v. digits_in msc >>= λ m. lmsi_in lmsi >>= λ l. purged_in mark >>= λ p. Some (record { vlr = v; msc = m; lmsi = l }, p)
 register_of _ = None
 
+-- The same behind the numbers of the VLR and the MSC.
+unfoldable pub register_after : List ℕ → List ℕ → List (List ℕ) → Option (Register × Bool)
+register_after vlr msc (lmsi ∷ mark ∷ []) = lmsi_in lmsi >>= λ l. purged_in mark >>= λ p. Some (record { vlr = vlr; msc = msc; lmsi = l }, p)
+register_after vlr msc _ = None
+
 unfoldable pub register_in : List ℕ → Option (Option Register × Bool)
 register_in field = if is_text field (text "-") then Some (None, false) else register_of (parts 44 field) >>= λ r. Some (Some r.0, r.1)
 
 -- ---- lines
 
-unfoldable pub subscriber_of : List ℕ → List ℕ → List ℕ → List ℕ → List ℕ → Bool → Option Subscriber
-subscriber_of imsi msisdn codes roam register withdrawn =
-    imsi_in imsi >>= λ i. digits_in msisdn >>= λ m. codes_in codes >>= λ c. roam_in roam >>= λ ro. register_in register >>= λ re.
+-- The record of the digits of an IMSI and of an MSISDN, and of the other fields.
+unfoldable pub subscriber_from : List ℕ → List ℕ → List ℕ → List ℕ → List ℕ → Bool → Option Subscriber
+subscriber_from imsi msisdn codes roam register withdrawn =
+    result_ok (imsi_from imsi) >>= λ i. codes_in codes >>= λ c. roam_in roam >>= λ ro. register_in register >>= λ re.
     if withdrawn && is_some re.0
     then None
-    else Some (record { imsi = i; msisdn = m; codes = c; roam = ro; register = re.0; purged = re.1; current = None; withdrawn = withdrawn })
+    else Some (record { imsi = i; msisdn = msisdn; codes = c; roam = ro; register = re.0; purged = re.1; current = None; withdrawn = withdrawn })
+
+unfoldable pub subscriber_of : List ℕ → List ℕ → List ℕ → List ℕ → List ℕ → Bool → Option Subscriber
+subscriber_of imsi msisdn codes roam register withdrawn =
+    digits_in imsi >>= λ i. digits_in msisdn >>= λ m. subscriber_from i m codes roam register withdrawn
 
 -- The record of a line's fields: five, and a sixth in version 2.
 unfoldable pub record_of : Version → List (List ℕ) → Option Subscriber
 record_of One (imsi ∷ msisdn ∷ codes ∷ roam ∷ register ∷ []) = subscriber_of imsi msisdn codes roam register false
 record_of Two (imsi ∷ msisdn ∷ codes ∷ roam ∷ register ∷ mark ∷ []) = withdrawn_in mark >>= λ w. subscriber_of imsi msisdn codes roam register w
 record_of _ _ = None
+
+-- The same behind the numbers of an IMSI and an MSISDN.
+unfoldable pub record_after : Version → List ℕ → List ℕ → List (List ℕ) → Option Subscriber
+record_after One imsi msisdn (codes ∷ roam ∷ register ∷ []) = subscriber_from imsi msisdn codes roam register false
+record_after Two imsi msisdn (codes ∷ roam ∷ register ∷ mark ∷ []) = withdrawn_in mark >>= λ w. subscriber_from imsi msisdn codes roam register w
+record_after _ imsi msisdn _ = None
 
 abbrev pub version_in : List ℕ → Option Version
 version_in mark = if is_text mark (text "HLR1 ") then Some One else if is_text mark (text "HLR2 ") then Some Two else None

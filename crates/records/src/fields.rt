@@ -3,23 +3,16 @@
 ghost use Rattle.std.specs.Prelude.{◌≡◌, [], IfOk, option_map};
 ghost use Rattle.records.specs.File.{parts};
 ghost use Rattle.records.specs.Roam.{prefixes_of};
-ghost use Rattle.records.specs.Reading.{imsi_in, lmsi_in, purged_in, withdrawn_in, register_of, register_in, roam_in, prefixes_after};
+ghost use Rattle.records.specs.Reading.{lmsi_in, purged_in, withdrawn_in, register_of, register_after, register_in, roam_in, prefixes_after};
 
-use crate::pieces::cut;
+use crate::pieces::{cut, cut_digits};
 use crate::roam::Roam;
 use hex::FromHex;
-use hlr_types::{Digits, Imsi, IsdnAddress, Lmsi, Register};
+use hlr_types::{Digits, IsdnAddress, Lmsi, Register};
 use std::alloc::{AllocError, Global};
 
 /// How many roaming prefixes a subscriber may have (profile).
 const MAX_PREFIXES: usize = 8;
-
-/// An IMSI (E.212): its 5 to 15 digits.
-pub fn imsi_field(field: &[u8]) -> Option<Imsi>
-    ensures { result ≡ imsi_in field.now }
-{
-    Imsi::from_digits(Digits::from_text(field)?).ok()
-}
 
 /// Where a subscriber may roam: `*`, or 1 to 8 prefixes, with commas.
 #[tactic(auto, unfolding(crate::specs::Reading::roam_in))]
@@ -68,24 +61,30 @@ pub fn register_field(field: &[u8]) -> Option<(Option<Register>, bool)>
     Some((Some(register), purged))
 }
 
-#[tactic(auto, using(crate::proofs::PartsLemmas::register_of_five), unfolding(crate::specs::Reading::register_of))]
+#[tactic(auto, using(crate::proofs::DigitParts::register_laws))]
 fn listed_register(field: &[u8]) -> Option<(Register, bool)>
     ensures { result ≡ register_of (parts 44 field.now) }
 {
-    let (vlr, Some(rest)) = cut(field, b',') else {
+    let Some((vlr, rest)) = cut_digits(field, b',') else {
         return None;
     };
-    let (msc, Some(rest)) = cut(rest, b',') else {
+    let Some((msc, rest)) = cut_digits(rest, b',') else {
         return None;
     };
-    let (lmsi, Some(rest)) = cut(rest, b',') else {
+    register_at(IsdnAddress::new(vlr), IsdnAddress::new(msc), rest)
+}
+
+/// The register at these numbers, of which the LMSI and the mark are left to read.
+#[tactic(auto, using(crate::proofs::DigitParts::register_after_five), unfolding(crate::specs::Reading::register_after))]
+fn register_at(vlr: IsdnAddress, msc: IsdnAddress, left: &[u8]) -> Option<(Register, bool)>
+    ensures { result ≡ register_after vlr msc (parts 44 left.now) }
+{
+    let (lmsi, Some(rest)) = cut(left, b',') else {
         return None;
     };
     let (mark, None) = cut(rest, b',') else {
         return None;
     };
-    let vlr = IsdnAddress::new(Digits::from_text(vlr)?);
-    let msc = IsdnAddress::new(Digits::from_text(msc)?);
     let lmsi = lmsi_field(lmsi)?;
     let purged = purged_field(mark)?;
     Some((Register { vlr, msc, lmsi }, purged))

@@ -1,16 +1,17 @@
 //! One line of a records file.
 
 ghost use Rattle.std.specs.Prelude.{◌≡◌, ◌&&◌, is_some, IfOk};
+ghost use Rattle.hlr_types.specs.Digits.{AreSomeDigits};
 ghost use Rattle.records.specs.File.{parts};
-ghost use Rattle.records.specs.Reading.{record_of, subscriber_of, version_in, header_in};
+ghost use Rattle.records.specs.Reading.{record_of, record_after, subscriber_from, version_in, header_in};
 
 use crate::codes::codes_field;
-use crate::fields::{imsi_field, register_field, roam_field, withdrawn_field};
+use crate::fields::{register_field, roam_field, withdrawn_field};
 use crate::numbers::{are_octets, register_numbers};
-use crate::pieces::cut;
+use crate::pieces::{cut, cut_digits};
 use crate::record::Record;
 use crate::version::Version;
-use hlr_types::{Digits, IsdnAddress, Register};
+use hlr_types::{Digits, Imsi, IsdnAddress, Register};
 use std::alloc::{AllocError, Global};
 
 /// The length of `HLR1 ` in octets.
@@ -45,15 +46,15 @@ fn version_of(mark: &[u8]) -> Option<Version>
 /// The fields that each version has.
 #[derive(Clone, Copy)]
 struct Fields<'a> {
-    imsi: &'a [u8],
-    msisdn: &'a [u8],
+    imsi: Digits,
+    msisdn: Digits,
     codes: &'a [u8],
     roam: &'a [u8],
     register: &'a [u8],
 }
 
 /// The record of a line. `None` if the line does not have its version's form.
-#[tactic(auto, using(crate::proofs::PartsLemmas::record_of_six, crate::proofs::PartsLemmas::record_of_seven), unfolding(crate::specs::Reading::record_of))]
+#[tactic(auto, using(crate::proofs::DigitParts::record_laws))]
 pub fn read_record(
     alloc: Global,
     version: Version,
@@ -61,13 +62,29 @@ pub fn read_record(
 ) -> Result<Option<Record>, AllocError>
     ensures { IfOk result (λ read. read ≡ record_of version (parts 32 line.now)) }
 {
-    let (imsi, Some(rest)) = cut(line, b' ') else {
+    let Some((imsi, rest)) = cut_digits(line, b' ') else {
         return Ok(None);
     };
-    let (msisdn, Some(rest)) = cut(rest, b' ') else {
+    let Some((msisdn, rest)) = cut_digits(rest, b' ') else {
         return Ok(None);
     };
-    let (codes, Some(rest)) = cut(rest, b' ') else {
+    record_behind(alloc, version, imsi, msisdn, rest)
+}
+
+/// The record of these numbers, of which the other fields are left to read.
+#[tactic(auto, using(crate::proofs::DigitParts::fields_laws), unfolding(crate::specs::Reading::record_after))]
+fn record_behind(
+    alloc: Global,
+    version: Version,
+    imsi: Digits,
+    msisdn: Digits,
+    left: &[u8],
+) -> Result<Option<Record>, AllocError>
+    requires imsi { AreSomeDigits imsi }
+    requires msisdn { AreSomeDigits msisdn }
+    ensures { IfOk result (λ read. read ≡ record_after version imsi msisdn (parts 32 left.now)) }
+{
+    let (codes, Some(rest)) = cut(left, b' ') else {
         return Ok(None);
     };
     let (roam, Some(rest)) = cut(rest, b' ') else {
@@ -96,16 +113,15 @@ pub fn read_record(
     }
 }
 
-#[tactic(auto, unfolding(crate::specs::Reading::subscriber_of))]
+#[tactic(auto, unfolding(crate::specs::Reading::subscriber_from))]
 fn record_from(alloc: Global, fields: Fields, withdrawn: bool) -> Result<Option<Record>, AllocError>
+    requires imsi { AreSomeDigits fields.imsi }
+    requires msisdn { AreSomeDigits fields.msisdn }
     ensures { IfOk result
-        (λ read. read ≡ subscriber_of fields.entry.imsi.now fields.entry.msisdn.now
+        (λ read. read ≡ subscriber_from fields.entry.imsi fields.entry.msisdn
         fields.entry.codes.now fields.entry.roam.now fields.entry.register.now withdrawn) }
 {
-    let Some(imsi) = imsi_field(fields.imsi) else {
-        return Ok(None);
-    };
-    let Some(msisdn) = Digits::from_text(fields.msisdn) else {
+    let Ok(imsi) = Imsi::from_digits(fields.imsi) else {
         return Ok(None);
     };
     let Some(codes) = codes_field(fields.codes) else {
@@ -124,7 +140,7 @@ fn record_from(alloc: Global, fields: Fields, withdrawn: bool) -> Result<Option<
     register_numbers(&register);
     Ok(Some(Record {
         imsi,
-        msisdn: IsdnAddress::new(msisdn),
+        msisdn: IsdnAddress::new(fields.msisdn),
         codes,
         roam,
         register,

@@ -1,9 +1,12 @@
 //! Texts cut at a separator.
 
-ghost use Rattle.std.specs.Prelude.{◌≡◌, ◌<◌, ◌∷◌, length, IfSome, option_map};
+ghost use Rattle.std.specs.Prelude.{◌≡◌, ◌<◌, ◌∷◌, length, false, IfSome, option_map};
+ghost use Rattle.hlr_types.specs.Digits.{AreSomeDigits};
+ghost use Rattle.hlr_types.specs.DigitTexts.{is_digit};
 ghost use Rattle.records.specs.File.{parts, lines};
-ghost use Rattle.records.specs.Reading.{parts_left};
+ghost use Rattle.records.specs.Reading.{first_digits, parts_left};
 
+use hlr_types::Digits;
 use memchr::memchr;
 
 /// The text before the first separator, and the text after it if there is one.
@@ -17,6 +20,17 @@ pub fn cut(text: &[u8], separator: u8) -> (&[u8], Option<&[u8]>)
         Some(at) => (&text[..at], Some(&text[at + 1..])),
         None => (text, None),
     }
+}
+
+/// The digits before the first separator, and the text after it. `None` if none is there, or it does not end digits. As these
+/// are read where the separator is sought, each character is looked at once.
+#[inline(always)]
+pub fn cut_digits(text: &[u8], separator: u8) -> Option<(Digits, &[u8])>
+    requires { is_digit separator ≡ false }
+    ensures parts { option_map (λ cut. (cut.0, parts separator cut.1.now)) result ≡ first_digits (parts separator text.now) }
+    ensures digits { IfSome result (λ cut. AreSomeDigits cut.0) }
+{
+    Digits::from_front(text, separator)
 }
 
 /// The first line, without its line feed, and what follows it.

@@ -1,5 +1,6 @@
-use Rattle.std.proofs.Common.{[], sym, ◌∙◌, arith, append-nil}
-use Rattle.bertree.proofs.Frames.{reading-first, reading-opened, reading-grown, reading-closed, reading-last, reading-more, reading-stuck, node-ended, taken-room, taken-first, taken-opened, taken-grown, taken-closed, primitive-whole, primitive-more, no-items, opened-smaller, closed-smaller}
+use Rattle.std.proofs.Common.{[], refl, sym, ◌∙◌, ap, arith, append-nil}
+use Rattle.bertree.specs.Nodes.{listed}
+use Rattle.bertree.proofs.Frames.{reading-first, reading-opened, reading-grown, reading-closed, reading-last, reading-more, reading-stuck, taken-room, taken-first, taken-opened, taken-grown, taken-closed, primitive-whole, primitive-more, no-items, opened-smaller, closed-smaller}
 use Rattle.bertree.proofs.read.read_levels.Goals as goal
 
 -- the first element
@@ -40,7 +41,7 @@ returns-in_default-pop-clause-ok c =
     let l = c.loop-after in
     let whole = c.in_ok-alone.ensures.ok in
     rw whole.0 (reading-last _ _ _ _ _ _ _ _ l.invariant.0 (no-items _ (omega (arith, c.in_default-pop.ensures.cases, l.outer.ok.0)))
-    c.in-Some-end.ensures.found whole.1 (node-ended l.inner _ _ _ c.deref.ensures.value c.in_ok-node.ensures))
+    c.in-Some-end.ensures.found whole.1 (c.new-in_default-pop.ensures ∙ ap listed c.into_bump_slice.ensures))
 
 pub loop-after-smaller-in-Some-end : goal.loop-after-smaller-in-Some-end
 loop-after-smaller-in-Some-end c =
@@ -48,21 +49,14 @@ loop-after-smaller-in-Some-end c =
 
 pub loop-after-preserved-in-Some-end : goal.loop-after-preserved-in-Some-end
 loop-after-preserved-in-Some-end c =
-    let l = c.loop-after in let pushed = c.push_reserved.ensures in
-    let room = taken-closed l.inner c.in-Some-pop.parent _ _ _ _ _ _ _ _ c.in-Some-pop.ensures.items
-    c.in-Some-end.ensures.found c.truncate.ensures.items pushed.items in (
-      reading-closed _ l.inner c.in-Some-pop.parent _ _ _ _ _ _ _ _ _ l.invariant.0 c.in-Some-pop.ensures.items
-          c.in-Some-end.ensures.found (node-ended l.inner _ _ _ c.deref.ensures.value c.in_ok-node.ensures)
-          c.truncate.ensures.items pushed.items,
-      omega (arith, room, l.invariant.1),
-      pushed.capacity ∙ c.truncate.ensures.capacity ∙ l.invariant.2,
+    let l = c.loop-after in (
+      reading-closed _ l.inner c.in-Some-pop.parent _ _ _ _ _ _ _ _ l.invariant.0 c.in-Some-pop.ensures.items
+          c.in-Some-end.ensures.found (omega (arith, c.len.ensures, l.nodes.ok.0)) refl,
+      taken-closed l.inner c.in-Some-pop.parent _ _ l.nodes.items _ _ _ _ _ _ l.invariant.1 c.in-Some-pop.ensures.items
+          c.in-Some-end.ensures.found refl,
+      l.invariant.2,
       c.in-Some-pop.ensures.capacity ∙ l.invariant.3,
     )
-
-pub push_reserved-requires : goal.push_reserved-requires
-push_reserved-requires c =
-    let l = c.loop-after in let room = taken-room l.inner l.outer.items l.nodes.items _ _ l.invariant.1 in
-    omega (arith, room.0, l.invariant.2, c.truncate.ensures.capacity, c.truncate.ensures.len, l.nodes.ok.0)
 
 -- an element has begun
 
@@ -70,19 +64,28 @@ pub returns-in_default-read_head-clause-not_ber : goal.returns-in_default-read_h
 returns-in_default-read_head-clause-not_ber c = λ _.
     reading-stuck _ _ _ _ _ _ c.loop-after.invariant.0 c.in_default-end.ensures.none c.in_default-read_head.ensures.none
 
+pub push_reserved-requires : goal.push_reserved-requires
+push_reserved-requires c =
+    let l = c.loop-after in let room = taken-room l.inner l.outer.items l.nodes.items _ _ l.invariant.1 in
+    omega (arith, room.0, l.invariant.2, l.nodes.ok.0)
+
 pub loop-after-preserved-in-Primitive-head : goal.loop-after-preserved-in-Primitive-head
 loop-after-preserved-in-Primitive-head c =
-    let l = c.loop-after in let h = c.in-Primitive-head in let pushed = c.push_reserved-in-Primitive-head.ensures in
-    let head = rw h.is at c.in-Some-read_head.ensures.found in
-    let room = taken-grown l.inner l.outer.items _ _ _ _ h.tag _ _ pushed.items head.1 in (
+    let l = c.loop-after in let h = c.in-Primitive-head in let pushed = c.push_reserved.ensures in
+    let head = rw h.is at c.in-Some-read_head.ensures.found in (
       reading-grown _ l.inner _ _ _ _ h.tag h.contents h.after _ _ l.invariant.0 pushed.items head (omega (arith, l.outer.ok.0)),
-      omega (arith, room, l.invariant.1),
+      taken-grown l.inner l.outer.items _ _ _ _ h.tag _ _ _ l.invariant.1 pushed.items head.1,
       pushed.capacity ∙ l.invariant.2,
       l.invariant.3,
     )
 
-pub push_reserved-requires-in-Primitive-head : goal.push_reserved-requires-in-Primitive-head
-push_reserved-requires-in-Primitive-head c =
+pub push_reserved-requires-in-Constructed-head : goal.push_reserved-requires-in-Constructed-head
+push_reserved-requires-in-Constructed-head c =
+    let l = c.loop-after in let room = taken-room l.inner l.outer.items l.nodes.items _ _ l.invariant.1 in
+    omega (arith, room.1, l.invariant.3, l.outer.ok.0)
+
+pub push_reserved-requires-in-Constructed-head-2 : goal.push_reserved-requires-in-Constructed-head-2
+push_reserved-requires-in-Constructed-head-2 c =
     let l = c.loop-after in let room = taken-room l.inner l.outer.items l.nodes.items _ _ l.invariant.1 in
     omega (arith, room.0, l.invariant.2, l.nodes.ok.0)
 
@@ -95,16 +98,11 @@ loop-after-smaller c =
 pub loop-after-preserved : goal.loop-after-preserved
 loop-after-preserved c =
     let l = c.loop-after in let h = c.in-Constructed-head in let o = c.new-inner.ensures in
-    let head = rw h.is at c.in-Some-read_head.ensures.found in let pushed = c.push_reserved-in-Constructed-head.ensures in
-    let room = taken-opened l.inner c.new-inner.result _ _ l.nodes.items _ _ h.tag h.after pushed.items o.after head in (
-      reading-opened _ l.inner _ _ _ _ _ _ h.tag h.after _ _ l.invariant.0 pushed.items
-          o.tag (omega (arith, o.before, l.nodes.ok.0)) o.after head (omega (arith, l.outer.ok.0)),
-      omega (arith, room, l.invariant.1),
-      l.invariant.2,
-      pushed.capacity ∙ l.invariant.3,
+    let head = rw h.is at c.in-Some-read_head.ensures.found in
+    let around = c.push_reserved-in-Constructed-head.ensures in let marked = c.push_reserved-in-Constructed-head-2.ensures in (
+      reading-opened _ l.inner _ _ _ _ _ _ _ _ h.tag h.after _ _ l.invariant.0 around.items marked.items
+          o.tag (omega (arith, o.before, c.len-in-Constructed-head.ensures, c.push_reserved-in-Constructed-head-2.new.self.ok.0)) o.after head (omega (arith, l.outer.ok.0)),
+      taken-opened l.inner c.new-inner.result _ _ _ _ _ _ _ h.tag h.after _ l.invariant.1 around.items marked.items o.after head,
+      marked.capacity ∙ l.invariant.2,
+      around.capacity ∙ l.invariant.3,
     )
-
-pub push_reserved-requires-in-Constructed-head : goal.push_reserved-requires-in-Constructed-head
-push_reserved-requires-in-Constructed-head c =
-    let l = c.loop-after in let room = taken-room l.inner l.outer.items l.nodes.items _ _ l.invariant.1 in
-    omega (arith, room.1, l.invariant.3, l.outer.ok.0)

@@ -4,11 +4,6 @@ use Rattle.hlr_types.specs.Words.{in_word}
 use Rattle.hlr_types.proofs.PackLemmas.{pair, none_unwritten}
 use Rattle.hlr_types.proofs.tbcd.octets_of.Goals as goal
 
-pub overflow_sub-first : goal.overflow_sub-first
-overflow_sub-first c =
-    let pos : 0 < c.loop-rest.rest = grind (arith, common_steps) in
-    (pair c.loop-rest.rest c.loop-rest.octets (in_word c.args.word) c.loop-rest.invariant pos).least
-
 pub push-requires : goal.push-requires
 push-requires c =
     let pos : 0 < c.loop-rest.rest = grind (arith, common_steps) in
