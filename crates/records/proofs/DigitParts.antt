@@ -1,18 +1,16 @@
 -- Digits that a text is cut to, and what the parts read to of which these are the first.
-use Rattle.std.proofs.Common.{◌≡◌, ℕ, ◌+◌, ◌<◌, Bool, true, false, List, [], ◌∷◌, ◌++◌, refl, sym, ap, ◌∙◌, arith}
-use Rattle.std.specs.Prelude.{◌==◌, Option, Some, None, IfSome, IsSomeAnd, option_map}
+use Rattle.std.proofs.Common.{◌≡◌, ℕ, ◌+◌, ◌<◌, false, List, [], ◌∷◌, ◌++◌, refl, sym, ap, ◌∙◌}
+use Rattle.std.specs.Prelude.{Option, Some, None, IfSome, IsSomeAnd, option_map}
 use Rattle.std.specs.Borrow.{Bor}
 use Rattle.std.specs.List.{AllByRecursion, join_with_byte}
 use Rattle.std.proofs.lemmas.Bool.{false≢true, ne_eqb}
-use Rattle.hlr_types.specs.declared.register.Register.{Register}
 use Rattle.hlr_types.specs.Digits.{AreSomeDigits}
 use Rattle.hlr_types.specs.DigitTexts.{digits_in, is_digit, text_of}
 use Rattle.hlr_types.proofs.TextLemmas.{printed_digit}
 use Rattle.records.specs.declared.version.Version.{Version}
 use Rattle.records.specs.declared.version.Version.TheVariants.{One, Two}
-use Rattle.records.specs.Subscriber.{Subscriber}
 use Rattle.records.specs.File.{parts}
-use Rattle.records.specs.Reading.{◌>>=◌, first_digits, lmsi_in, purged_in, withdrawn_in, register_of, register_after, subscriber_of, subscriber_from, record_of, record_after}
+use Rattle.records.specs.Reading.{◌>>=◌, first_digits, withdrawn_in, register_of, register_after, subscriber_of, subscriber_from, record_of, record_after}
 use Rattle.records.proofs.PartsLemmas.{parts_cons}
 use Rattle.records.proofs.FieldLaws.{number_found, joined_again}
 use Rattle.records.proofs.AgainFields.{number_again, Lacks, parts-front}

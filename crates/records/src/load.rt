@@ -18,6 +18,9 @@ use std::alloc::{AllocError, Global};
 /// The fewest octets that the line of a record has, with its line feed.
 const LEAST_LINE: usize = 13;
 
+/// So many line feeds can be counted in one octet.
+const MOST_COUNTED: usize = 255;
+
 /// Reads a records file of version 1 or 2: ASCII lines, each ended by a line feed, which the last may lack. The first line is
 /// `HLR1 ` or `HLR2 ` and the digits of the HLR number. Every other line is a record, its fields separated by one space:
 /// `<imsi> <msisdn> <codes> <roam> <register>`, in version 2 also `<a or w>`.
@@ -152,10 +155,24 @@ fn load_until_fault(
     Ok(loading.finish(alloc)?)
 }
 
-/// At least as many as these lines have records. So the records of a file are not moved while it is read.
+/// At least as many as these lines have records. So the records of a file are not moved while it is read. Nothing is known of the
+/// count of line feeds: were it too low, the list would grow.
 fn room_for(text: &[u8]) -> usize
     ensures { result ≤ length text.now + 1 }
 {
-    let ends = text.iter().filter(|octet| **octet == b'\n').count();
+    let mut ends: usize = 0;
+    for part in text.chunks(MOST_COUNTED) {
+        ends = ends.wrapping_add(usize::from(ends_in(part)));
+    }
     ends.min(text.len() / LEAST_LINE).saturating_add(1)
+}
+
+/// How many line feeds a part of a text has. They are counted in one octet, so that the compiler counts in sixteen places at a
+/// time; a count that takes 64 bits, place by place, took six instructions for each octet of a file.
+fn ends_in(part: &[u8]) -> u8 {
+    let mut ends: u8 = 0;
+    for octet in part {
+        ends = ends.wrapping_add(u8::from(*octet == b'\n'));
+    }
+    ends
 }
