@@ -1,6 +1,6 @@
 //! What a batch answers, as it is handled.
 
-ghost use Rattle.std.specs.Prelude.{◌≡◌, ◌++◌, ◌∷◌, [], OnOk, map};
+ghost use Rattle.std.specs.Prelude.{◌≡◌, ◌∷◌, [], OnOk, map};
 ghost use Rattle.std.specs.List.{flat_map};
 ghost use Rattle.shard_state.specs.Frames.{raw_out};
 ghost use Rattle.hlr_program.specs.Printed.{Prints};

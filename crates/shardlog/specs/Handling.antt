@@ -1,5 +1,5 @@
 -- How handling an event changes a shard.
-use Rattle.std.specs.Prelude.{◌≡◌, ℕ, List, [], ◌∷◌, ◌++◌, length, map, Some}
+use Rattle.std.specs.Prelude.{◌≡◌, ℕ, List, [], ◌∷◌, ◌++◌, length, Some}
 use Rattle.machine.specs.Events.{Event}
 use Rattle.machine.specs.Holders.{IsNamed}
 use Rattle.machine.specs.State.{Dialogue, State}

@@ -25,6 +25,9 @@ use std::alloc::{AllocError, Global};
 use std::marker::Model;
 use std::mem;
 
+/// For how many entries a journal begins with room: an eighth of what it may have.
+const FIRST_ROOM: usize = 8_192;
+
 /// A shard with its journal, which is legal: its entries lead from the base to the state.
 #[derive(Drop)]
 pub struct Shard {
@@ -48,7 +51,8 @@ impl Model for Shard {
 }
 
 impl Shard {
-    /// A shard that begins in this state, without an entry. On error the state is returned.
+    /// A shard that begins in this state, without an entry, and with room for 8,192, where memory suffices. On error the state is
+    /// returned.
     pub fn new(alloc: Global, state: State) -> Result<Shard, (State, AllocError)>
         ensures begins { IfOk result (λ shard. shard ≡ log state [] state) }
         ensures keeps { IfOk result LogKeeps }
@@ -58,7 +62,7 @@ impl Shard {
             Ok(base) => Ok(Shard {
                 alloc,
                 base,
-                entries: Vec::new(alloc),
+                entries: empty_journal(alloc),
                 state,
             }),
             Err(refused) => Err((state, refused)),
@@ -284,6 +288,17 @@ impl Shard {
         let _base = mem::replace(&mut self.base, next);
         self.entries.clear();
         Ok(())
+    }
+}
+
+/// An empty journal with some room, where memory suffices. So entries are not moved as their list begins to grow, and what is not written to
+/// takes addresses, but no memory. Room for each entry is made again before its event is handled, so that nothing rests on this.
+fn empty_journal(alloc: Global) -> Vec<Entry>
+    ensures { result.items ≡ [] }
+{
+    match Vec::with_capacity(alloc, FIRST_ROOM) {
+        Ok(room) => room,
+        Err(_) => Vec::new(alloc),
     }
 }
 

@@ -1,5 +1,5 @@
 -- What a receipt says: where the entry of its job stands, and what was sent.
-use Rattle.std.specs.Prelude.{◌≡◌, ℕ, map, Option, Some, None, Ok, Err, Result}
+use Rattle.std.specs.Prelude.{◌≡◌, ℕ, Option, Some, None, Ok, Err, Result}
 use Rattle.frames.specs.Account.{Place}
 use Rattle.frames.specs.Octets.{RawEvent}
 use Rattle.shardlog.specs.Log.{Log}

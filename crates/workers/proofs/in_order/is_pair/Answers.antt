@@ -1,6 +1,5 @@
-use Rattle.std.proofs.Common.{rules, ◌≡◌, map, sym, ap, ◌∙◌, Some}
+use Rattle.std.proofs.Common.{rules, ◌≡◌, sym, ap, ◌∙◌, Some}
 use Rattle.frames.specs.Account.{Job, Receipt, entry_at}
-use Rattle.shard_state.specs.Frames.{raw_out}
 use Rattle.shardlog.specs.Entries.{raw_entry}
 use Rattle.workers.specs.Journals.{journal_list}
 use Rattle.workers.specs.Receipts.{placed, place_of}
