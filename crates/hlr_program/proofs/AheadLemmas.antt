@@ -1,6 +1,6 @@
 -- How many events lines stand for.
-use Rattle.std.proofs.Common.{◌≡◌, ℕ, ◌+◌, ◌<◌, true, false, List, [], ◌∷◌, ◌++◌, map, length, length-append, refl, sym, ap, subst, ◌∙◌, arith, inl, inr}
-use Rattle.std.specs.Prelude.{◌==◌, ◌^◌, ◌⊎◌}
+use Rattle.std.proofs.Common.{◌≡◌, ℕ, ◌+◌, ◌<◌, List, [], ◌∷◌, length, length-append, refl, sym, ap, subst, ◌∙◌, arith, inl, inr}
+use Rattle.std.specs.Prelude.{◌==◌, ◌^◌}
 use Rattle.std.specs.List.{onto_first, range_with_len}
 use Rattle.std.proofs.lemmas.Bool.{cases_Bool}
 use Rattle.std.proofs.lemmas.List.{length-map}
@@ -8,7 +8,7 @@ use Rattle.std.proofs.lemmas.List.Splits.{slice_split-cons_yes, slice_split-cons
 use Rattle.frames.specs.Octets.{RawEvent, RawClock, RawExpire}
 use Rattle.records.specs.File.{parts}
 use Rattle.records.proofs.PartsLemmas.{parts_cons}
-use Rattle.hlr_input.specs.Script.{Line, Frame, Clock, Expire, Batch, Codes, Withdraw, IsLine, Say}
+use Rattle.hlr_input.specs.Script.{Line, Frame, Clock, Expire, Batch, Codes, Withdraw, Say}
 use Rattle.hlr_program.specs.Runs.{AreEvents, LineEvents, LinesEvents}
 
 -- ---- one line

@@ -48,15 +48,16 @@ prints_more a b c frames i frame lt is so_far more =
     subst (λ (sent : List RawOut). Prints a sent c) (sym (one_more frames i frame lt is))
     (prints_join a b c (map raw_out (take i frames)) (raw_out frame ∷ []) so_far more)
 
--- the frames of the lists up to the next one
-one_list_more : (lists : List (List RawOut)) (i : ℕ) (frames : List RawOut) → i < length lists → frames ≡ get_or lists i frames
-    → flat_map (λ o. o) (take (i + 1) lists) ≡ flat_map (λ o. o) (take i lists) ++ frames
-one_list_more lists i frames lt is =
-    ap (flat_map (λ o. o)) (take_more lists i frames lt ∙ ap (λ (f : List RawOut). take i lists ++ f ∷ []) (sym is))
-    ∙ flat_map-append (λ o. o) (take i lists) (frames ∷ []) ∙ ap (λ (l : List RawOut). flat_map (λ o. o) (take i lists) ++ l) (append-nil frames)
+-- the frames of those up to the next one
+module _ {X : Type 0} (f : X → List RawOut) where
+  one_list_more : (xs : List X) (i : ℕ) (x : X) → i < length xs → x ≡ get_or xs i x
+      → flat_map f (take (i + 1) xs) ≡ flat_map f (take i xs) ++ f x
+  one_list_more xs i x lt is =
+      ap (flat_map f) (take_more xs i x lt ∙ ap (λ (y : X). take i xs ++ y ∷ []) (sym is))
+      ∙ flat_map-append f (take i xs) (x ∷ []) ∙ ap (λ (l : List RawOut). flat_map f (take i xs) ++ l) (append-nil (f x))
 
-pub prints_list_more : (a b c : SoFar) (lists : List (List RawOut)) (i : ℕ) (frames : List RawOut) → i < length lists → frames ≡ get_or lists i frames
-    → Prints a (flat_map (λ o. o) (take i lists)) b → Prints b frames c → Prints a (flat_map (λ o. o) (take (i + 1) lists)) c
-prints_list_more a b c lists i frames lt is so_far more =
-    subst (λ (sent : List RawOut). Prints a sent c) (sym (one_list_more lists i frames lt is))
-    (prints_join a b c (flat_map (λ o. o) (take i lists)) frames so_far more)
+  pub prints_list_more : (a b c : SoFar) (xs : List X) (i : ℕ) (x : X) → i < length xs → x ≡ get_or xs i x
+      → Prints a (flat_map f (take i xs)) b → Prints b (f x) c → Prints a (flat_map f (take (i + 1) xs)) c
+  prints_list_more a b c xs i x lt is so_far more =
+      subst (λ (sent : List RawOut). Prints a sent c) (sym (one_list_more xs i x lt is))
+      (prints_join a b c (flat_map f (take i xs)) (f x) so_far more)

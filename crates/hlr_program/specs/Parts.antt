@@ -1,6 +1,8 @@
 -- The parts of a batch, and the cuts between them (profile). A cut changes no state, only which entries a listing shows.
-use Rattle.std.specs.Prelude.{◌≡◌, ◌≤◌, ◌⊎◌, ℕ, ◌+◌, [], length, Some, option_map, slice_get}
+use Rattle.std.specs.Prelude.{◌≡◌, ◌≤◌, ◌⊎◌, ℕ, ◌+◌, Bool, true, false, [], length, Some, option_map, slice_get}
 use Rattle.machine.specs.declared.numbers.TheConstants.{MAX_ENTRIES}
+use Rattle.hlrcore.specs.declared.event.RawEvent.{RawEvent}
+use Rattle.hlrcore.specs.declared.event.RawEvent.TheVariants.{Frame, Clock, Expire, Change}
 use Rattle.shardlog.specs.Log.{Log, log}
 use Rattle.wholenode.specs.Nodes.{NodeState}
 
@@ -20,3 +22,10 @@ pub record AreCut (before after : NodeState) : Type 0 where
 -- If some journal has no room for n more entries, all are cut; otherwise nothing is done.
 abbrev pub MakesRoom : NodeState → ℕ → NodeState → Type 0
 MakesRoom before count after = (HasRoom before count × (after ≡ before)) ⊎ ((HasRoom before count → ⊥) × AreCut before after)
+
+-- whether an event is read before it is handled; a clock value and an expiry name their shard
+abbrev pub needs_reading : RawEvent → Bool
+needs_reading (Frame from octets) = true
+needs_reading (Change imsi change) = true
+needs_reading (Clock shard now) = false
+needs_reading (Expire shard) = false

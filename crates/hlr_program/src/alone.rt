@@ -1,7 +1,7 @@
 //! A register in one thread: its shards with their journals, and the arena in which frames are decoded.
 
 ghost use Rattle.std.specs.Prelude.{◌≡◌, ◌≢◌, ◌≤◌, ◌↔◌, [], List, IsTrue, IfOk, IfErr, OnOk, Some, map, length};
-ghost use Rattle.std.specs.List.{flat_map};
+ghost use Rattle.std.specs.List.{flat_map, list_all};
 ghost use Rattle.machine.specs.declared.numbers.TheConstants.{MAX_ENTRIES};
 ghost use Rattle.frames.specs.Octets.{RawOut};
 ghost use Rattle.hlrcore.specs.Events.{raw_event};
@@ -13,7 +13,7 @@ ghost use Rattle.wholenode.specs.Handling.{Runs, sent_of};
 ghost use Rattle.hlr_program.specs.Answered.{so_far};
 ghost use Rattle.hlr_program.specs.Printed.{Prints};
 ghost use Rattle.hlr_program.specs.Journals.{RunsAlone};
-ghost use Rattle.hlr_program.specs.Parts.{AreCut, HasRoom, MakesRoom};
+ghost use Rattle.hlr_program.specs.Parts.{AreCut, HasRoom, MakesRoom, needs_reading};
 ghost use Rattle.hlr_program.specs.Statuses.{stopped_by};
 ghost use Rattle.hlr_program.specs.Stopping.{EventsStop};
 
@@ -89,8 +89,41 @@ impl Alone {
         self.send_all(part, answers)
     }
 
-    /// Handles events, for each of which its journal has room. The line of what is sent is made at once, while its octets are near.
+    /// Handles events, for each of which its journal has room.
     fn send_all(&mut self, part: Vec<RawEvent>, answers: &mut Answers) -> Result<(), Fault>
+        requires room { HasRoom self.now (length part.items) }
+        requires keeps { NodeKeeps self.now }
+        ensures sends { OnOk result ((done : List Handled)
+            × Runs self.old (map raw_event part.items) done self.new
+            × Prints (so_far answers.old) (flat_map sent_of done) (so_far answers.new)) }
+        ensures stops { IfErr result (EventsStop (Some (whole self.old.shards))
+            (map raw_event part.items)) }
+    {
+        if need_reading(&part) {
+            self.read_and_send(part, answers)
+        } else {
+            self.send_each(part, answers)
+        }
+    }
+
+    /// The same, in three rounds: all of them are read, then handled, and then the lines of what they send are made.
+    fn read_and_send(&mut self, part: Vec<RawEvent>, answers: &mut Answers) -> Result<(), Fault>
+        requires room { HasRoom self.now (length part.items) }
+        requires keeps { NodeKeeps self.now }
+        ensures sends { OnOk result ((done : List Handled)
+            × Runs self.old (map raw_event part.items) done self.new
+            × Prints (so_far answers.old) (flat_map sent_of done) (so_far answers.new)) }
+        ensures stops { IfErr result (EventsStop (Some (whole self.old.shards))
+            (map raw_event part.items)) }
+    {
+        match self.node.run_owned(&mut self.bump, part) {
+            Ok(done) => Ok(answers.push_handled(&done)?),
+            Err(fault) => Err(stopped(fault.cause)),
+        }
+    }
+
+    /// The same, one event after the other. The line of what is sent is made at once, while its octets are near.
+    fn send_each(&mut self, part: Vec<RawEvent>, answers: &mut Answers) -> Result<(), Fault>
         requires room { HasRoom self.now (length part.items) }
         requires keeps { NodeKeeps self.now }
         ensures sends { OnOk result ((done : List Handled)
@@ -147,6 +180,13 @@ impl Alone {
         }
         Ok(())
     }
+}
+
+/// Whether none of these is a clock value or an expiry, which name their shards, and need no reading.
+fn need_reading(events: &[RawEvent]) -> bool
+    ensures { result ≡ list_all needs_reading events.now }
+{
+    events.iter().all(|event| matches!(event, RawEvent::Frame { .. } | RawEvent::Change { .. }))
 }
 
 /// The fault of a part that stopped; each event had room in its journal.

@@ -3,6 +3,7 @@
 ghost use Rattle.std.specs.Prelude.{◌≡◌, ◌∷◌, [], OnOk, map};
 ghost use Rattle.std.specs.List.{flat_map};
 ghost use Rattle.shard_state.specs.Frames.{raw_out};
+ghost use Rattle.wholenode.specs.Handling.{sent_of};
 ghost use Rattle.hlr_program.specs.Printed.{Prints};
 ghost use Rattle.hlr_program.specs.Answered.{so_far};
 
@@ -10,6 +11,7 @@ use crate::printed::push_sent;
 use bumpalo::Bump;
 use hlr_input::Letters;
 use hlrcore::{Out, OutList};
+use shardlog::Handled;
 use std::alloc::{AllocError, Global};
 
 /// The lines of the frames that a batch has sent so far, and the local ids that letters stand for behind it. Nothing is printed
@@ -52,6 +54,16 @@ impl Answers {
     {
         for outs in sent {
             self.push_all(outs.as_slice())?;
+        }
+        Ok(())
+    }
+
+    /// The same for what handled events have sent, one event after the other.
+    pub fn push_handled(&mut self, done: &[Handled]) -> Result<(), AllocError>
+        ensures { OnOk result (Prints (so_far self.old) (flat_map sent_of done.now) (so_far self.new)) }
+    {
+        for handled in done {
+            self.push_all(handled.outs.as_slice())?;
         }
         Ok(())
     }

@@ -1,4 +1,5 @@
 pub mod Places
+pub mod ReadLemmas
 pub mod WholeLemmas
 pub mod OpeningLemmas
 pub mod RunLemmas

@@ -3,10 +3,11 @@
 ghost use Rattle.std.specs.Prelude.{◌≡◌, ◌<◌, [], map, IfOk, IfErr, OnOk, OnErr};
 ghost use Rattle.frames.specs.Octets.{IsEvent, RawClock, RawExpire};
 ghost use Rattle.hlrcore.specs.Events.{event_of, raw_event, raw_of};
-ghost use Rattle.wholenode.specs.Nodes.{whole};
+ghost use Rattle.wholenode.specs.Nodes.{NodeState, whole};
 ghost use Rattle.wholenode.specs.Opening.{BeginsWith};
 ghost use Rattle.wholenode.specs.Handling.{Cuts, Drops, IsRun, Refuses, Runs, Stops, Takes, sent_of};
 ghost use Rattle.wholenode.specs.Keeping.{NodeKeeps};
+ghost use Rattle.wholenode.specs.Reading.{AreRead};
 
 use crate::fault::{Cause, NodeFault, refusal, unread};
 use crate::opening::opening_shards;
@@ -111,7 +112,12 @@ impl Node {
         Ok(done)
     }
 
-    /// The same for events that are handed over, so that their octets are not copied. Those that are not handled are dropped.
+    /// The same for events that are handed over, so that their octets are not copied. All of them are read before the first is handled,
+    /// which takes less time where they are frames. Where memory runs out as they are read, none is handled. Those that are not handled
+    /// are dropped.
+    ///
+    /// Limitation: an event that was read takes some 180 octets until all are handled. Hand over some 64 frames at a time. Clock values
+    /// and expiries need no reading, and take longer this way than by `handle_owned`.
     pub fn run_owned(
         &mut self,
         bump: &mut Bump,
@@ -126,14 +132,18 @@ impl Node {
         ensures keeps { NodeKeeps self.new }
     {
         let mut done = room_for(self.alloc, events.len());
-        for raw in events {
+        let mut read = match read_all(self.alloc, bump, events) {
+            Ok(read) => read,
+            Err(cause) => return Err(NodeFault { done, cause }),
+        };
+        for event in read.iter_mut() {
             if done.reserve(1).is_err() {
                 return Err(NodeFault {
                     done,
                     cause: Cause::Memory,
                 });
             }
-            match self.handle_owned(bump, raw) {
+            match self.handle_read(event) {
                 Ok(handled) => done.push_reserved(handled),
                 Err(why) => return Err(NodeFault { done, cause: why }),
             }
@@ -257,12 +267,32 @@ impl Node {
     }
 }
 
-/// An empty list, with room for so many answers where memory suffices. Room for each is made again before its event is handled, so
-/// that nothing rests on this; it spares moving them as their list grows.
-fn room_for(alloc: Global, answers: usize) -> Vec<Handled>
+/// Reads events, each frame decoded in the arena. On error the events are dropped.
+fn read_all(alloc: Global, bump: &mut Bump, events: Vec<RawEvent>) -> Result<Vec<Event>, Cause>
+    ensures read { IfOk result (λ read. AreRead (map raw_event events.items) read.items) }
+    // Whatever the register is, it stops at the first of them.
+    ensures stops { IfErr result (λ cause. (node : NodeState)
+        → Stops node (map raw_event events.items) [] cause node) }
+{
+    let mut all = room_for(alloc, events.len());
+    for raw in events {
+        if all.reserve(1).is_err() {
+            return Err(Cause::Memory);
+        }
+        match Event::of_owned(alloc, bump, raw) {
+            Ok(event) => all.push_reserved(event),
+            Err(fault) => return Err(unread(&fault)),
+        }
+    }
+    Ok(all)
+}
+
+/// An empty list, with room for so many values where memory suffices. Room for each is made again before it is there, so that nothing
+/// rests on this; it spares moving them as their list grows.
+fn room_for<T: Drop>(alloc: Global, values: usize) -> Vec<T>
     ensures { result.items ≡ [] }
 {
-    match Vec::with_capacity(alloc, answers) {
+    match Vec::with_capacity(alloc, values) {
         Ok(room) => room,
         Err(_) => Vec::new(alloc),
     }

@@ -12,7 +12,7 @@ use Rattle.hlr_program.specs.Parts.{HasRoom}
 use Rattle.hlr_program.specs.Printed.{Prints}
 use Rattle.hlr_program.specs.Stopping.{EventsStop}
 use Rattle.hlr_program.proofs.PartLemmas.{Sending, never_full, part_stops, sending_begins, sending_ends, sending_goes_on, sending_stops}
-use Rattle.hlr_program.proofs.alone.Alone.send_all.Goals as goal
+use Rattle.hlr_program.proofs.alone.Alone.send_each.Goals as goal
 
 pub loop-raw-init : goal.loop-raw-init
 loop-raw-init c =

@@ -1,0 +1,121 @@
+-- Events that are all read before the first is handled.
+use Rattle.std.proofs.Common.{◌≡◌, ℕ, ◌+◌, ◌<◌, List, [], ◌∷◌, ◌++◌, drop, get_or, length, map, refl, sym, ap, subst, ◌∙◌, append_assoc}
+use Rattle.std.proofs.lemmas.List.{append-nil, drop_more, map-append}
+use Rattle.frames.specs.Octets.{IsEvent, RawEvent}
+use Rattle.hlrcore.specs.declared.event.Event.{Event}
+use Rattle.hlrcore.specs.declared.event.EventFault.{EventFault}
+use Rattle.hlrcore.specs.declared.event.EventFault.TheVariants as fault
+use Rattle.hlrcore.specs.declared.event.RawEvent as code
+use Rattle.hlrcore.specs.Events.{event_of, raw_event, raw_of}
+use Rattle.shardlog.specs.declared.entry.Handled.{Handled}
+use Rattle.wholenode.specs.declared.fault.Cause.{Cause}
+use Rattle.wholenode.specs.Causes.{unread}
+use Rattle.wholenode.specs.Handling.{Refuses, Runs, Stops, Takes}
+use Rattle.wholenode.specs.Keeping.{NodeKeeps}
+use Rattle.wholenode.specs.Nodes.{NodeState}
+use Rattle.wholenode.specs.Reading.{AreRead}
+use Rattle.wholenode.proofs.RunLemmas.{is_run, runs_more, stops_at}
+
+-- ---- events are read
+
+-- one more
+read_more : (raws : List RawEvent) (events : List Event) (raw : RawEvent) (event : Event) → AreRead raws events → raw_of event ≡ raw → IsEvent raw (event_of event)
+    → AreRead (raws ++ raw ∷ []) (events ++ event ∷ [])
+read_more [] [] raw event read same is = (same, is, tt)
+read_more [] (e ∷ es) raw event read same is = absurd read
+read_more (r ∷ rs) [] raw event read same is = absurd read
+read_more (r ∷ rs) (e ∷ es) raw event (first, of, rest) same is = (first, of, read_more rs es raw event rest same is)
+
+pub read_next : (front : List code.RawEvent) (all : List Event) (raw : code.RawEvent) (event : Event) → AreRead (map raw_event front) all
+    → raw_of event ≡ raw_event raw → IsEvent (raw_event raw) (event_of event)
+    → AreRead (map raw_event (front ++ raw ∷ [])) (all ++ event ∷ [])
+read_next front all raw event read same is =
+    subst (λ (raws : List RawEvent). AreRead raws (all ++ event ∷ [])) (sym (map-append raw_event front (raw ∷ [])))
+    (read_more (map raw_event front) all (raw_event raw) event read same is)
+
+-- where one is not read, none is handled: the register stops at the first of them
+pub stops_unread : (node : NodeState) (events front back : List code.RawEvent) (raw : code.RawEvent) (cause : Cause) → front ++ raw ∷ back ≡ events
+    → ((r : RawEvent) → Refuses node r cause) → Stops node (map raw_event events) [] cause node
+stops_unread node events [] back raw cause is refused = stops_at node node events [] back raw [] cause is refl (refused (raw_event raw))
+stops_unread node events (first ∷ front) back raw cause is refused =
+    stops_at node node events [] (front ++ raw ∷ back) first [] cause is refl (refused (raw_event first))
+
+pub unread_refuses : (node : NodeState) (f : EventFault) (raw : RawEvent) → Refuses node raw (unread f)
+unread_refuses node fault.Memory raw = tt
+unread_refuses node (fault.ResetRefused event) raw = tt
+
+-- ---- those that were read are handled one after another
+
+pub record Reading (before : NodeState) (raws : List RawEvent) (done : List Handled) (left : List Event) (here : NodeState) : Type 0 where
+  pub front : List RawEvent
+  pub back : List RawEvent
+  pub split : front ++ back ≡ raws
+  pub read : AreRead back left
+  pub runs : Runs before front done here
+  pub keeps : NodeKeeps here
+
+pub reading_begins : (before : NodeState) (raws : List RawEvent) (left : List Event) → AreRead raws left → NodeKeeps before → Reading before raws [] left before
+reading_begins before raws left read keeps = record { front = []; back = raws; split = refl; read = read; runs = refl; keeps = keeps }
+
+-- those from a place on are the one there and those behind it
+pub reading_at : (before : NodeState) (raws : List RawEvent) (done : List Handled) (all : List Event) (i : ℕ) (event : Event) (here : NodeState) → i < length all
+    → Reading before raws done (drop i all) here → Reading before raws done (get_or all i event ∷ drop (i + 1) all) here
+reading_at before raws done all i event here within h =
+    subst (λ (left : List Event). Reading before raws done left here) (drop_more all i event within) h
+
+-- the next of them
+record Next (back : List RawEvent) (event : Event) (left : List Event) : Type 0 where
+  rest : List RawEvent
+  back_is : back ≡ raw_of event ∷ rest
+  is_event : IsEvent (raw_of event) (event_of event)
+  read : AreRead rest left
+
+next_of : (back : List RawEvent) (event : Event) (left : List Event) → AreRead back (event ∷ left) → Next back event left
+next_of [] event left read = absurd read
+next_of (raw ∷ rest) event left (same, is, read) = record {
+  rest = rest;
+  back_is = ap (λ (r : RawEvent). r ∷ rest) (sym same);
+  is_event = subst (λ (r : RawEvent). IsEvent r (event_of event)) (sym same) is;
+  read = read;
+}
+
+module _ (before : NodeState) (raws : List RawEvent) (done : List Handled) (event : Event) (left : List Event) (here : NodeState)
+    (h : Reading before raws done (event ∷ left) here) where
+  next : Next h.back event left
+  next = next_of h.back event left h.read
+
+  pub reading_event : IsEvent (raw_of event) (event_of event)
+  reading_event = next.is_event
+
+  pub reading_goes_on : (handled : Handled) (after : NodeState) → Takes here (raw_of event) handled after → NodeKeeps after
+      → Reading before raws (done ++ handled ∷ []) left after
+  reading_goes_on handled after takes keeps = record {
+    front = h.front ++ raw_of event ∷ [];
+    back = next.rest;
+    split = append_assoc h.front (raw_of event ∷ []) next.rest ∙ ap (λ (l : List RawEvent). h.front ++ l) (sym next.back_is) ∙ h.split;
+    read = next.read;
+    runs = runs_more before here after h.front done (raw_of event) handled h.runs takes;
+    keeps = keeps;
+  }
+
+  pub reading_stops : (cause : Cause) → Refuses here (raw_of event) cause → Stops before raws done cause here
+  reading_stops cause refused = record {
+    handled = h.front;
+    next = raw_of event;
+    rest = next.rest;
+    raws_are = sym h.split ∙ ap (λ (l : List RawEvent). h.front ++ l) next.back_is;
+    runs = h.runs;
+    run = is_run before here h.front done h.runs;
+    refuses = refused;
+  }
+
+none_behind : (back : List RawEvent) → AreRead back [] → back ≡ []
+none_behind [] read = refl
+none_behind (raw ∷ rest) read = absurd read
+
+pub reading_ends : (before : NodeState) (raws : List RawEvent) (done : List Handled) (left : List Event) (here : NodeState)
+    → Reading before raws done left here → left ≡ [] → Runs before raws done here
+reading_ends before raws done left here h none =
+    let nothing : h.back ≡ [] = none_behind h.back (subst (λ (es : List Event). AreRead h.back es) none h.read) in
+    subst (λ (rs : List RawEvent). Runs before rs done here)
+    (sym (append-nil h.front) ∙ ap (λ (l : List RawEvent). h.front ++ l) (sym nothing) ∙ h.split) h.runs
