@@ -242,15 +242,14 @@ continues_join a b c r s x y h k = λ begin events sent at.
     (subst (λ (os : List (List RawOut)). IsAtEnd begin ((events ++ r) ++ s) os c) (append_assoc sent x y)
     (k begin (events ++ r) (sent ++ x) (h begin events sent at)))
 
--- ---- the opening
+-- ---- empty journals, which begin in the current states of the shards
 
-pub opening_at_end : (begin : State) (node : NodeState) → ((n : ℕ) (l : Log) → slice_get node.shards n ≡ Some l → (l.base ≡ l.state) × (l.entries ≡ []))
-    → whole node.shards ≡ begin
-    → IsAtEnd begin [] [] node
-opening_at_end begin node fresh is =
-    fresh_at_end begin [] [] node (ap union (fun_ext (λ n. base (slice_get node.shards n) (λ l e. (fresh n l e).0))))
-    (λ n. none (slice_get node.shards n) (λ l e. (fresh n l e).1))
-    (subst (λ (S : State). IsRun begin [] [] S) (sym is) (no_run begin))
+pub empty_at_end : (begin : State) (events : List RawEvent) (sent : List (List RawOut)) (node : NodeState)
+    → ((n : ℕ) (l : Log) → slice_get node.shards n ≡ Some l → (l.base ≡ l.state) × (l.entries ≡ []))
+    → IsRun begin events sent (whole node.shards) → IsAtEnd begin events sent node
+empty_at_end begin events sent node fresh run =
+    fresh_at_end begin events sent node (ap union (fun_ext (λ n. base (slice_get node.shards n) (λ l e. (fresh n l e).0))))
+    (λ n. none (slice_get node.shards n) (λ l e. (fresh n l e).1)) run
   where
     base : (o : Option Log) → ((l : Log) → o ≡ Some l → l.base ≡ l.state) → base_at o ≡ state_at o
     base None h = refl
@@ -259,3 +258,8 @@ opening_at_end begin node fresh is =
     none : (o : Option Log) → ((l : Log) → o ≡ Some l → l.entries ≡ []) → journal_at o ≡ []
     none None h = refl
     none (Some l) h = h l refl
+
+pub opening_at_end : (begin : State) (node : NodeState) → ((n : ℕ) (l : Log) → slice_get node.shards n ≡ Some l → (l.base ≡ l.state) × (l.entries ≡ []))
+    → whole node.shards ≡ begin
+    → IsAtEnd begin [] [] node
+opening_at_end begin node fresh is = empty_at_end begin [] [] node fresh (subst (λ (S : State). IsRun begin [] [] S) (sym is) (no_run begin))

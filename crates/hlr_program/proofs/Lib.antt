@@ -5,6 +5,7 @@ pub mod RunLemmas
 pub mod JournalLemmas
 pub mod RegisterLemmas
 pub mod PartLemmas
+pub mod UnlistedLemmas
 pub mod AheadLemmas
 pub mod GatherLemmas
 pub mod ScriptLemmas

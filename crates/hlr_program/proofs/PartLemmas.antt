@@ -3,7 +3,7 @@ use Rattle.std.proofs.Common.{◌≡◌, ℕ, suc, ◌+◌, ◌<◌, ◌≤◌, 
 use Rattle.std.specs.List.{flat_map}
 use Rattle.std.specs.Prelude.{◌⊎◌, Option, Some, None, option_map, slice_get}
 use Rattle.std.proofs.lemmas.Bool.{cases_eq, cases_order}
-use Rattle.std.proofs.lemmas.List.{append-nil}
+use Rattle.std.proofs.lemmas.List.{append-nil, map-append}
 use Rattle.std.proofs.lemmas.Option.{slice_get_past, slice_get_within}
 use Rattle.machine.specs.declared.numbers.TheConstants.{MAX_ENTRIES}
 use Rattle.frames.specs.Octets.{RawEvent, RawOut}
@@ -15,11 +15,11 @@ use Rattle.shardlog.specs.declared.entry.Handled.{Handled}
 use Rattle.shardlog.specs.Log.{Log}
 use Rattle.wholenode.specs.declared.fault.Cause.{Cause}
 use Rattle.wholenode.specs.declared.fault.Cause.TheVariants as cause
-use Rattle.wholenode.specs.Handling.{Drops, IsRun, Refuses, Runs, Stops, Takes, sent_of}
+use Rattle.wholenode.specs.Handling.{Drops, Each, IsRun, Refuses, Runs, Stops, Takes, sent_of}
 use Rattle.wholenode.specs.Keeping.{NodeKeeps}
 use Rattle.wholenode.specs.Nodes.{NodeState, whole}
 use Rattle.wholenode.proofs.Places.{set_elsewhere, set_or_not, set_there}
-use Rattle.wholenode.proofs.RunLemmas.{handled_next, is_run, stops_at}
+use Rattle.wholenode.proofs.RunLemmas.{each_more, is_run, stops_at}
 use Rattle.hlr_program.specs.declared.fault.Fault.{Fault}
 use Rattle.hlr_program.specs.Journals.{RunsAlone}
 use Rattle.hlr_program.specs.Parts.{AreCut, HasRoom, MakesRoom, cut_log}
@@ -125,83 +125,92 @@ never_full ready raws done c after room stops full =
     let at = left refused.0 refused.1 refused.2.stands in
     omega (arith, refused.3, at)
 
+-- the first events are a run, and the next one is refused
+pub refused_stops : (before here : NodeState) (raws handled : List RawEvent) (next : RawEvent) (rest : List RawEvent) (sent : List (List RawOut)) (c : Cause)
+    → raws ≡ handled ++ next ∷ rest → IsRun (whole before.shards) handled sent (whole here.shards) → Refuses here next c
+    → EventsStop (Some (whole before.shards)) raws (stopped_by c)
+refused_stops before here raws handled next rest sent cause.Memory split run refused = tt
+refused_stops before here raws handled next rest sent cause.ResetRefused split run refused = tt
+refused_stops before here raws handled next rest sent cause.JournalFull split run refused = tt
+refused_stops before here raws handled next rest sent cause.NoRoom split run refused = record {
+  handled = handled;
+  next = next;
+  rest = rest;
+  split = split;
+  sent = sent;
+  met = whole here.shards;
+  run = run;
+  event = refused.0;
+  is_event = refused.1;
+  no_room = refused.2;
+}
+
 -- why a part stopped
-pub part_stops : (before ready : NodeState) (raws : List RawEvent) (done : List Handled) (c : Cause) (after : NodeState)
-    → whole ready.shards ≡ whole before.shards
-    → Stops ready raws done c after → EventsStop (Some (whole before.shards)) raws (stopped_by c)
-part_stops before ready raws done c after same stops = subst (λ (S : State). EventsStop (Some S) raws (stopped_by c)) same (by c stops.refuses)
-  where
-    by : (k : Cause) → Refuses after stops.next k → EventsStop (Some (whole ready.shards)) raws (stopped_by k)
-    by cause.Memory refused = tt
-    by cause.ResetRefused refused = tt
-    by cause.JournalFull refused = tt
-    by cause.NoRoom refused = record {
-      handled = stops.handled;
-      next = stops.next;
-      rest = stops.rest;
-      split = stops.raws_are;
-      sent = map sent_of done;
-      met = whole after.shards;
-      run = stops.run;
-      event = refused.0;
-      is_event = refused.1;
-      no_room = refused.2;
-    }
+pub part_stops : (before : NodeState) (raws : List RawEvent) (done : List Handled) (c : Cause) (after : NodeState) → Stops before raws done c after
+    → EventsStop (Some (whole before.shards)) raws (stopped_by c)
+part_stops before raws done c after stops =
+    refused_stops before after raws stops.handled stops.next stops.rest (map sent_of done) c stops.raws_are stops.run stops.refuses
 
 -- ---- events are handled one by one, and the lines of what they send appended
 
-pub record Sending (before : NodeState) (events : List code.RawEvent) (printed : SoFar) (front back : List code.RawEvent) (here : NodeState)
-    (answers : SoFar) : Type 0 where
+-- each of them does `one`, and answers something that sends `frames`
+pub record Sending {A : Type 0} (one : NodeState → RawEvent → A → NodeState → Type 0) (frames : A → List RawOut) (before : NodeState)
+    (events : List code.RawEvent) (printed : SoFar) (front back : List code.RawEvent) (here : NodeState) (answers : SoFar) : Type 0 where
   pub split : front ++ back ≡ events
-  pub done : List Handled
-  pub runs : Runs before (map raw_event front) done here
-  pub prints : Prints printed (flat_map sent_of done) answers
-  pub keeps : NodeKeeps here
+  pub done : List A
+  pub runs : Each one before (map raw_event front) done here
+  pub prints : Prints printed (flat_map frames done) answers
 
-pub sending_begins : (before here : NodeState) (events back : List code.RawEvent) (printed : SoFar) → here ≡ before → back ≡ events → NodeKeeps before
-    → Sending before events printed [] back here printed
-sending_begins before here events back printed same whole_is keeps = record {
-  split = whole_is;
-  done = [];
-  runs = same;
-  prints = prints_none printed;
-  keeps = subst NodeKeeps (sym same) keeps;
-}
+module _ {A : Type 0} (one : NodeState → RawEvent → A → NodeState → Type 0) (frames : A → List RawOut) where
+  pub sending_begins : (before here : NodeState) (events back : List code.RawEvent) (printed : SoFar) → here ≡ before → back ≡ events
+      → Sending one frames before events printed [] back here printed
+  sending_begins before here events back printed same whole_is = record {
+    split = whole_is;
+    done = [];
+    runs = same;
+    prints = prints_none printed;
+  }
 
-flat_more : (done : List Handled) (handled : Handled) → flat_map sent_of (done ++ handled ∷ []) ≡ flat_map sent_of done ++ sent_of handled
-flat_more [] handled = append-nil (sent_of handled)
-flat_more (d ∷ ds) handled =
-    ap (λ (l : List RawOut). sent_of d ++ l) (flat_more ds handled) ∙ sym (append_assoc (sent_of d) (flat_map sent_of ds) (sent_of handled))
+  flat_more : (done : List A) (a : A) → flat_map frames (done ++ a ∷ []) ≡ flat_map frames done ++ frames a
+  flat_more [] a = append-nil (frames a)
+  flat_more (d ∷ ds) a = ap (λ (l : List RawOut). frames d ++ l) (flat_more ds a) ∙ sym (append_assoc (frames d) (flat_map frames ds) (frames a))
 
-pub sending_goes_on : (before : NodeState) (events : List code.RawEvent) (printed : SoFar) (front all back : List code.RawEvent) (event : code.RawEvent)
-    (here next : NodeState) (answers more : SoFar) (handled : Handled)
-    → Sending before events printed front all here answers → all ≡ event ∷ back → Takes here (raw_event event) handled next → NodeKeeps next
-    → Prints answers (sent_of handled) more → Sending before events printed (front ++ event ∷ []) back next more
-sending_goes_on before events printed front all back event here next answers more handled h left takes keeps prints = record {
-  split = append_assoc front (event ∷ []) back ∙ ap (λ (l : List code.RawEvent). front ++ l) (sym left) ∙ h.split;
-  done = h.done ++ handled ∷ [];
-  runs = handled_next before here next front event h.done handled h.runs takes;
-  prints = subst (λ (frames : List RawOut). Prints printed frames more) (sym (flat_more h.done handled))
-      (prints_join printed answers more (flat_map sent_of h.done) (sent_of handled) h.prints prints);
-  keeps = keeps;
-}
+  pub sending_goes_on : (before : NodeState) (events : List code.RawEvent) (printed : SoFar) (front all back : List code.RawEvent) (event : code.RawEvent)
+      (here next : NodeState) (answers more : SoFar) (a : A)
+      → Sending one frames before events printed front all here answers → all ≡ event ∷ back → one here (raw_event event) a next
+      → Prints answers (frames a) more → Sending one frames before events printed (front ++ event ∷ []) back next more
+  sending_goes_on before events printed front all back event here next answers more a h left does prints = record {
+    split = append_assoc front (event ∷ []) back ∙ ap (λ (l : List code.RawEvent). front ++ l) (sym left) ∙ h.split;
+    done = h.done ++ a ∷ [];
+    runs = subst (λ (raws : List RawEvent). Each one before raws (h.done ++ a ∷ []) next) (sym (map-append raw_event front (event ∷ [])))
+        (each_more one before here next (map raw_event front) h.done (raw_event event) a h.runs does);
+    prints = subst (λ (sent : List RawOut). Prints printed sent more) (sym (flat_more h.done a))
+        (prints_join printed answers more (flat_map frames h.done) (frames a) h.prints prints);
+  }
 
-pub sending_stops : (before : NodeState) (events : List code.RawEvent) (printed : SoFar) (front back : List code.RawEvent) (event : code.RawEvent)
+  pub sending_ends : (before : NodeState) (events : List code.RawEvent) (printed : SoFar) (front back : List code.RawEvent) (here : NodeState)
+      (answers : SoFar)
+      → Sending one frames before events printed front back here answers → length back ≡ 0
+      → (done : List A) × Each one before (map raw_event events) done here × Prints printed (flat_map frames done) answers
+  sending_ends before events printed front back here answers h none = (
+    h.done,
+    subst (λ (es : List code.RawEvent). Each one before (map raw_event es) h.done here) (none_left front back events h.split none) h.runs,
+    h.prints,
+  )
+
+  -- the next event is one of them
+  pub sending_split : (before : NodeState) (events : List code.RawEvent) (printed : SoFar) (front all back : List code.RawEvent) (event : code.RawEvent)
+      (here : NodeState) (answers : SoFar)
+      → Sending one frames before events printed front all here answers → all ≡ event ∷ back → front ++ event ∷ back ≡ events
+  sending_split before events printed front all back event here answers h left = ap (λ (l : List code.RawEvent). front ++ l) (sym left) ∙ h.split
+
+pub sending_stops : (before : NodeState) (events : List code.RawEvent) (printed : SoFar) (front all back : List code.RawEvent) (event : code.RawEvent)
     (here : NodeState) (answers : SoFar) (c : Cause)
-    → (h : Sending before events printed front (event ∷ back) here answers) → Refuses here (raw_event event) c
+    → (h : Sending Takes sent_of before events printed front all here answers) → all ≡ event ∷ back → Refuses here (raw_event event) c
     → Stops before (map raw_event events) h.done c here
-sending_stops before events printed front back event here answers c h refused =
-    stops_at before here events front back event h.done c h.split h.runs refused
-
-pub sending_ends : (before : NodeState) (events : List code.RawEvent) (printed : SoFar) (front back : List code.RawEvent) (here : NodeState)
-    (answers : SoFar)
-    → Sending before events printed front back here answers → length back ≡ 0
-    → (done : List Handled) × Runs before (map raw_event events) done here × Prints printed (flat_map sent_of done) answers
-sending_ends before events printed front back here answers h none = (
-  h.done,
-  subst (λ (es : List code.RawEvent). Runs before (map raw_event es) h.done here) (none_left front back events h.split none) h.runs,
-  h.prints,
-)
+sending_stops before events printed front all back event here answers c h left refused =
+    stops_at before here events front back event h.done c (sending_split Takes sent_of before events printed front all back event here answers h left) h.runs
+    refused
 
 -- ---- room is made for a part
 

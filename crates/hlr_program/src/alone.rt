@@ -10,6 +10,7 @@ ghost use Rattle.wholenode.specs.Keeping.{NodeKeeps};
 ghost use Rattle.wholenode.specs.Nodes.{whole};
 ghost use Rattle.wholenode.specs.Opening.{BeginsWith};
 ghost use Rattle.wholenode.specs.Handling.{Runs, sent_of};
+ghost use Rattle.wholenode.specs.Unlisted.{IsUnlisted};
 ghost use Rattle.hlr_program.specs.Answered.{so_far};
 ghost use Rattle.hlr_program.specs.Printed.{Prints};
 ghost use Rattle.hlr_program.specs.Journals.{RunsAlone};
@@ -20,7 +21,7 @@ ghost use Rattle.hlr_program.specs.Stopping.{EventsStop};
 use crate::answers::Answers;
 use crate::fault::Fault;
 use bumpalo::Bump;
-use hlrcore::RawEvent;
+use hlrcore::{OutList, RawEvent};
 use machine::numbers::{MAX_ENTRIES, SHARDS};
 use records::Loaded;
 use shardlog::Shard;
@@ -33,27 +34,41 @@ use wholenode::{Cause, Node};
 pub struct Alone {
     node: Node,
     bump: Bump,
+    /// Whether the journals are listed at the end. Where they are not, nobody can see an entry, and none is kept, which spares time.
+    listed: bool,
+    /// What the events of a lot send, where no entry is kept. The room is used again for the next lot.
+    sent: Vec<OutList>,
 }
 
 impl Model for Alone {
+    ghost use Rattle.std.specs.Prelude.{◌≡◌, false};
     ghost use Rattle.wholenode.specs.Nodes.{NodeState, node_state_code};
+    ghost use Rattle.wholenode.specs.Unlisted.{IsUnlisted};
 
     ghost Value = { NodeState };
 
     ghost coded = { node_state_code };
 
     ghost view = { λ r. r.node };
+
+    // Where the journals are not listed, each of them is empty.
+    ghost invariant = { λ r. r.listed ≡ false → IsUnlisted r.node };
 }
 
 impl Alone {
-    /// The register of a records file, with no open dialogue and empty journals.
-    pub fn new(alloc: Global, loaded: Loaded) -> Result<Alone, AllocError>
+    /// The register of a records file, with no open dialogue and empty journals. `listed` says whether the journals are listed at the
+    /// end: only then entries are kept.
+    pub fn new(alloc: Global, loaded: Loaded, listed: bool) -> Result<Alone, AllocError>
         ensures begins { IfOk result (BeginsWith loaded) }
         ensures keeps { IfOk result NodeKeeps }
     {
         let node = Node::new(alloc, loaded)?;
-        let bump = Bump::new(alloc);
-        Ok(Alone { node, bump })
+        Ok(Alone {
+            node,
+            bump: Bump::new(alloc),
+            listed,
+            sent: Vec::new(alloc),
+        })
     }
 
     /// The shards, indexed by their numbers.
@@ -61,22 +76,26 @@ impl Alone {
         ensures shards { result.items ≡ self.shards }
         ensures keeps { NodeKeeps self }
     {
-        let Alone { node, bump: _ } = self;
+        let Alone {
+            node,
+            bump: _,
+            listed: _,
+            sent: _,
+        } = self;
         node.into_shards()
     }
 
     /// Before a part of a batch, of so many events: cuts all journals, if one of them has no room for as many more entries.
-    pub fn begin_part(&mut self, count: usize) -> Result<(), AllocError>
+    pub fn begin_part(&mut self, count: usize)
         requires { count ≤ MAX_ENTRIES }
-        ensures made { OnOk result (MakesRoom self.old count self.new) }
-        ensures ran { OnOk result (RunsAlone self.old [] [] self.new) }
+        ensures made { MakesRoom self.old count self.new }
+        ensures ran { RunsAlone self.old [] [] self.new }
     {
-        self.make_room(count)?;
-        Ok(())
+        make_room(&mut self.node, count);
     }
 
-    /// Handles events, at most 65,536, and appends the lines of what they send. If a journal has no room for that many more entries, all
-    /// journals are cut first, so no journal is ever full.
+    /// Handles events, at most 65,536, and appends the lines of what they send. If the journals are listed, and one of them has no room
+    /// for that many more entries, all are cut first, so no journal is ever full. If they are not listed, they stay empty.
     pub fn send_part(&mut self, part: Vec<RawEvent>, answers: &mut Answers) -> Result<(), Fault>
         requires { length part.items ≤ MAX_ENTRIES }
         ensures sends { OnOk result ((outs : List (List RawOut))
@@ -85,100 +104,107 @@ impl Alone {
         ensures stops { IfErr result (EventsStop (Some (whole self.old.shards))
             (map raw_event part.items)) }
     {
-        self.make_room(part.len())?;
-        self.send_all(part, answers)
+        if !self.listed {
+            return self.send_unlisted(part, answers);
+        }
+        make_room(&mut self.node, part.len());
+        send_listed(&mut self.node, &mut self.bump, part, answers)
     }
 
-    /// Handles events, for each of which its journal has room.
-    fn send_all(&mut self, part: Vec<RawEvent>, answers: &mut Answers) -> Result<(), Fault>
-        requires room { HasRoom self.now (length part.items) }
-        requires keeps { NodeKeeps self.now }
-        ensures sends { OnOk result ((done : List Handled)
-            × Runs self.old (map raw_event part.items) done self.new
-            × Prints (so_far answers.old) (flat_map sent_of done) (so_far answers.new)) }
+    /// Handles events of which no entry is kept, and appends the lines of what they send, in the same two ways as `send_listed`.
+    fn send_unlisted(&mut self, part: Vec<RawEvent>, answers: &mut Answers) -> Result<(), Fault>
+        requires { IsUnlisted self.now }
+        ensures sends { OnOk result ((outs : List (List RawOut))
+            × RunsAlone self.old (map raw_event part.items) outs self.new
+            × Prints (so_far answers.old) (flat_map (λ o. o) outs) (so_far answers.new)) }
         ensures stops { IfErr result (EventsStop (Some (whole self.old.shards))
             (map raw_event part.items)) }
     {
         if need_reading(&part) {
-            self.read_and_send(part, answers)
-        } else {
-            self.send_each(part, answers)
+            // The lines of what the lot before has sent are made already.
+            self.sent.clear();
+            return match self.node.run_unlisted(&mut self.bump, part, &mut self.sent) {
+                Ok(()) => Ok(answers.push_lists(&self.sent)?),
+                Err(cause) => Err(stopped(cause)),
+            };
         }
-    }
-
-    /// The same, in three rounds: all of them are read, then handled, and then the lines of what they send are made.
-    fn read_and_send(&mut self, part: Vec<RawEvent>, answers: &mut Answers) -> Result<(), Fault>
-        requires room { HasRoom self.now (length part.items) }
-        requires keeps { NodeKeeps self.now }
-        ensures sends { OnOk result ((done : List Handled)
-            × Runs self.old (map raw_event part.items) done self.new
-            × Prints (so_far answers.old) (flat_map sent_of done) (so_far answers.new)) }
-        ensures stops { IfErr result (EventsStop (Some (whole self.old.shards))
-            (map raw_event part.items)) }
-    {
-        match self.node.run_owned(&mut self.bump, part) {
-            Ok(done) => Ok(answers.push_handled(&done)?),
-            Err(fault) => Err(stopped(fault.cause)),
-        }
-    }
-
-    /// The same, one event after the other. The line of what is sent is made at once, while its octets are near.
-    fn send_each(&mut self, part: Vec<RawEvent>, answers: &mut Answers) -> Result<(), Fault>
-        requires room { HasRoom self.now (length part.items) }
-        requires keeps { NodeKeeps self.now }
-        ensures sends { OnOk result ((done : List Handled)
-            × Runs self.old (map raw_event part.items) done self.new
-            × Prints (so_far answers.old) (flat_map sent_of done) (so_far answers.new)) }
-        ensures stops { IfErr result (EventsStop (Some (whole self.old.shards))
-            (map raw_event part.items)) }
-    {
         for raw in part {
-            let handled = match self.node.handle_owned(&mut self.bump, raw) {
-                Ok(handled) => handled,
+            let outs = match self.node.handle_unlisted(&mut self.bump, raw) {
+                Ok(outs) => outs,
                 Err(cause) => return Err(stopped(cause)),
             };
-            answers.push_all(handled.outs.as_slice())?;
+            answers.push_all(outs.as_slice())?;
         }
         Ok(())
     }
+}
 
-    /// Cuts all journals, if one of them has no room for `count` more entries.
-    fn make_room(&mut self, count: usize) -> Result<(), AllocError>
-        requires { count ≤ MAX_ENTRIES }
-        ensures makes { OnOk result (MakesRoom self.old count self.new) }
-        ensures room { OnOk result (HasRoom self.new count) }
-        ensures keeps { OnOk result (NodeKeeps self.new) }
-    {
-        if !self.has_room(count) {
-            self.cut_all()?;
-        }
-        Ok(())
+/// Handles events, for each of which its journal has room, and appends the lines of what they send. Where each has to be read, all
+/// are read, then handled, and then the lines are made. Otherwise they are taken one after the other, and the line of what is sent is
+/// made at once, while its octets are near.
+fn send_listed(
+    node: &mut Node,
+    bump: &mut Bump,
+    part: Vec<RawEvent>,
+    answers: &mut Answers,
+) -> Result<(), Fault>
+    requires { HasRoom node.now (length part.items) }
+    ensures sends { OnOk result ((done : List Handled)
+        × Runs node.old (map raw_event part.items) done node.new
+        × Prints (so_far answers.old) (flat_map sent_of done) (so_far answers.new)) }
+    ensures stops { IfErr result (EventsStop (Some (whole node.old.shards))
+        (map raw_event part.items)) }
+{
+    if need_reading(&part) {
+        return match node.run_owned(bump, part) {
+            Ok(done) => Ok(answers.push_handled(&done)?),
+            Err(fault) => Err(stopped(fault.cause)),
+        };
     }
-
-    /// Whether each journal has room for `count` more entries.
-    fn has_room(&self, count: usize) -> bool
-        ensures room { IsTrue result ↔ HasRoom self.now count }
-        ensures keeps { NodeKeeps self.now }
-    {
-        let shards = self.node.shards();
-        for shard in shards {
-            if count > MAX_ENTRIES - shard.entries().len() {
-                return false;
-            }
-        }
-        true
+    for raw in part {
+        let handled = match node.handle_owned(bump, raw) {
+            Ok(handled) => handled,
+            Err(cause) => return Err(stopped(cause)),
+        };
+        answers.push_all(handled.outs.as_slice())?;
     }
+    Ok(())
+}
 
-    /// Cuts the journal of each shard, and drops it.
-    fn cut_all(&mut self) -> Result<(), AllocError>
-        requires { NodeKeeps self.now }
-        ensures cut { OnOk result (AreCut self.old self.new) }
-        ensures keeps { OnOk result (NodeKeeps self.new) }
-    {
-        for shard in 0..SHARDS {
-            self.node.drop_journal(shard)?;
+/// Cuts all journals, if one of them has no room for `count` more entries.
+fn make_room(node: &mut Node, count: usize)
+    requires { count ≤ MAX_ENTRIES }
+    ensures makes { MakesRoom node.old count node.new }
+    ensures room { HasRoom node.new count }
+    ensures keeps { NodeKeeps node.new }
+{
+    if !has_room(node, count) {
+        cut_all(node);
+    }
+}
+
+/// Whether each journal has room for `count` more entries.
+fn has_room(node: &Node, count: usize) -> bool
+    ensures room { IsTrue result ↔ HasRoom node.now count }
+    ensures keeps { NodeKeeps node.now }
+{
+    let shards = node.shards();
+    for shard in shards {
+        if count > MAX_ENTRIES - shard.entries().len() {
+            return false;
         }
-        Ok(())
+    }
+    true
+}
+
+/// Cuts the journal of each shard, and drops it.
+fn cut_all(node: &mut Node)
+    requires { NodeKeeps node.now }
+    ensures cut { AreCut node.old node.new }
+    ensures keeps { NodeKeeps node.new }
+{
+    for shard in 0..SHARDS {
+        node.drop_journal(shard);
     }
 }
 

@@ -96,7 +96,7 @@ impl Pending {
         if self.gathered.is_empty() {
             return Ok(());
         }
-        self.begin_part(register)?;
+        self.begin_part(register);
         let next = Vec::with_capacity(self.alloc, self.gathered.capacity())?;
         let gathered = mem::replace(&mut self.gathered, next);
         register.send_part(rt, gathered, &mut self.answers)
@@ -104,30 +104,27 @@ impl Pending {
 
     /// Where the events that are gathered begin a part of the batch: cuts the journals, if one of them has no room for all events of
     /// the part (profile). A part has 65,536 events, or those that are left.
-    fn begin_part(&mut self, register: &mut Register) -> Result<(), AllocError>
-        ensures adds { OnOk result (Adds (progress register.old self.old) []
-            (progress register.new self.new)) }
+    fn begin_part(&mut self, register: &mut Register)
+        ensures adds { Adds (progress register.old self.old) [] (progress register.new self.new) }
         ensures cuts { self.old.room < length self.old.gathered.items
-            → OnOk result (BeginsPart register.old (min self.old.ahead MAX_ENTRIES) register.new) }
+            → BeginsPart register.old (min self.old.ahead MAX_ENTRIES) register.new }
         ensures stays { length self.old.gathered.items ≤ self.old.room
-            → OnOk result (register.new ≡ register.old) }
+            → register.new ≡ register.old }
         // What is left of the room: what is gathered now is taken off.
-        ensures made { self.old.room < length self.old.gathered.items → OnOk result (self.new.room
-            ≡ min self.old.ahead MAX_ENTRIES - length self.old.gathered.items) }
-        ensures taken { length self.old.gathered.items ≤ self.old.room → OnOk result (self.new.room
-            ≡ self.old.room - length self.old.gathered.items) }
-        ensures left { OnOk result (self.new.ahead
-            ≡ self.old.ahead - length self.old.gathered.items) }
+        ensures made { self.old.room < length self.old.gathered.items
+            → self.new.room ≡ min self.old.ahead MAX_ENTRIES - length self.old.gathered.items }
+        ensures taken { length self.old.gathered.items ≤ self.old.room
+            → self.new.room ≡ self.old.room - length self.old.gathered.items }
+        ensures left { self.new.ahead ≡ self.old.ahead - length self.old.gathered.items }
         ensures gathered { self.new.gathered ≡ self.old.gathered }
     {
         let count = self.gathered.len();
         if self.room < count {
             self.room = self.ahead.min(MAX_ENTRIES);
-            register.begin_part(self.room)?;
+            register.begin_part(self.room);
         }
         self.room = self.room.saturating_sub(count);
         self.ahead = self.ahead.saturating_sub(count);
-        Ok(())
     }
 }
 

@@ -35,14 +35,20 @@ impl Register {
     ghost use Rattle.hlr_program.specs.Registers.{BeginsPart, HandsOver, IsOf, OpensWith, RunsTo, SendsPart, state_known};
     ghost use Rattle.hlr_program.specs.Stopping.{EventsStop, HandingOutStops};
 
-    /// The register of a records file: in one thread if `workers` is 0.
-    pub fn new(alloc: Global, loaded: Loaded, workers: u8) -> Result<Register, AllocError>
+    /// The register of a records file: in one thread if `workers` is 0. `listed` says whether the journals are listed at the end. In one
+    /// thread entries are kept only then; with workers they always are, since jobs and receipts account for them.
+    pub fn new(
+        alloc: Global,
+        loaded: Loaded,
+        workers: u8,
+        listed: bool,
+    ) -> Result<Register, AllocError>
         requires { workers ≤ 16 }
         ensures is_of { IfOk result (IsOf workers) }
         ensures opens { IfOk result (OpensWith loaded) }
     {
         if workers == 0 {
-            let alone = Alone::new(alloc, loaded)?;
+            let alone = Alone::new(alloc, loaded, listed)?;
             return Ok(Register::Alone(alone));
         }
         let crew = Crew::new(alloc, loaded, workers)?;
@@ -62,14 +68,14 @@ impl Register {
     /// Before a part of a batch, of so many events: cuts all journals, if one of them has no room for as many more entries. Workers do so
     /// by themselves.
     #[tactic(auto, using(crate::proofs::RegisterLemmas::ran_none))]
-    pub fn begin_part(&mut self, count: usize) -> Result<(), AllocError>
+    pub fn begin_part(&mut self, count: usize)
         requires { count ≤ MAX_ENTRIES }
-        ensures begins { OnOk result (BeginsPart self.old count self.new) }
-        ensures ran { OnOk result (RunsTo self.old [] [] self.new) }
+        ensures begins { BeginsPart self.old count self.new }
+        ensures ran { RunsTo self.old [] [] self.new }
     {
         match self {
             Register::Alone(alone) => alone.begin_part(count),
-            Register::Shared(_) => Ok(()),
+            Register::Shared(_) => {}
         }
     }
 

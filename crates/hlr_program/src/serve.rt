@@ -179,7 +179,7 @@ fn run_and_list<R: Threads + Wait + Sync, W: Write>(
         (printed : List ℕ) × StopsRunning options.now loaded script.now.text.items fault printed
         × Appends (W.contents out.old) (W.contents out.new) printed) }
 {
-    let mut register = Register::new(alloc, loaded, options.workers)?;
+    let mut register = Register::new(alloc, loaded, options.workers, options.list)?;
     run(rt, alloc, &mut register, script, out)?;
     let shards = register.into_shards()?;
     let text = closing_lines(alloc, options, &shards)?;

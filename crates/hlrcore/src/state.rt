@@ -193,6 +193,13 @@ impl State {
         self.stepper.tick(now)
     }
 
+    /// Law: the state is a sound state of its shard, which is its invariant.
+    pub fn law_sound(&self)
+        ensures { IsSoundShard self.now }
+    {
+        let _stepper = &self.stepper;
+    }
+
     /// An equal copy.
     pub fn try_copy(&self) -> Result<State, AllocError>
         ensures equal { IfOk result (λ copy. copy ≡ self.now) }

@@ -25,4 +25,6 @@ mod settling;
 #[cfg(test)]
 mod steps;
 #[cfg(test)]
+mod unlisted;
+#[cfg(test)]
 mod unnamed;

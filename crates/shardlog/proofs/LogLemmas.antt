@@ -1,8 +1,9 @@
 -- The invariant of a journal, how it begins, and how it grows.
 use Rattle.std.proofs.Common.{◌≡◌, ◌<◌, ℕ, List, [], ◌∷◌, ◌++◌, length, length-append, map, refl, sym, ap, ◌∙◌, subst, arith}
 use Rattle.std.proofs.lemmas.List.{length-map, map-append}
-use Rattle.std.specs.Prelude.{Result, Ok, Err, IsErrAnd}
-use Rattle.machine.specs.declared.numbers.TheConstants.{MAX_ENTRIES}
+use Rattle.std.specs.Prelude.{Option, Some, None, Result, Ok, Err, IsErrAnd}
+use Rattle.machine.specs.declared.numbers.TheConstants.{MAX_ENTRIES, SHARDS}
+use Rattle.machine.specs.Parts.{part}
 use Rattle.machine.specs.Holders.{IsNamed, holders}
 use Rattle.machine.specs.State.{State}
 use Rattle.machine_laws.proofs.Naming.{unnamed_stays}
@@ -24,8 +25,8 @@ use Rattle.shardlog.specs.declared.fault.ShardFault.TheVariants.{JournalFull, No
 use Rattle.shardlog.specs.Faults.{fault_of}
 use Rattle.shardlog.specs.Chains.{JoinedKeep, LeadTo}
 use Rattle.shardlog.specs.Entries.{raw_entries, raw_entry}
-use Rattle.shardlog.specs.Handling.{Handles, LeavesUnnamed}
-use Rattle.shardlog.specs.Log.{IsLog, Keeps, LogKeeps, Log, log}
+use Rattle.shardlog.specs.Handling.{Handles, HandlesUnlisted, LeavesUnnamed}
+use Rattle.shardlog.specs.Log.{IsHeld, IsLog, Keeps, LogKeeps, Log, base_of, log}
 
 pub keeps_of : (n : ℕ) (base : State) (entries : List RawEntry) (state : State) → LegalOctets n base entries state → Keeps n base entries state
 keeps_of n base entries state legal = record {
@@ -151,6 +152,69 @@ module _ (event : ℕ → RawEvent) (old : Log) (base s t : ShardState) (before 
       → Handles old (event n) handled (log base (raw_entries after) t)
   named_handles handled outs position =
       handles old base s t before after (event n) a handled seen put_here stepped outs (position ∙ ap (λ (es : List Entry). length es) room)
+
+-- ---- what a shard holds
+
+-- the end of a journal is sound
+pub ends_sound : (l : Log) → IsLog l → IsSoundShard l.state
+ends_sound l is = record {
+  shard = subst (λ (n : ℕ). n < SHARDS) (sym is.same.shard) is.legal.legal.is_shard;
+  sound = is.legal.legal.after_sound;
+  own = subst (λ (n : ℕ). state_of l.state ≡ part (state_of l.state) n) (sym is.same.shard) is.legal.legal.after_part;
+}
+
+-- and so is the state behind one more step
+pub step_sound : (base s t : ShardState) (entries : List RawEntry) (entry : RawEntry) → IsLog (log base entries s)
+    → IsRouted (directory_of s.directory) entry.event s.shard → StepOctets (state_of s) entry (state_of t) → IsSameShard s t → IsSoundShard t
+step_sound base s t entries entry is routed step same =
+    ends_sound (log s (entry ∷ []) t) (grown s s t [] entry (begun s (ends_sound (log base entries s) is)) routed step same (omega arith))
+
+pub held : (b : Option ShardState) (base s : ShardState) (entries : List RawEntry) → b ≡ Some base → IsLog (log base entries s) → IsHeld b entries s
+held b base s entries is legal = record {
+  log = subst (λ (o : Option ShardState). IsLog (log (base_of o s) entries s)) (sym is) legal;
+  begins = λ none. absurd cc;
+}
+
+pub held_none : (b : Option ShardState) (s : ShardState) (entries : List RawEntry) → b ≡ None → entries ≡ [] → IsSoundShard s → IsHeld b entries s
+held_none b s entries none empty sound =
+    subst (λ (o : Option ShardState). IsHeld o entries s) (sym none)
+    (subst (λ (es : List RawEntry). IsHeld None es s) (sym empty) (record { log = begun s sound; begins = λ _. refl }))
+
+-- what is held after an event that is not handled
+pub keeps_still : (b c : Option ShardState) (s t : ShardState) (before after : List Entry) → IsHeld b (raw_entries before) s → after ≡ before → t ≡ s
+    → base_of c t ≡ base_of b s → LogKeeps (log (base_of c t) (raw_entries after) t)
+keeps_still b c s t before after is entries state base =
+    subst (λ (u : ShardState). LogKeeps (log u (raw_entries after) t)) (sym base)
+    (keeps_unhandled (base_of b s) s t before after is.log entries state)
+
+pub handles_held : (old : Log) (b : Option ShardState) (base t : ShardState) (entries : List RawEntry) (event : RawEvent) (handled : Handled)
+    → b ≡ Some base → Handles old event handled (log base entries t) → Handles old event handled (log (base_of b t) entries t)
+handles_held old b base t entries event handled is handles =
+    subst (λ (o : Option ShardState). Handles old event handled (log (base_of o t) entries t)) (sym is) handles
+
+-- an event of which no entry is kept
+pub unlisted : (old : Log) (b c : Option ShardState) (s t : ShardState) (before after : List RawEntry) (event : RawEvent) (a : StepAnswer)
+    (sent : List RawOut) → log (base_of b s) before s ≡ old → c ≡ None → after ≡ [] → IsSameShard s t
+    → StepOctets (state_of s) (entry_of event a) (state_of t) → sent ≡ a.outs → HandlesUnlisted old event sent (log (base_of c t) after t)
+unlisted old b c s t before after event a sent seen none empty same step outs =
+    subst (λ (l : Log). HandlesUnlisted l event sent (log (base_of c t) after t)) seen
+    (subst (λ (m : Log). HandlesUnlisted (log (base_of b s) before s) event sent m) (λ i. log (base_of (sym none i) t) (sym empty i) t) (record {
+      entry = entry_of event a;
+      empty = refl;
+      same = same;
+      event_is = refl;
+      outs_are = outs;
+      step = step;
+      unnamed = leaves_unnamed (state_of s) (state_of t) (entry_of event a) step;
+    }))
+
+-- the same for one that names its shard
+pub named_unlisted : (event : ℕ → RawEvent) (old : Log) (b c : Option ShardState) (s t : ShardState) (before after : List RawEntry) (n : ℕ)
+    (a : StepAnswer) (sent : List RawOut) → log (base_of b s) before s ≡ old → n ≡ old.state.shard → c ≡ None → after ≡ [] → IsSameShard s t
+    → StepOctets (state_of s) (entry_of (event s.shard) a) (state_of t) → sent ≡ a.outs → HandlesUnlisted old (event n) sent (log (base_of c t) after t)
+named_unlisted event old b c s t before after n a sent seen mine none empty same step outs =
+    subst (λ (k : ℕ). HandlesUnlisted old (event k) sent (log (base_of c t) after t)) (sym (mine ∙ sym (ap (λ (l : Log). l.state.shard) seen)))
+    (unlisted old b c s t before after (event s.shard) a sent seen none empty same step outs)
 
 -- ---- a cut
 

@@ -1,5 +1,5 @@
 -- A shard with its journal, and the invariant of such a journal.
-use Rattle.std.specs.Prelude.{◌≤◌, ℕ, List, length, refl}
+use Rattle.std.specs.Prelude.{◌≡◌, ◌≤◌, ℕ, List, [], length, Option, Some, None, refl}
 use Rattle.std.specs.Coded.{Coded, code_by, coded×, coded_list}
 use Rattle.machine.specs.declared.numbers.TheConstants.{MAX_ENTRIES}
 use Rattle.machine.specs.Holders.{serving}
@@ -44,3 +44,13 @@ pub record LogKeeps (l : Log) : Type 0 where
   pub journal : Keeps l.base.shard (state_of l.base) l.entries (state_of l.state)
   pub same : IsSameShard l.base l.state
   pub few : length l.entries ≤ MAX_ENTRIES
+
+-- the base that is held for a journal: where none is, it is the current state
+abbrev pub base_of : Option ShardState → ShardState → ShardState
+base_of (Some base) state = base
+base_of None state = state
+
+-- What a shard holds is a legal journal, and an empty one where no base is held.
+pub record IsHeld (base : Option ShardState) (entries : List RawEntry) (state : ShardState) : Type 0 where
+  pub log : IsLog (record { base = base_of base state; entries = entries; state = state })
+  pub begins : base ≡ None → entries ≡ []

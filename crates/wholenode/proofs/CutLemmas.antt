@@ -77,15 +77,12 @@ cuts_if_ok before directory shards n (Ok epoch) l m seen at next was leads = cut
     was.1 leads
 cuts_if_ok before directory shards n (Err refused) l m seen at next was leads = tt
 
-pub drops_if_ok : {A F : Type 0} (before : NodeState) (directory : DirectoryMap) (shards : List Log) (n : ℕ) (answer : Result A F) (l m : Log)
-    → node directory shards ≡ before
-    → slice_get shards n ≡ Some l → OnOk answer (m ≡ log l.state [] l.state)
-    → OnOk answer (Drops before n (node directory (set shards n m)))
-drops_if_ok before directory shards n (Ok done) l m seen at next =
+pub drops : (before : NodeState) (directory : DirectoryMap) (shards : List Log) (n : ℕ) (l m : Log) → node directory shards ≡ before
+    → slice_get shards n ≡ Some l → m ≡ log l.state [] l.state → Drops before n (node directory (set shards n m))
+drops before directory shards n l m seen at next =
     subst (λ (b : NodeState). Drops b n (node directory (set shards n m))) seen (record {
       shard = l;
       stands = at;
       changed = ap (λ (k : Log). node directory (set shards n k)) next;
       same = same_whole shards n l m at (ap (λ (k : Log). k.state) next);
     })
-drops_if_ok before directory shards n (Err refused) l m seen at next = tt

@@ -5,4 +5,5 @@ pub mod OpeningLemmas
 pub mod RunLemmas
 pub mod CutLemmas
 pub mod NamedLemmas
+pub mod UnlistedLemmas
 pub mod RoomLemmas

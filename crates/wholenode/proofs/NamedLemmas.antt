@@ -35,14 +35,25 @@ named directory shards number place l are is small read = record {
   number_is = sym is;
 }
 
+-- no other shard is asked
+pub asked_its_own : {A : Type 0} (directory : DirectoryMap) (shards : List Log) (number place : ℕ) (l : Log) (answer : Result A ShardFault)
+    → IsNamed directory shards number place l → (why : ShardFault) → answer ≡ Err why
+    → (answer ≡ Err shard.NotMine → (number ≡ l.state.shard → ⊥)) → why ≡ shard.NotMine → ⊥
+asked_its_own directory shards number place l answer is why answered not_mine e =
+    not_mine (answered ∙ ap (λ (f : ShardFault). Err f) e) (is.number_is ∙ sym (is.are.each place l is.stands).shard_is)
+
+pub named_refuses : {A : Type 0} (directory : DirectoryMap) (shards : List Log) (number place : ℕ) (l : Log) (answer : Result A ShardFault)
+    → IsNamed directory shards number place l → (before : NodeState) (raw : RawEvent) (e : Event) (why : ShardFault) (cause : Cause)
+    → node directory shards ≡ before → IsEvent raw e → route (directory_of directory) e ≡ number → answer ≡ Err why → cause ≡ unhandled why
+    → (answer ≡ Err shard.JournalFull → length l.entries ≡ MAX_ENTRIES) → (answer ≡ Err shard.NoRoom → ⊥) → Refuses before raw cause
+named_refuses directory shards number place l answer is before raw e why cause seen is_event routed answered cause_is full has_room =
+    subst (λ (c : Cause). Refuses before raw c) (sym cause_is)
+    (refuses before directory shards raw e why place l seen is.are is.stands is_event (routed ∙ is.number_is)
+    (λ same. full (answered ∙ ap (λ (f : ShardFault). Err f) same))
+    (λ same. absurd (has_room (answered ∙ ap (λ (f : ShardFault). Err f) same))))
+
 module _ (directory : DirectoryMap) (shards : List Log) (number place : ℕ) (l : Log) (answer : Result Handled ShardFault)
     (is : IsNamed directory shards number place l) where
-  -- no other shard is asked
-  pub asked_its_own : (why : ShardFault) → answer ≡ Err why → (answer ≡ Err shard.NotMine → (number ≡ l.state.shard → ⊥))
-      → why ≡ shard.NotMine → ⊥
-  asked_its_own why answered not_mine e =
-      not_mine (answered ∙ ap (λ (f : ShardFault). Err f) e) (is.number_is ∙ sym (is.are.each place l is.stands).shard_is)
-
   pub named_are : (raw : RawEvent) (m : Log) → LogKeeps m → IfOk answer (λ handled. Handles l raw handled m) → OnErr answer (m ≡ l)
       → AreShards directory (set shards place m)
   named_are raw m keeps handles err = took_or_not directory shards place l m raw answer is.are is.stands keeps handles err
@@ -51,12 +62,3 @@ module _ (directory : DirectoryMap) (shards : List Log) (number place : ℕ) (l 
       → IsEvent raw e → route (directory_of directory) e ≡ number → Handles l raw handled m → Takes before raw handled (node directory (set shards place m))
   named_takes before raw e m handled seen is_event routed handles =
       takes before directory shards raw handled place l m seen is.are is.stands (e, is_event, routed ∙ is.number_is) handles
-
-  pub named_refuses : (before : NodeState) (raw : RawEvent) (e : Event) (why : ShardFault) (cause : Cause) → node directory shards ≡ before
-      → IsEvent raw e → route (directory_of directory) e ≡ number → answer ≡ Err why → cause ≡ unhandled why
-      → (answer ≡ Err shard.JournalFull → length l.entries ≡ MAX_ENTRIES) → (answer ≡ Err shard.NoRoom → ⊥) → Refuses before raw cause
-  named_refuses before raw e why cause seen is_event routed answered cause_is full has_room =
-      subst (λ (c : Cause). Refuses before raw c) (sym cause_is)
-      (refuses before directory shards raw e why place l seen is.are is.stands is_event (routed ∙ is.number_is)
-      (λ same. full (answered ∙ ap (λ (f : ShardFault). Err f) same))
-      (λ same. absurd (has_room (answered ∙ ap (λ (f : ShardFault). Err f) same))))

@@ -20,7 +20,7 @@ use Rattle.shardlog.specs.Log.{Log}
 use Rattle.shardlog.proofs.LogLemmas.{leaves_unnamed}
 use Rattle.wholenode.specs.declared.fault.Cause.{Cause}
 use Rattle.wholenode.specs.Causes.{unhandled}
-use Rattle.wholenode.specs.Handling.{IsRun, Refuses, Runs, Stops, Takes, sent_of}
+use Rattle.wholenode.specs.Handling.{Each, IsRun, Refuses, Runs, Stops, Takes, sent_of}
 use Rattle.wholenode.specs.Keeping.{AreShards}
 use Rattle.wholenode.specs.Nodes.{NodeState, node, whole}
 use Rattle.wholenode.proofs.WholeLemmas.{no_room, whole_step}
@@ -45,13 +45,12 @@ takes before directory shards raw handled n l m seen are at routed handles =
     })
 
 -- one more event
-pub runs_more : (a b c : NodeState) (raws : List RawEvent) (done : List Handled) (raw : RawEvent) (handled : Handled) → Runs a raws done b
-    → Takes b raw handled c
-    → Runs a (raws ++ raw ∷ []) (done ++ handled ∷ []) c
-runs_more a b c [] [] raw handled runs more = (c, subst (λ (n : NodeState). Takes n raw handled c) runs more, refl)
-runs_more a b c [] (h ∷ hs) raw handled runs more = absurd runs
-runs_more a b c (r ∷ rs) [] raw handled runs more = absurd runs
-runs_more a b c (r ∷ rs) (h ∷ hs) raw handled (m, first, rest) more = (m, first, runs_more m b c rs hs raw handled rest more)
+pub each_more : {A : Type 0} (T : NodeState → RawEvent → A → NodeState → Type 0) (a b c : NodeState) (raws : List RawEvent) (done : List A)
+    (raw : RawEvent) (more : A) → Each T a raws done b → T b raw more c → Each T a (raws ++ raw ∷ []) (done ++ more ∷ []) c
+each_more T a b c [] [] raw more runs one = (c, subst (λ (n : NodeState). T n raw more c) runs one, refl)
+each_more T a b c [] (h ∷ hs) raw more runs one = absurd runs
+each_more T a b c (r ∷ rs) [] raw more runs one = absurd runs
+each_more T a b c (r ∷ rs) (h ∷ hs) raw more (m, first, rest) one = (m, first, each_more T m b c rs hs raw more rest one)
 
 -- for the whole state they are a run
 pub is_run : (a b : NodeState) (raws : List RawEvent) (done : List Handled) → Runs a raws done b
@@ -100,7 +99,7 @@ pub handled_more : (before so_far after : NodeState) (events : List code.RawEven
     → Runs before (map raw_event (take (i + 1) events)) (done ++ handled ∷ []) after
 handled_more before so_far after events i event done handled lt is runs more =
     subst (λ (raws : List RawEvent). Runs before raws (done ++ handled ∷ []) after) (sym (next_one events i event lt is))
-    (runs_more before so_far after (map raw_event (take i events)) done (raw_event event) handled runs more)
+    (each_more Takes before so_far after (map raw_event (take i events)) done (raw_event event) handled runs more)
 
 split : (events : List code.RawEvent) (i : ℕ) (event : code.RawEvent) → i < length events → event ≡ get_or events i event
     → events ≡ take i events ++ event ∷ drop (suc i) events
@@ -140,4 +139,4 @@ pub handled_next : (before so_far after : NodeState) (front : List code.RawEvent
     → Runs before (map raw_event (front ++ event ∷ [])) (done ++ handled ∷ []) after
 handled_next before so_far after front event done handled runs more =
     subst (λ (raws : List RawEvent). Runs before raws (done ++ handled ∷ []) after) (sym (map-append raw_event front (event ∷ [])))
-    (runs_more before so_far after (map raw_event front) done (raw_event event) handled runs more)
+    (each_more Takes before so_far after (map raw_event front) done (raw_event event) handled runs more)

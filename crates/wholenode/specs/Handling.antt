@@ -38,11 +38,15 @@ pub record Takes (before : NodeState) (raw : RawEvent) (handled : Handled) (afte
   pub step : StepOctets (whole before.shards) handles.entry (whole after.shards)
   pub unnamed : LeavesUnnamed (whole before.shards) raw (whole after.shards)
 
--- Events are handled one after another.
+-- Events are handled one after another, each of them so.
+abbrev pub Each : {A : Type 0} → (NodeState → RawEvent → A → NodeState → Type 0) → NodeState → List RawEvent → List A → NodeState → Type 0
+Each one before [] [] after = after ≡ before
+Each one before (raw ∷ raws) (a ∷ more) after = (between : NodeState) × one before raw a between × Each one between raws more after
+Each one before _ _ after = ⊥
+
+-- Events are handled one after another, and each has an entry.
 abbrev pub Runs : NodeState → List RawEvent → List Handled → NodeState → Type 0
-Runs before [] [] after = after ≡ before
-Runs before (raw ∷ raws) (handled ∷ more) after = (between : NodeState) × Takes before raw handled between × Runs between raws more after
-Runs before _ _ after = ⊥
+Runs = Each Takes
 
 -- The events, in this order, lead from one state to the other by a run of the machine over octets, and this is what it sends.
 pub record IsRun (S : State) (raws : List RawEvent) (sent : List (List RawOut)) (T : State) : Type 0 where

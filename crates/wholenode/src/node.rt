@@ -8,11 +8,12 @@ ghost use Rattle.wholenode.specs.Opening.{BeginsWith};
 ghost use Rattle.wholenode.specs.Handling.{Cuts, Drops, IsRun, Refuses, Runs, Stops, Takes, sent_of};
 ghost use Rattle.wholenode.specs.Keeping.{NodeKeeps};
 ghost use Rattle.wholenode.specs.Reading.{AreRead};
+ghost use Rattle.wholenode.specs.Unlisted.{RunsUnlisted, StopsUnlisted, TakesUnlisted};
 
 use crate::fault::{Cause, NodeFault, refusal, unread};
 use crate::opening::opening_shards;
 use bumpalo::Bump;
-use hlrcore::{Event, RawEvent, ShardNumber, addressee_of};
+use hlrcore::{Event, OutList, RawEvent, ShardNumber, addressee_of};
 use records::{Directory, Loaded};
 use shardlog::{Epoch, Handled, Shard};
 use std::alloc::{AllocError, Global};
@@ -254,16 +255,117 @@ impl Node {
         self.shards[place].cut()
     }
 
-    /// Cuts the journal of a shard off, and drops it. The states stay the same, and the next journal has the room of this one. On
-    /// error nothing changes.
-    pub fn drop_journal(&mut self, shard: u8) -> Result<(), AllocError>
+    /// Cuts the journal of a shard off, and drops it. The states stay the same, and the next journal has the room of this one.
+    pub fn drop_journal(&mut self, shard: u8)
         requires { shard < 16 }
-        ensures drops { OnOk result (Drops self.old shard self.new) }
+        ensures drops { Drops self.old shard self.new }
         ensures keeps { NodeKeeps self.new }
-        ensures err { OnErr result (self.new ≡ self.old) }
     {
         let place = usize::from(shard);
-        self.shards[place].drop_journal()
+        self.shards[place].drop_journal();
+    }
+
+    /// Handles events as `run_owned` does, but keeps no entry of them: the journal of each shard that handles one is dropped, and is empty
+    /// behind it. What is sent for each event is put behind `sent`. It stops at the first event that is not handled; the register and
+    /// `sent` are then as the events before it leave them. A full journal refuses nothing.
+    pub fn run_unlisted(
+        &mut self,
+        bump: &mut Bump,
+        events: Vec<RawEvent>,
+        sent: &mut Vec<OutList>,
+    ) -> Result<(), Cause>
+        ensures runs { OnOk result (RunsUnlisted self.old (map raw_event events.items)
+            sent.old.items sent.new.items self.new) }
+        ensures stops { IfErr result (λ cause. StopsUnlisted self.old
+            (map raw_event events.items) sent.old.items sent.new.items cause self.new) }
+        ensures keeps { NodeKeeps self.new }
+    {
+        let mut read = read_all(self.alloc, bump, events)?;
+        for event in read.iter_mut() {
+            sent.reserve(1)?;
+            let outs = self.handle_read_unlisted(event)?;
+            sent.push_reserved(outs);
+            // Its octets are given back while they are near.
+            let _handled = event.take_raw();
+        }
+        Ok(())
+    }
+
+    /// Handles an event as `handle_owned` does, but keeps no entry of it: the journal of its shard is dropped, and is empty behind it. On
+    /// error nothing changes.
+    pub fn handle_unlisted(&mut self, bump: &mut Bump, raw: RawEvent) -> Result<OutList, Cause>
+        ensures takes { IfOk result (λ sent. TakesUnlisted self.old (raw_event raw) sent self.new) }
+        ensures refused { IfErr result (λ cause. Refuses self.old (raw_event raw) cause) }
+        ensures err { OnErr result (self.new ≡ self.old) }
+        ensures keeps { NodeKeeps self.new }
+    {
+        match raw {
+            RawEvent::Clock { shard, now } => self.tick_unlisted(shard, now),
+            RawEvent::Expire { shard } => self.expire_unlisted(shard),
+            read => self.read_unlisted(bump, read),
+        }
+    }
+
+    /// The same for the expiry of a shard.
+    fn expire_unlisted(&mut self, number: ShardNumber) -> Result<OutList, Cause>
+        ensures takes { IfOk result (λ sent. TakesUnlisted self.old (RawExpire number) sent self.new) }
+        ensures refused { IfErr result (λ cause. Refuses self.old (RawExpire number) cause) }
+        ensures err { OnErr result (self.new ≡ self.old) }
+        ensures keeps { NodeKeeps self.new }
+    {
+        let place = usize::from(number.number());
+        let shard = &mut self.shards[place];
+        match shard.expire_unlisted(number) {
+            Ok(sent) => Ok(sent),
+            Err(why) => Err(refusal(why)),
+        }
+    }
+
+    /// The same for a clock value.
+    fn tick_unlisted(&mut self, number: ShardNumber, now: u64) -> Result<OutList, Cause>
+        ensures takes { IfOk result (λ sent. TakesUnlisted self.old (RawClock number now) sent self.new) }
+        ensures refused { IfErr result (λ cause. Refuses self.old (RawClock number now) cause) }
+        ensures err { OnErr result (self.new ≡ self.old) }
+        ensures keeps { NodeKeeps self.new }
+    {
+        let place = usize::from(number.number());
+        let shard = &mut self.shards[place];
+        match shard.tick_unlisted(number, now) {
+            Ok(sent) => Ok(sent),
+            Err(why) => Err(refusal(why)),
+        }
+    }
+
+    /// The same for an event whose frame is decoded in the arena.
+    fn read_unlisted(&mut self, bump: &mut Bump, raw: RawEvent) -> Result<OutList, Cause>
+        ensures takes { IfOk result (λ sent. TakesUnlisted self.old (raw_event raw) sent self.new) }
+        ensures refused { IfErr result (λ cause. Refuses self.old (raw_event raw) cause) }
+        ensures err { OnErr result (self.new ≡ self.old) }
+        ensures keeps { NodeKeeps self.new }
+    {
+        // What is read stays where it is made, since it has room for whatever a frame may hold.
+        let read = Event::of_owned(self.alloc, bump, raw);
+        match &read {
+            Ok(event) => self.handle_read_unlisted(event),
+            Err(fault) => Err(unread(fault)),
+        }
+    }
+
+    /// The same for an event that was read.
+    fn handle_read_unlisted(&mut self, event: &Event) -> Result<OutList, Cause>
+        requires { IsEvent (raw_of event.now) (event_of event.now) }
+        ensures takes { IfOk result (λ sent. TakesUnlisted self.old (raw_of event.now) sent self.new) }
+        ensures refused { IfErr result (λ cause. Refuses self.old (raw_of event.now) cause) }
+        ensures err { OnErr result (self.new ≡ self.old) }
+        ensures keeps { NodeKeeps self.new }
+    {
+        let found = addressee_of(&self.directory, event);
+        let own = usize::from(found.shard);
+        let shard = &mut self.shards[own];
+        match shard.handle_unlisted(event, found) {
+            Ok(sent) => Ok(sent),
+            Err(fault) => Err(refusal(fault)),
+        }
     }
 }
 

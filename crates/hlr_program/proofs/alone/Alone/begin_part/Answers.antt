@@ -1,5 +1,11 @@
+use Rattle.std.proofs.Common.{subst}
+use Rattle.wholenode.specs.Nodes.{NodeState}
+use Rattle.hlr_program.specs.Parts.{MakesRoom}
 use Rattle.hlr_program.proofs.PartLemmas.{room_runs}
 use Rattle.hlr_program.proofs.alone.Alone.begin_part.Goals as goal
 
 pub returns-clause-ran : goal.returns-clause-ran
-returns-clause-ran c = room_runs c.args.self.now c.make_room.new.self c.args.count c.in_ok-make_room.ensures.makes c.in_ok-make_room.ensures.keeps
+returns-clause-ran c =
+    room_runs c.args.self.now c.make_room.new.node c.args.count
+    (subst (λ (n : NodeState). MakesRoom n c.args.count c.make_room.new.node) c.self.view_is c.make_room.ensures.makes)
+    c.make_room.ensures.keeps

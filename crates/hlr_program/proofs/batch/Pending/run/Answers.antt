@@ -23,7 +23,7 @@ returns-clause-adds g c =
       answers = so_far c.send_part.new.answers;
     } in
     then_on c.send_part.result c.send_part.ensures.sends
-    (λ (outs, ran, prints). adds_join start made end [] [] c.in_ok-begin_part.ensures.adds (adds_part made end outs
+    (λ (outs, ran, prints). adds_join start made end [] [] c.begin_part.ensures.adds (adds_part made end outs
     (subst (λ (v : Vec code.RawEvent Global). RunsTo c.begin_part.new.register (map raw_event v.items) outs c.send_part.new.self)
     c.replace-gathered.ensures.value ran)
     (ap (λ (v : Vec code.RawEvent Global). map raw_event v.items) c.replace-gathered.ensures.after ∙ ap (map raw_event) c.in_ok-next.ensures.items)
@@ -35,6 +35,6 @@ returns-clause-stops g c =
     let made : Progress = progress c.begin_part.new.register c.begin_part.new.self in
     else_on (EventsStop (state_known c.begin_part.new.register) (map raw_event c.replace-gathered.result.items)) (AddingStops start []) c.send_part.result
     c.send_part.ensures.stops
-    (λ fault stops. stops_join start made [] [] fault c.in_ok-begin_part.ensures.adds (stops_part made [] fault
+    (λ fault stops. stops_join start made [] [] fault c.begin_part.ensures.adds (stops_part made [] fault
     (subst (λ (v : Vec code.RawEvent Global). EventsStop (state_known c.begin_part.new.register) (map raw_event v.items) fault)
     c.replace-gathered.ensures.value stops)))

@@ -1,30 +1,35 @@
-use Rattle.std.proofs.Common.{◌≡◌, List, [], sym, ap, ◌∙◌, subst}
-use Rattle.frames.specs.Octets.{RawEntry}
+use Rattle.std.proofs.Common.{◌≡◌, refl, sym, ap, ◌∙◌, subst}
+use Rattle.std.specs.Prelude.{Option}
 use Rattle.shard_state.specs.Shards.{ShardState}
 use Rattle.shardlog.specs.Entries.{raw_entries}
-use Rattle.shardlog.specs.Log.{IsLog, log}
+use Rattle.shardlog.specs.Log.{base_of, log}
 use Rattle.shardlog.specs.Chains.{LeadTo}
-use Rattle.shardlog.proofs.LogLemmas.{begun, cut_leads, keeps_seen, log_keeps}
+use Rattle.shardlog.proofs.LogLemmas.{cut_leads, ends_sound, held_none, keeps_seen, keeps_still, log_keeps}
 use Rattle.shardlog.proofs.shard.Shard.cut.Goals as goal
 
-pub returns-in_err-next-clause-keeps : goal.returns-in_err-next-clause-keeps
-returns-in_err-next-clause-keeps c = let keeps = keeps_seen _ _ c.self.view_is c.self.invariant in (keeps, keeps)
+pub returns-in_err-keep_base-clause-keeps : goal.returns-in_err-keep_base-clause-keeps
+returns-in_err-keep_base-clause-keeps c = (
+  keeps_seen _ _ c.self.view_is c.self.invariant.log,
+  keeps_still c.self.inside.base c.keep_base.new.base c.self.inside.state c.self.inside.state c.self.inside.entries.items c.self.inside.entries.items
+      c.self.invariant refl refl (ap (λ (o : Option ShardState). base_of o c.self.inside.state) c.in_err-keep_base.ensures.err),
+)
 
-pub invariant_of-self : goal.invariant_of-self
-invariant_of-self c =
-    let base : c.replace-base.new.dest ≡ c.self.inside.state = c.replace-base.ensures.after ∙ c.in_ok-next.ensures.equal in
-    let none : raw_entries c.replace-entries.new.dest.items ≡ [] = ap (λ v. raw_entries v.items) c.replace-entries.ensures.after
-    ∙ ap raw_entries c.new.ensures.items in
-    subst (λ (s : ShardState). IsLog (log s (raw_entries c.replace-entries.new.dest.items) c.self.inside.state)) (sym base)
-    (subst (λ (es : List RawEntry). IsLog (log c.self.inside.state es c.self.inside.state)) (sym none) (begun c.self.inside.state c.in_ok-next.ensures.sound))
+pub invariant_of-self-2 : goal.invariant_of-self-2
+invariant_of-self-2 c =
+    held_none c.replace.new.dest c.self.inside.state (raw_entries c.replace-entries.new.dest.items) c.replace.ensures.after
+    (ap (λ v. raw_entries v.items) c.replace-entries.ensures.after ∙ ap raw_entries c.new.ensures.items) (ends_sound _ c.self.invariant.log)
 
 pub returns-clause-keeps : goal.returns-clause-keeps
-returns-clause-keeps c = (keeps_seen _ _ c.self.view_is c.self.invariant, log_keeps _ (invariant_of-self c))
+returns-clause-keeps c = (keeps_seen _ _ c.self.view_is c.self.invariant.log, log_keeps _ (invariant_of-self-2 c).log)
 
 pub returns-clause-leads : goal.returns-clause-leads
 returns-clause-leads c = λ epochs leads.
-    cut_leads (log c.self.inside.base (raw_entries c.self.inside.entries.items) c.self.inside.state)
-    (log c.replace-base.new.dest (raw_entries c.replace-entries.new.dest.items) c.self.inside.state) c.replace-base.result
-    (raw_entries c.replace-entries.result.items) c.self.invariant (sym c.replace-base.ensures.value)
-    (ap (λ v. raw_entries v.items) (sym c.replace-entries.ensures.value)) (c.replace-base.ensures.after ∙ c.in_ok-next.ensures.equal) epochs
+    let based : base_of c.self.inside.base c.self.inside.state ≡ c.in-Some.base =
+    ap (λ (o : Option ShardState). base_of o c.self.inside.state)
+    (sym c.in_ok-keep_base.ensures.kept ∙ sym c.replace.ensures.value ∙ c.in-Some.is) in
+    cut_leads (log (base_of c.self.inside.base c.self.inside.state) (raw_entries c.self.inside.entries.items) c.self.inside.state)
+    (log (base_of c.replace.new.dest c.self.inside.state) (raw_entries c.replace-entries.new.dest.items) c.self.inside.state) c.in-Some.base
+    (raw_entries c.replace-entries.result.items) c.self.invariant.log based
+    (ap (λ v. raw_entries v.items) (sym c.replace-entries.ensures.value))
+    (ap (λ (o : Option ShardState). base_of o c.self.inside.state) c.replace.ensures.after) epochs
     (subst (LeadTo epochs) (sym c.self.view_is) leads)

@@ -1,35 +1,49 @@
-use Rattle.std.proofs.Common.{refl}
+use Rattle.std.proofs.Common.{refl, ap}
+use Rattle.std.specs.Prelude.{Option}
 use Rattle.machine.specs.Events.{Expire}
 use Rattle.frames.specs.Octets.{RawExpire}
-use Rattle.shardlog.proofs.LogLemmas.{keeps_seen, keeps_unhandled, log_keeps, named_handles, named_log}
+use Rattle.shard_state.specs.Shards.{ShardState}
+use Rattle.shardlog.specs.Entries.{raw_entries}
+use Rattle.shardlog.specs.Log.{base_of}
+use Rattle.shardlog.proofs.LogLemmas.{handles_held, held, keeps_seen, keeps_still, log_keeps, named_handles, named_log}
 use Rattle.shardlog.proofs.shard.Shard.expire.Goals as goal
 
 pub returns-in_err-admit-clause-keeps : goal.returns-in_err-admit-clause-keeps
-returns-in_err-admit-clause-keeps c = keeps_seen _ _ c.self.view_is c.self.invariant
+returns-in_err-admit-clause-keeps c = keeps_seen _ _ c.self.view_is c.self.invariant.log
 
 pub returns-in_err-reserve-clause-keeps : goal.returns-in_err-reserve-clause-keeps
 returns-in_err-reserve-clause-keeps c =
-    keeps_unhandled c.self.inside.base c.self.inside.state c.self.inside.state c.self.inside.entries.items c.reserve.new.self.items
-    c.self.invariant c.in_err-reserve.ensures.items refl
+    keeps_still c.self.inside.base c.self.inside.base c.self.inside.state c.self.inside.state c.self.inside.entries.items c.reserve.new.self.items
+    c.self.invariant c.in_err-reserve.ensures.items refl refl
+
+pub returns-in_err-keep_base-clause-keeps : goal.returns-in_err-keep_base-clause-keeps
+returns-in_err-keep_base-clause-keeps c =
+    keeps_still c.self.inside.base c.keep_base.new.base c.self.inside.state c.self.inside.state c.self.inside.entries.items c.reserve.new.self.items
+    c.self.invariant c.in_ok-reserve.ensures.items refl
+    (ap (λ (o : Option ShardState). base_of o c.self.inside.state) c.in_err-keep_base.ensures.err)
 
 pub returns-in_err-answer-clause-keeps : goal.returns-in_err-answer-clause-keeps
 returns-in_err-answer-clause-keeps c =
-    keeps_unhandled c.self.inside.base c.self.inside.state c.expire.new.self c.self.inside.entries.items c.reserve.new.self.items
+    keeps_still c.self.inside.base c.keep_base.new.base c.self.inside.state c.expire.new.self c.self.inside.entries.items c.reserve.new.self.items
     c.self.invariant c.in_ok-reserve.ensures.items c.in_err-answer.ensures.err
+    (ap (λ (o : Option ShardState). base_of o c.expire.new.self) c.in_ok-keep_base.ensures.kept)
 
 pub invariant_of-self-2 : goal.invariant_of-self-2
 invariant_of-self-2 c =
-    named_log RawExpire c.args.self.now c.self.inside.base c.self.inside.state c.expire.new.self c.self.inside.entries.items
-    c.reserve.new.self.items c.append.new.entries.items c.args.shard c.in_ok-answer.answer
+    held c.keep_base.new.base (base_of c.self.inside.base c.self.inside.state) c.expire.new.self _ c.in_ok-keep_base.ensures.kept
+    (named_log RawExpire c.args.self.now (base_of c.self.inside.base c.self.inside.state) c.self.inside.state c.expire.new.self
+    c.self.inside.entries.items c.reserve.new.self.items c.append.new.entries.items c.args.shard c.in_ok-answer.answer
     c.self.view_is c.in_ok-admit.ensures.mine c.in_ok-reserve.ensures.items c.append.ensures.put c.in_ok-answer.ensures.stepped
-    c.self.invariant (Expire c.args.shard, refl, refl) c.in_ok-answer.ensures.same_shard c.in_ok-admit.ensures.few
+    c.self.invariant.log (Expire c.args.shard, refl, refl) c.in_ok-answer.ensures.same_shard c.in_ok-admit.ensures.few)
 
 pub returns-clause-handles : goal.returns-clause-handles
 returns-clause-handles c =
-    named_handles RawExpire c.args.self.now c.self.inside.base c.self.inside.state c.expire.new.self c.self.inside.entries.items
-    c.reserve.new.self.items c.append.new.entries.items c.args.shard c.in_ok-answer.answer
+    handles_held c.args.self.now c.keep_base.new.base (base_of c.self.inside.base c.self.inside.state) c.expire.new.self
+    (raw_entries c.append.new.entries.items) (RawExpire c.args.shard) c.append.result c.in_ok-keep_base.ensures.kept
+    (named_handles RawExpire c.args.self.now (base_of c.self.inside.base c.self.inside.state) c.self.inside.state c.expire.new.self
+    c.self.inside.entries.items c.reserve.new.self.items c.append.new.entries.items c.args.shard c.in_ok-answer.answer
     c.self.view_is c.in_ok-admit.ensures.mine c.in_ok-reserve.ensures.items c.append.ensures.put c.in_ok-answer.ensures.stepped
-    c.append.result c.append.ensures.outs c.append.ensures.position
+    c.append.result c.append.ensures.outs c.append.ensures.position)
 
 pub returns-clause-keeps : goal.returns-clause-keeps
-returns-clause-keeps c = log_keeps _ (invariant_of-self-2 c)
+returns-clause-keeps c = log_keeps _ (invariant_of-self-2 c).log

@@ -2,7 +2,7 @@ use Rattle.shardlog.proofs.LogLemmas.{keeps_seen}
 use Rattle.shardlog.proofs.shard.Shard.handle.Goals as goal
 
 pub returns-in_err-event-clause-keeps : goal.returns-in_err-event-clause-keeps
-returns-in_err-event-clause-keeps c = keeps_seen _ _ c.self.view_is c.self.invariant
+returns-in_err-event-clause-keeps c = keeps_seen _ _ c.self.view_is c.self.invariant.log
 
 pub returns-clause-handles : goal.returns-clause-handles
 returns-clause-handles c = rw c.in_ok-event.ensures.same at c.handle_owned.ensures.handles

@@ -19,7 +19,7 @@ loop-event-init c =
 pub handle_read-requires : goal.handle_read-requires
 handle_read-requires c =
     let within : c.loop-event.event-index < length c.loop-event.event-items = omega arith in
-    reading_event _ _ _ _ _ _ (reading_at _ _ _ c.loop-event.event-items c.loop-event.event-index c.event-item.result _ within c.loop-event.invariant)
+    reading_event _ _ _ _ _ _ _ _ (reading_at _ _ _ c.loop-event.event-items c.loop-event.event-index c.event-item.result _ within c.loop-event.invariant)
 
 pub loop-event-preserved : goal.loop-event-preserved
 loop-event-preserved c =
@@ -27,7 +27,7 @@ loop-event-preserved c =
     let at = reading_at _ _ _ c.loop-event.event-items c.loop-event.event-index c.event-item.result _ within c.loop-event.invariant in
     let put : c.push_reserved.new.self.items ≡ c.loop-event.done.items ++ c.in-Ok-handle_read.handled ∷ [] = search rules in
     let kept = drop-set-lt (c.loop-event.event-index + 1) c.loop-event.event-items c.loop-event.event-index c.handle_read.new.event (omega arith) in
-    rw put (rw kept (reading_goes_on _ _ _ _ _ _ at c.in-Ok-handle_read.handled c.handle_read.new.self c.in-Ok-handle_read.ensures.takes
+    rw put (rw kept (reading_goes_on _ _ _ _ _ _ _ _ at c.in-Ok-handle_read.handled c.handle_read.new.self c.in-Ok-handle_read.ensures.takes
     c.handle_read.ensures.keeps))
 
 pub returns-in-Err-clause-stops : goal.returns-in-Err-clause-stops
@@ -53,7 +53,7 @@ returns-in-Err-handle_read-clause-stops c =
 pub returns-clause-handled : goal.returns-clause-handled
 returns-clause-handled c =
     let past : length c.loop-event.event-items ≤ c.loop-event.event-index = omega arith in
-    reading_ends _ _ _ _ _ c.loop-event.invariant (drop_all c.loop-event.event-index c.loop-event.event-items past)
+    reading_ends _ _ _ _ _ _ _ c.loop-event.invariant (drop_all c.loop-event.event-index c.loop-event.event-items past)
 
 pub returns-clause-run : goal.returns-clause-run
 returns-clause-run c = is_run c.args.self.now c.loop-event.self _ c.loop-event.done.items (returns-clause-handled c)

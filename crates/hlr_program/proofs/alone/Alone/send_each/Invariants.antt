@@ -1,7 +1,0 @@
-use Rattle.std.specs.Vec.Iter.{into_iter_items}
-use Rattle.hlr_program.specs.Answered.{so_far}
-use Rattle.hlr_program.proofs.PartLemmas.{Sending}
-use Rattle.hlr_program.proofs.alone.Alone.send_each.Given as goal
-
-abbrev pub invariant-loop-raw : goal.invariant-loop-raw
-invariant-loop-raw l = Sending l.fn.self l.fn.part.items (so_far l.fn.answers) l.yielded (into_iter_items l.raw-iterator) l.self-inside.node (so_far l.answers)
