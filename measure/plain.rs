@@ -4,10 +4,8 @@
 //!     plain RECORDS           reads and sorts the records, and no more
 //!
 //! It does for each line and each event what the register does. It checks both files before
-//! anything runs. It has sixteen shards, and keeps the state of each twice, as it is and as its
-//! journal began. It reads the whole tree of a frame, and keeps an entry of each event in a
-//! journal: the event, the local id that it took, its subject, and what was sent. Journals are cut
-//! where the register cuts them.
+//! anything runs. It has sixteen shards, and reads the whole tree of a frame. It keeps no journal,
+//! as the register keeps none where nothing is listed.
 //!
 //! Built with `--cfg crate_hex` it reads the octets of a frame as the crate `hex` does.
 //!

@@ -8,7 +8,6 @@ use crate::records::Record;
 const MAX_CLOCK: u64 = 1 << 62;
 
 /// The records stand by IMSI.
-#[derive(Clone)]
 pub struct State {
     pub records: Vec<Record>,
     pub dialogues: Dialogues,

@@ -38,8 +38,6 @@ pub struct Step<'a> {
     pub writer: &'a mut Writer,
     /// The place of the record of the subscriber whom the event is about.
     pub place: Option<usize>,
-    /// The dialogue that has opened.
-    pub opened: Option<LocalId>,
     pub sent: SentFrames,
 }
 
@@ -54,8 +52,7 @@ impl Step<'_> {
 
     /// Opens a dialogue. None where the shard is full.
     pub fn open(&mut self, dialogue: Dialogue) -> Option<LocalId> {
-        self.opened = self.state.dialogues.open(dialogue);
-        self.opened
+        self.state.dialogues.open(dialogue)
     }
 
     pub fn send_abort(&mut self, peer: Digits, remote: TransactionId, reason: Reason) {
