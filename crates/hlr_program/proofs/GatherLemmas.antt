@@ -66,6 +66,17 @@ adds_part a b outs ran none sends = record {
   prints = sends;
 }
 
+-- events are handled at once, where none are gathered
+pub adds_sent : (a b : Progress) (raws : List RawEvent) (outs : List (List RawOut)) → a.part ≡ [] → b.part ≡ [] → RunsTo a.register raws outs b.register
+    → Prints a.answers (flat_map (λ o. o) outs) b.answers → Adds a raws b
+adds_sent a b raws outs none left ran sends = record {
+  handled = raws;
+  outs = outs;
+  order = ap (λ (l : List RawEvent). l ++ raws) none ∙ sym (ap (λ (l : List RawEvent). raws ++ l) left ∙ append-nil raws);
+  ran = ran;
+  prints = sends;
+}
+
 -- room is made in the journals
 pub adds_room : (a b : Progress) → RunsTo a.register [] [] b.register → b.part ≡ a.part → b.answers ≡ a.answers → Adds a [] b
 adds_room a b ran part answers = record {

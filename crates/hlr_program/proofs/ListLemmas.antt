@@ -13,6 +13,10 @@ pub then_on : {A E P Q : Type 0} (r : Result A E) → OnOk r P → (P → Q) →
 then_on (Ok a) h f = f h
 then_on (Err e) h f = tt
 
+pub then_both : {A E P Q R : Type 0} (r : Result A E) → OnOk r P → OnOk r Q → (P → Q → R) → OnOk r R
+then_both (Ok a) h k f = f h k
+then_both (Err e) h k f = tt
+
 pub else_on : {A E : Type 0} (P Q : E → Type 0) (r : Result A E) → IfErr r P → ((e : E) → P e → Q e) → IfErr r Q
 else_on P Q (Ok a) h f = tt
 else_on P Q (Err e) h f = f e h

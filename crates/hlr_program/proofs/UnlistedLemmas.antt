@@ -1,33 +1,41 @@
 -- Events of which no entry is kept: the journals are empty before and behind them.
-use Rattle.std.proofs.Common.{◌≡◌, List, [], ◌++◌, ◌∷◌, map, length, sym, ap, subst, ◌∙◌, arith}
-use Rattle.std.specs.List.{flat_map}
-use Rattle.std.specs.Prelude.{Some}
-use Rattle.std.proofs.lemmas.List.{map-append}
+use Rattle.std.proofs.Common.{◌≡◌, ℕ, ◌+◌, ◌<◌, ◌≤◌, List, [], ◌++◌, ◌∷◌, map, length, set, refl, sym, ap, subst, ◌∙◌, arith, inl, inr}
+use Rattle.std.specs.List.{flat_map, range_with_len}
+use Rattle.std.specs.Prelude.{◌⊎◌, Option, Some, slice_get}
+use Rattle.std.proofs.lemmas.Bool.{cases_eq}
+use Rattle.std.proofs.lemmas.List.{append-nil}
+use Rattle.std.proofs.lemmas.List.FromFn.{map-range_with_len_more}
+use Rattle.std.proofs.lemmas.Option.{slice_get_within}
+use Rattle.machine.specs.Events as machine
+use Rattle.machine.specs.declared.numbers.TheConstants.{MAX_ENTRIES}
 use Rattle.machine.specs.State.{State}
-use Rattle.frames.specs.Octets.{RawEvent, RawOut}
-use Rattle.hlrcore.specs.declared.event.RawEvent as code
-use Rattle.hlrcore.specs.Events.{raw_event}
-use Rattle.shardlog.specs.Log.{Log}
+use Rattle.frames.specs.Octets.{IsRouted, RawClock, RawEvent, RawExpire, RawOut}
+use Rattle.shard_state.specs.Shards.{directory_of}
+use Rattle.shardlog.specs.Log.{Log, log}
 use Rattle.wholenode.specs.declared.fault.Cause.{Cause}
-use Rattle.wholenode.specs.declared.fault.Cause.TheVariants as cause
-use Rattle.wholenode.specs.Handling.{Each, IsRun, Refuses}
+use Rattle.wholenode.specs.Handling.{Each, IsRun}
+use Rattle.wholenode.specs.Keeping.{NodeKeeps}
 use Rattle.wholenode.specs.Nodes.{NodeState, whole}
 use Rattle.wholenode.specs.Unlisted.{IsUnlisted, RunsUnlisted, StopsUnlisted, TakesUnlisted}
+use Rattle.wholenode.proofs.Places.{set_elsewhere, set_there}
+use Rattle.wholenode.proofs.RunLemmas.{each_more}
 use Rattle.wholenode.proofs.UnlistedLemmas.{all_stay_unlisted, is_run_unlisted}
 use Rattle.hlr_program.specs.Journals.{Continues, IsAtEnd, RunsAlone}
+use Rattle.hlr_program.specs.Parts.{MakesRoom}
 use Rattle.hlr_program.specs.Printed.{Prints, SoFar}
 use Rattle.hlr_program.specs.Statuses.{stopped_by}
 use Rattle.hlr_program.specs.Stopping.{EventsStop}
 use Rattle.hlr_program.proofs.JournalLemmas.{empty_at_end, run_to_end}
-use Rattle.hlr_program.proofs.PartLemmas.{Sending, refused_stops, sending_ends, sending_split}
-use Rattle.hlr_program.proofs.RunLemmas.{runs_join}
+use Rattle.hlr_program.proofs.PartLemmas.{refused_stops}
+use Rattle.hlr_program.proofs.PrintLemmas.{prints_join, prints_none}
+use Rattle.hlr_program.proofs.RunLemmas.{flat_join, runs_join}
 
--- an empty journal is not full
-pub never_full_unlisted : (here : NodeState) (raw : RawEvent) (c : Cause) → IsUnlisted here → Refuses here raw c → c ≡ cause.JournalFull → ⊥
-never_full_unlisted here raw c h refuses full =
-    let refused : Refuses here raw cause.JournalFull = subst (λ (k : Cause). Refuses here raw k) full refuses in
-    let none : length refused.1.entries ≡ 0 = ap (λ (l : Log). length l.entries) (h refused.0 refused.1 refused.2.stands) in
-    omega (arith, refused.3, none)
+-- journals that are empty have room for any part
+pub unlisted_room : (node : NodeState) (count : ℕ) → IsUnlisted node → count ≤ MAX_ENTRIES → MakesRoom node count node
+unlisted_room node count empty few = inl (
+  λ n l at. let none : length l.entries ≡ 0 = ap (λ (k : Log). length k.entries) (empty n l at) in omega (arith, none, few),
+  refl,
+)
 
 -- ---- a lot is handled
 
@@ -36,16 +44,16 @@ unlisted_at_end : (begin : State) (events : List RawEvent) (sent : List (List Ra
 unlisted_at_end begin events sent node h =
     empty_at_end begin events sent node (λ n l at. (ap (λ (m : Log). m.base) (h n l at), ap (λ (m : Log). m.entries) (h n l at)))
 
--- They continue every run that leads to them: the journals have none of its entries, before and behind.
-unlisted_alone : (before after : NodeState) (raws : List RawEvent) (outs : List (List RawOut)) → IsUnlisted before → Each TakesUnlisted before raws outs after
+-- They continue every run that leads to them, where the journals have no entries behind them.
+alone_unlisted : (before after : NodeState) (raws : List RawEvent) (outs : List (List RawOut)) → IsUnlisted after → Each TakesUnlisted before raws outs after
     → RunsAlone before raws outs after
-unlisted_alone before after raws outs h each = (run, goes_on)
+alone_unlisted before after raws outs empty each = (run, goes_on)
   where
     run : IsRun (whole before.shards) raws outs (whole after.shards)
     run = is_run_unlisted before after raws outs each
 
     goes_on : Continues before raws outs after
-    goes_on begin events sent at = unlisted_at_end begin (events ++ raws) (sent ++ outs) after (all_stay_unlisted before after raws outs each h)
+    goes_on begin events sent at = unlisted_at_end begin (events ++ raws) (sent ++ outs) after empty
         (runs_join begin (whole before.shards) (whole after.shards) events raws sent outs (run_to_end begin events sent before at) run)
 
 -- the lists of a lot are printed; none were there before
@@ -54,7 +62,7 @@ pub lot_sends : (before after : NodeState) (raws : List RawEvent) (earlier sent 
     → (outs : List (List RawOut)) × RunsAlone before raws outs after × Prints a (flat_map (λ o. o) outs) b
 lot_sends before after raws earlier sent a b h none runs prints = (
   runs.outs,
-  unlisted_alone before after raws runs.outs h runs.runs,
+  alone_unlisted before after raws runs.outs (all_stay_unlisted before after raws runs.outs runs.runs h) runs.runs,
   subst (λ (outs : List (List RawOut)). Prints a (flat_map (λ o. o) outs) b)
       (runs.sent_are ∙ ap (λ (l : List (List RawOut)). l ++ runs.outs) none) prints,
 )
@@ -65,32 +73,101 @@ lot_stays before after raws earlier sent h runs = all_stay_unlisted before after
 
 -- ---- a lot stops
 
-pub lot_never_full : (before after : NodeState) (raws : List RawEvent) (earlier sent : List (List RawOut)) (c : Cause) → IsUnlisted before
-    → StopsUnlisted before raws earlier sent c after → c ≡ cause.JournalFull → ⊥
-lot_never_full before after raws earlier sent c h stops =
-    never_full_unlisted after stops.next c (lot_stays before after stops.handled earlier sent h stops.runs) stops.refuses
+pub lot_stops : (before after : NodeState) (raws : List RawEvent) (earlier sent : List (List RawOut)) (c : Cause)
+    → StopsUnlisted before raws earlier sent c after → EventsStop (Some (whole before.shards)) raws (stopped_by c)
+lot_stops before after raws earlier sent c stops =
+    refused_stops before after raws stops.handled stops.next stops.rest stops.runs.outs c stops.raws_are stops.runs.run stops.refuses
 
--- ---- events are handled one by one
+-- ---- each shard handles an event of its own
 
-pub each_stays : (before : NodeState) (events : List code.RawEvent) (printed : SoFar) (front back : List code.RawEvent) (here : NodeState)
-    (answers : SoFar)
-    → IsUnlisted before → Sending TakesUnlisted (λ o. o) before events printed front back here answers → IsUnlisted here
-each_stays before events printed front back here answers h sending = all_stay_unlisted before here (map raw_event front) sending.done sending.runs h
+-- the nth of these events is for shard n
+abbrev pub AreOwn : (ℕ → RawEvent) → Type 0
+AreOwn f = (directory : List ℕ → Option (List ℕ)) (n place : ℕ) → IsRouted directory (f n) place → place ≡ n
 
-pub each_stops : (before : NodeState) (events : List code.RawEvent) (printed : SoFar) (front all back : List code.RawEvent) (event : code.RawEvent)
-    (here : NodeState) (answers : SoFar) (c : Cause)
-    → Sending TakesUnlisted (λ o. o) before events printed front all here answers → all ≡ event ∷ back → Refuses here (raw_event event) c
-    → EventsStop (Some (whole before.shards)) (map raw_event events) (stopped_by c)
-each_stops before events printed front all back event here answers c h left refused =
-    refused_stops before here (map raw_event events) (map raw_event front) (raw_event event) (map raw_event back) h.done c
-    (ap (map raw_event) (sym (sending_split TakesUnlisted (λ o. o) before events printed front all back event here answers h left))
-    ∙ map-append raw_event front (event ∷ back))
-    (is_run_unlisted before here (map raw_event front) h.done h.runs) refused
+pub clocks_own : (now : ℕ) → AreOwn (λ n. RawClock n now)
+clocks_own now directory n place (machine.Clock shard t, is, routed) = sym routed ∙ is.0
+clocks_own now directory n place (machine.Frame from verdict, is, routed) = absurd is
+clocks_own now directory n place (machine.Expire shard, is, routed) = absurd is
+clocks_own now directory n place (machine.Operator imsi change, is, routed) = absurd is
 
-pub each_sends : (before : NodeState) (events : List code.RawEvent) (printed : SoFar) (front back : List code.RawEvent) (here : NodeState)
-    (answers : SoFar)
-    → IsUnlisted before → Sending TakesUnlisted (λ o. o) before events printed front back here answers → length back ≡ 0
-    → (outs : List (List RawOut)) × RunsAlone before (map raw_event events) outs here × Prints printed (flat_map (λ o. o) outs) answers
-each_sends before events printed front back here answers h sending none =
-    let ends = sending_ends TakesUnlisted (λ o. o) before events printed front back here answers sending none in
-    (ends.0, unlisted_alone before here (map raw_event events) ends.0 h ends.1, ends.2)
+pub expiries_own : AreOwn (λ n. RawExpire n)
+expiries_own directory n place (machine.Expire shard, is, routed) = sym routed ∙ is
+expiries_own directory n place (machine.Frame from verdict, is, routed) = absurd is
+expiries_own directory n place (machine.Clock shard t, is, routed) = absurd is
+expiries_own directory n place (machine.Operator imsi change, is, routed) = absurd is
+
+-- the journals of the first shards are empty
+abbrev pub AreEmptyTo : ℕ → NodeState → Type 0
+AreEmptyTo count node = (n : ℕ) (l : Log) → n < count → slice_get node.shards n ≡ Some l → l ≡ log l.state [] l.state
+
+-- the first shards have handled theirs
+pub record EachShard (f : ℕ → RawEvent) (before : NodeState) (printed : SoFar) (count : ℕ) (here : NodeState) (answers : SoFar) : Type 0 where
+  pub outs : List (List RawOut)
+  pub runs : Each TakesUnlisted before (map f (range_with_len 0 count)) outs here
+  pub prints : Prints printed (flat_map (λ o. o) outs) answers
+  pub empty : AreEmptyTo count here
+  pub keeps : 0 < count → NodeKeeps here
+
+pub each_shard_begins : (f : ℕ → RawEvent) (before : NodeState) (printed : SoFar) → EachShard f before printed 0 before printed
+each_shard_begins f before printed = record {
+  outs = [];
+  runs = refl;
+  prints = prints_none printed;
+  empty = λ n l lt at. absurd (omega (arith, lt));
+  keeps = λ lt. absurd (omega (arith, lt));
+}
+
+some_same : {X : Type 0} (x y : X) → Some x ≡ Some y → x ≡ y
+some_same x y e = cc
+
+empty_next : (f : ℕ → RawEvent) → AreOwn f → (here next : NodeState) (sent : List RawOut) (count : ℕ) → TakesUnlisted here (f count) sent next
+    → AreEmptyTo count here → AreEmptyTo (count + 1) next
+empty_next f own here next sent count takes empty =
+    subst (AreEmptyTo (count + 1)) (sym takes.changed) (λ n l lt at. go n l lt at (cases_eq count n))
+  where
+    place_is : takes.place ≡ count
+    place_is = own (directory_of here.directory) count takes.place takes.is_for.routed
+
+    go : (n : ℕ) (l : Log) → n < count + 1 → slice_get (set here.shards takes.place takes.next) n ≡ Some l → (count ≡ n) ⊎ (count ≡ n → ⊥)
+        → l ≡ log l.state [] l.state
+    go n l lt at (inl same) =
+        let there : slice_get (set here.shards takes.place takes.next) n ≡ Some takes.next =
+        ap (slice_get (set here.shards takes.place takes.next)) (sym (place_is ∙ same))
+        ∙ set_there here.shards takes.place takes.next (slice_get_within here.shards takes.place takes.shard takes.is_for.stands) in
+        let is : takes.next ≡ l = some_same takes.next l (sym there ∙ at) in
+        subst (λ (k : Log). k ≡ log k.state [] k.state) is takes.handles.empty
+    go n l lt at (inr ne) =
+        empty n l (omega (arith, lt, ne)) (sym (set_elsewhere here.shards takes.place n takes.next (λ e. ne (sym place_is ∙ e))) ∙ at)
+
+pub each_shard_more : (f : ℕ → RawEvent) → AreOwn f → (before : NodeState) (printed : SoFar) (count : ℕ) (here : NodeState) (answers : SoFar)
+    → EachShard f before printed count here answers
+    → (shard : ℕ) → shard ≡ count → (sent : List RawOut) (next : NodeState) (more : SoFar) → TakesUnlisted here (f shard) sent next
+    → Prints answers sent more → NodeKeeps next → EachShard f before printed (count + 1) next more
+each_shard_more f own before printed count here answers h shard same sent next more takes prints keeps = record {
+  outs = h.outs ++ sent ∷ [];
+  runs = subst (λ (raws : List RawEvent). Each TakesUnlisted before raws (h.outs ++ sent ∷ []) next) (sym (map-range_with_len_more f 0 count count (omega arith)))
+      (each_more TakesUnlisted before here next (map f (range_with_len 0 count)) h.outs (f count) sent h.runs own_takes);
+  prints = subst (λ (frames : List RawOut). Prints printed frames more) (sym (flat_join h.outs (sent ∷ []) ∙ ap (λ (l : List RawOut). flat_map (λ o. o) h.outs ++ l) (append-nil sent)))
+      (prints_join printed answers more (flat_map (λ o. o) h.outs) sent h.prints prints);
+  empty = empty_next f own here next sent count own_takes h.empty;
+  keeps = λ lt. keeps;
+}
+  where
+    own_takes : TakesUnlisted here (f count) sent next
+    own_takes = subst (λ (n : ℕ). TakesUnlisted here (f n) sent next) same takes
+
+all_empty : (count : ℕ) (here : NodeState) → count ≡ 16 → AreEmptyTo count here → (0 < count → NodeKeeps here) → IsUnlisted here
+all_empty count here all empty keeps = λ n l at.
+    let few : n < length here.shards = slice_get_within here.shards n l at in
+    let kept : NodeKeeps here = keeps (omega (arith, all)) in
+    empty n l (omega (arith, all, few, kept.shards.count)) at
+
+pub each_shard_ends : (f : ℕ → RawEvent) (before : NodeState) (printed : SoFar) (count : ℕ) (here : NodeState) (answers : SoFar) → count ≡ 16
+    → EachShard f before printed count here answers
+    → (outs : List (List RawOut)) × RunsAlone before (map f (range_with_len 0 16)) outs here × Prints printed (flat_map (λ o. o) outs) answers
+each_shard_ends f before printed count here answers all h = (
+  h.outs,
+  subst (λ (n : ℕ). RunsAlone before (map f (range_with_len 0 n)) h.outs here) all
+      (alone_unlisted before here (map f (range_with_len 0 count)) h.outs (all_empty count here all h.empty h.keeps) h.runs),
+  h.prints,
+)

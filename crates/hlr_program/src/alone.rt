@@ -1,16 +1,16 @@
 //! A register in one thread: its shards with their journals, and the arena in which frames are decoded.
 
 ghost use Rattle.std.specs.Prelude.{◌≡◌, ◌≢◌, ◌≤◌, ◌↔◌, [], List, IsTrue, IfOk, IfErr, OnOk, Some, map, length};
-ghost use Rattle.std.specs.List.{flat_map, list_all};
+ghost use Rattle.std.specs.List.{flat_map, list_all, range_with_len};
 ghost use Rattle.machine.specs.declared.numbers.TheConstants.{MAX_ENTRIES};
-ghost use Rattle.frames.specs.Octets.{RawOut};
+ghost use Rattle.frames.specs.Octets.{RawClock, RawExpire, RawOut};
 ghost use Rattle.hlrcore.specs.Events.{raw_event};
 ghost use Rattle.shardlog.specs.declared.entry.Handled.{Handled};
 ghost use Rattle.wholenode.specs.Keeping.{NodeKeeps};
 ghost use Rattle.wholenode.specs.Nodes.{whole};
 ghost use Rattle.wholenode.specs.Opening.{BeginsWith};
 ghost use Rattle.wholenode.specs.Handling.{Runs, sent_of};
-ghost use Rattle.wholenode.specs.Unlisted.{IsUnlisted};
+ghost use Rattle.wholenode.specs.Unlisted.{IsUnlisted, TakesUnlisted};
 ghost use Rattle.hlr_program.specs.Answered.{so_far};
 ghost use Rattle.hlr_program.specs.Printed.{Prints};
 ghost use Rattle.hlr_program.specs.Journals.{RunsAlone};
@@ -21,12 +21,13 @@ ghost use Rattle.hlr_program.specs.Stopping.{EventsStop};
 use crate::answers::Answers;
 use crate::fault::Fault;
 use bumpalo::Bump;
-use hlrcore::{OutList, RawEvent};
+use hlrcore::{Event, OutList, RawEvent, ShardNumber};
 use machine::numbers::{MAX_ENTRIES, SHARDS};
 use records::Loaded;
 use shardlog::Shard;
 use std::alloc::{AllocError, Global};
 use std::marker::Model;
+use std::mem;
 use wholenode::{Cause, Node};
 
 /// The sixteen shards, and an arena for one frame at a time.
@@ -36,7 +37,8 @@ pub struct Alone {
     bump: Bump,
     /// Whether the journals are listed at the end. Where they are not, nobody can see an entry, and none is kept, which spares time.
     listed: bool,
-    /// What the events of a lot send, where no entry is kept. The room is used again for the next lot.
+    /// The events of a lot once they are read, where no entry is kept, and what they send. The room is used again for the next lot.
+    read: Vec<Event>,
     sent: Vec<OutList>,
 }
 
@@ -67,6 +69,7 @@ impl Alone {
             node,
             bump: Bump::new(alloc),
             listed,
+            read: Vec::new(alloc),
             sent: Vec::new(alloc),
         })
     }
@@ -80,6 +83,7 @@ impl Alone {
             node,
             bump: _,
             listed: _,
+            read: _,
             sent: _,
         } = self;
         node.into_shards()
@@ -91,51 +95,122 @@ impl Alone {
         ensures made { MakesRoom self.old count self.new }
         ensures ran { RunsAlone self.old [] [] self.new }
     {
-        make_room(&mut self.node, count);
+        // Journals of which no entry is kept are empty.
+        if self.listed {
+            make_room(&mut self.node, count);
+        }
     }
 
-    /// Handles events, at most 65,536, and appends the lines of what they send. If the journals are listed, and one of them has no room
-    /// for that many more entries, all are cut first, so no journal is ever full. If they are not listed, they stay empty.
-    pub fn send_part(&mut self, part: Vec<RawEvent>, answers: &mut Answers) -> Result<(), Fault>
-        requires { length part.items ≤ MAX_ENTRIES }
+    /// Handles events, at most 65,536, and appends the lines of what they send. The list is empty then, and keeps its room. If the
+    /// journals are listed, and one of them has no room for that many more entries, all are cut first, so no journal is ever full. If
+    /// they are not listed, they stay empty.
+    pub fn send_part(
+        &mut self,
+        part: &mut Vec<RawEvent>,
+        answers: &mut Answers,
+    ) -> Result<(), Fault>
+        requires { length part.old.items ≤ MAX_ENTRIES }
         ensures sends { OnOk result ((outs : List (List RawOut))
-            × RunsAlone self.old (map raw_event part.items) outs self.new
+            × RunsAlone self.old (map raw_event part.old.items) outs self.new
             × Prints (so_far answers.old) (flat_map (λ o. o) outs) (so_far answers.new)) }
+        ensures taken { OnOk result (part.new.items ≡ []) }
         ensures stops { IfErr result (EventsStop (Some (whole self.old.shards))
-            (map raw_event part.items)) }
+            (map raw_event part.old.items)) }
     {
         if !self.listed {
             return self.send_unlisted(part, answers);
         }
+        let next = Vec::with_capacity(*part.allocator(), part.capacity())?;
+        let part = mem::replace(part, next);
         make_room(&mut self.node, part.len());
         send_listed(&mut self.node, &mut self.bump, part, answers)
     }
 
-    /// Handles events of which no entry is kept, and appends the lines of what they send, in the same two ways as `send_listed`.
-    fn send_unlisted(&mut self, part: Vec<RawEvent>, answers: &mut Answers) -> Result<(), Fault>
+    /// Handles events of which no entry is kept, and appends the lines of what they send.
+    fn send_unlisted(
+        &mut self,
+        part: &mut Vec<RawEvent>,
+        answers: &mut Answers,
+    ) -> Result<(), Fault>
         requires { IsUnlisted self.now }
         ensures sends { OnOk result ((outs : List (List RawOut))
-            × RunsAlone self.old (map raw_event part.items) outs self.new
+            × RunsAlone self.old (map raw_event part.old.items) outs self.new
             × Prints (so_far answers.old) (flat_map (λ o. o) outs) (so_far answers.new)) }
+        ensures taken { part.new.items ≡ [] }
         ensures stops { IfErr result (EventsStop (Some (whole self.old.shards))
-            (map raw_event part.items)) }
+            (map raw_event part.old.items)) }
     {
-        if need_reading(&part) {
-            // The lines of what the lot before has sent are made already.
-            self.sent.clear();
-            return match self.node.run_unlisted(&mut self.bump, part, &mut self.sent) {
-                Ok(()) => Ok(answers.push_lists(&self.sent)?),
-                Err(cause) => Err(stopped(cause)),
-            };
+        // The lines of what the lot before has sent are made already.
+        self.sent.clear();
+        let sent = &mut self.sent;
+        match self
+            .node
+            .run_unlisted(&mut self.bump, part, &mut self.read, sent)
+        {
+            Ok(()) => Ok(answers.push_lists(&self.sent)?),
+            Err(cause) => Err(stopped(cause)),
         }
-        for raw in part {
-            let outs = match self.node.handle_unlisted(&mut self.bump, raw) {
-                Ok(outs) => outs,
-                Err(cause) => return Err(stopped(cause)),
-            };
-            answers.push_all(outs.as_slice())?;
+    }
+
+    /// Whether journals have an entry of each event: where they are listed at the end.
+    pub fn keeps_entries(&self) -> bool {
+        self.listed
+    }
+
+    /// Handles a clock value in each shard, and appends the lines of what is sent. No entry is kept: each journal is empty behind it.
+    pub fn tick_each(&mut self, now: u64, answers: &mut Answers) -> Result<(), Fault>
+        ensures sends { OnOk result ((outs : List (List RawOut))
+            × RunsAlone self.old (map (λ n. RawClock n now) (range_with_len 0 16)) outs self.new
+            × Prints (so_far answers.old) (flat_map (λ o. o) outs) (so_far answers.new)) }
+        ensures stops { IfErr result (λ fault. fault ≡ Fault.Memory) }
+    {
+        for number in 0..SHARDS {
+            let shard = ShardNumber::new(number).unwrap();
+            self.tick(shard, now, answers)?;
         }
         Ok(())
+    }
+
+    /// Handles an expiry in each shard, as `tick_each` does a clock value.
+    pub fn expire_each(&mut self, answers: &mut Answers) -> Result<(), Fault>
+        ensures sends { OnOk result ((outs : List (List RawOut))
+            × RunsAlone self.old (map (λ n. RawExpire n) (range_with_len 0 16)) outs self.new
+            × Prints (so_far answers.old) (flat_map (λ o. o) outs) (so_far answers.new)) }
+        ensures stops { IfErr result (λ fault. fault ≡ Fault.Memory) }
+    {
+        for number in 0..SHARDS {
+            let shard = ShardNumber::new(number).unwrap();
+            self.expire(shard, answers)?;
+        }
+        Ok(())
+    }
+
+    /// Handles a clock value in one shard, and keeps no entry of it.
+    fn tick(&mut self, shard: ShardNumber, now: u64, answers: &mut Answers) -> Result<(), Fault>
+        ensures takes { OnOk result ((sent : List RawOut)
+            × TakesUnlisted self.old (RawClock shard now) sent self.new
+            × Prints (so_far answers.old) sent (so_far answers.new)) }
+        ensures keeps { NodeKeeps self.new }
+        ensures stops { IfErr result (λ fault. fault ≡ Fault.Memory) }
+    {
+        match self.node.tick_unlisted(shard, now) {
+            Ok(outs) => Ok(answers.push_all(outs.as_slice())?),
+            Err(_) => Err(Fault::Memory),
+        }
+    }
+
+    /// Handles an expiry in one shard, and keeps no entry of it.
+    fn expire(&mut self, shard: ShardNumber, answers: &mut Answers) -> Result<(), Fault>
+        ensures takes { OnOk result ((sent : List RawOut)
+            × TakesUnlisted self.old (RawExpire shard) sent self.new
+            × Prints (so_far answers.old) sent (so_far answers.new)) }
+        ensures keeps { NodeKeeps self.new }
+        ensures stops { IfErr result (λ fault. fault ≡ Fault.Memory) }
+    {
+        match self.node.expire_unlisted(shard) {
+            Ok(outs) => Ok(answers.push_all(outs.as_slice())?),
+            Err(_) => Err(Fault::Memory),
+        }
     }
 }
 

@@ -27,14 +27,12 @@ use hlr_types::{Peer, Tid};
 use hlrcore::{Change, RawEvent, ShardNumber};
 use machine::numbers::{MAX_ENTRIES, SHARDS};
 use std::alloc::{AllocError, Global};
-use std::mem;
 use std::sync::Wait;
 use std::thread::Threads;
 
 /// A batch that is being handled. It serves for all batches of a script, so that its room is used again.
 #[derive(Drop)]
 pub struct Pending {
-    alloc: Global,
     /// The events that are gathered, and not handled yet.
     pub gathered: Vec<RawEvent>,
     /// The lines of what those before them have sent.
@@ -52,7 +50,6 @@ impl Pending {
         ensures letters { result.answers.letters ≡ [] }
     {
         Pending {
-            alloc,
             gathered: Vec::new(alloc),
             answers: Answers::new(alloc),
             ahead: 0,
@@ -97,9 +94,7 @@ impl Pending {
             return Ok(());
         }
         self.begin_part(register);
-        let next = Vec::with_capacity(self.alloc, self.gathered.capacity())?;
-        let gathered = mem::replace(&mut self.gathered, next);
-        register.send_part(rt, gathered, &mut self.answers)
+        register.send_part(rt, &mut self.gathered, &mut self.answers)
     }
 
     /// Where the events that are gathered begin a part of the batch: cuts the journals, if one of them has no room for all events of
@@ -156,7 +151,12 @@ pub fn handle_batch<'a, R: Threads + Wait + Sync>(
         (batch_of (lines from.entry.rest.now))) }
 {
     check_letters(alloc, from, ids.len())?;
-    batch.ahead = count_events(from);
+    // Only for entries room is made in the journals, before each part of so many events.
+    batch.ahead = if register.keeps_entries() {
+        count_events(from)
+    } else {
+        0
+    };
     batch.room = 0;
     let behind = handle_lines(rt, alloc, register, batch, from, ids)?;
     batch.run(rt, register)?;
@@ -315,8 +315,29 @@ fn frame(alloc: Global, from: Peer, octets: &[u8], ids: &[Tid]) -> Result<RawEve
     }
 }
 
-/// A clock value is one event for each shard.
+/// A clock value is one event for each shard. Where no entry is kept, these are handled at once, behind those that are gathered.
 fn add_clocks<R: Threads + Wait + Sync>(
+    rt: &R,
+    register: &mut Register,
+    batch: &mut Pending,
+    now: u64,
+) -> Result<(), Fault>
+    requires few { length batch.now.gathered.items ≤ MAX_ENTRIES }
+    ensures adds { OnOk result (Adds (progress register.old batch.old)
+        (map (λ n. RawClock n now) (range_with_len 0 16)) (progress register.new batch.new)) }
+    ensures few { OnOk result (length batch.new.gathered.items ≤ MAX_ENTRIES) }
+    ensures stops { IfErr result (AddingStops (progress register.old batch.old)
+        (map (λ n. RawClock n now) (range_with_len 0 16))) }
+{
+    if register.keeps_entries() {
+        return gather_clocks(rt, register, batch, now);
+    }
+    batch.run(rt, register)?;
+    register.tick_each(now, &mut batch.answers)
+}
+
+/// Gathers a clock value for each shard.
+fn gather_clocks<R: Threads + Wait + Sync>(
     rt: &R,
     register: &mut Register,
     batch: &mut Pending,
@@ -336,8 +357,28 @@ fn add_clocks<R: Threads + Wait + Sync>(
     Ok(())
 }
 
-/// An expiry is one event for each shard.
+/// An expiry is one event for each shard. Where no entry is kept, these are handled at once, behind those that are gathered.
 fn add_expiries<R: Threads + Wait + Sync>(
+    rt: &R,
+    register: &mut Register,
+    batch: &mut Pending,
+) -> Result<(), Fault>
+    requires few { length batch.now.gathered.items ≤ MAX_ENTRIES }
+    ensures adds { OnOk result (Adds (progress register.old batch.old)
+        (map (λ n. RawExpire n) (range_with_len 0 16)) (progress register.new batch.new)) }
+    ensures few { OnOk result (length batch.new.gathered.items ≤ MAX_ENTRIES) }
+    ensures stops { IfErr result (AddingStops (progress register.old batch.old)
+        (map (λ n. RawExpire n) (range_with_len 0 16))) }
+{
+    if register.keeps_entries() {
+        return gather_expiries(rt, register, batch);
+    }
+    batch.run(rt, register)?;
+    register.expire_each(&mut batch.answers)
+}
+
+/// Gathers an expiry for each shard.
+fn gather_expiries<R: Threads + Wait + Sync>(
     rt: &R,
     register: &mut Register,
     batch: &mut Pending,

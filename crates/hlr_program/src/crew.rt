@@ -1,6 +1,6 @@
 //! A register that worker threads share, with their number.
 
-ghost use Rattle.std.specs.Prelude.{◌≤◌, [], List, None, IfOk, IfErr, OnOk, map, length};
+ghost use Rattle.std.specs.Prelude.{◌≡◌, ◌≤◌, [], List, None, IfOk, IfErr, OnOk, map, length};
 ghost use Rattle.std.specs.List.{flat_map};
 ghost use Rattle.machine.specs.declared.numbers.TheConstants.{MAX_ENTRIES};
 ghost use Rattle.frames.specs.Octets.{RawEvent as Event, RawOut};
@@ -19,6 +19,7 @@ use records::Loaded;
 use shardlog::Shard;
 use std::alloc::{AllocError, Global};
 use std::marker::Model;
+use std::mem;
 use std::sync::Wait;
 use std::thread::Threads;
 use workers::SharedRegister;
@@ -58,19 +59,23 @@ impl Crew {
         })
     }
 
-    /// Handles a part of a batch, and appends the lines of what it sends, event by event in order.
+    /// Handles a part of a batch, and appends the lines of what it sends, event by event in order. The part is empty then, and has room
+    /// for as many events.
     pub fn send_part<R: Threads + Wait + Sync>(
         &mut self,
         rt: &R,
-        part: Vec<RawEvent>,
+        part: &mut Vec<RawEvent>,
         answers: &mut Answers,
     ) -> Result<(), Fault>
-        requires { length part.items ≤ MAX_ENTRIES }
+        requires { length part.old.items ≤ MAX_ENTRIES }
         ensures sends { OnOk result ((outs : List (List RawOut))
-            × GoesOn self.old (map raw_event part.items) outs self.new
+            × GoesOn self.old (map raw_event part.old.items) outs self.new
             × Prints (so_far answers.old) (flat_map (λ o. o) outs) (so_far answers.new)) }
-        ensures stops { IfErr result (EventsStop None (map raw_event part.items)) }
+        ensures taken { OnOk result (part.new.items ≡ []) }
+        ensures stops { IfErr result (EventsStop None (map raw_event part.old.items)) }
     {
+        let next = Vec::with_capacity(self.alloc, part.capacity())?;
+        let part = mem::replace(part, next);
         let mut sent = Vec::new(self.alloc);
         match self.register.run_part(rt, self.workers, part, &mut sent) {
             Ok(()) => Ok(answers.push_lists(&sent)?),

@@ -28,8 +28,10 @@ pub enum Register {
 }
 
 impl Register {
-    ghost use Rattle.std.specs.Prelude.{◌≤◌, [], IfOk, IfErr, OnOk, map, length};
+    ghost use Rattle.std.specs.Prelude.{◌≡◌, ◌≤◌, [], false, IfOk, IfErr, OnOk, map, length};
+    ghost use Rattle.std.specs.List.{range_with_len};
     ghost use Rattle.machine.specs.declared.numbers.TheConstants.{MAX_ENTRIES};
+    ghost use Rattle.frames.specs.Octets.{RawClock, RawExpire};
     ghost use Rattle.hlrcore.specs.Events.{raw_event};
     ghost use Rattle.hlr_program.specs.Answered.{so_far};
     ghost use Rattle.hlr_program.specs.Registers.{BeginsPart, HandsOver, IsOf, OpensWith, RunsTo, SendsPart, state_known};
@@ -79,22 +81,60 @@ impl Register {
         }
     }
 
-    /// Handles events of a part of a batch, and appends the lines of what they send.
+    /// Handles events of a part of a batch, and appends the lines of what they send. The list is empty then, and keeps its room.
     pub fn send_part<R: Threads + Wait + Sync>(
         &mut self,
         rt: &R,
-        part: Vec<RawEvent>,
+        part: &mut Vec<RawEvent>,
         answers: &mut Answers,
     ) -> Result<(), Fault>
-        requires { length part.items ≤ MAX_ENTRIES }
-        ensures sends { OnOk result (SendsPart self.old (map raw_event part.items)
+        requires { length part.old.items ≤ MAX_ENTRIES }
+        ensures sends { OnOk result (SendsPart self.old (map raw_event part.old.items)
             (so_far answers.old) self.new (so_far answers.new)) }
+        ensures taken { OnOk result (part.new.items ≡ []) }
         ensures stops { IfErr result (EventsStop (state_known self.old)
-            (map raw_event part.items)) }
+            (map raw_event part.old.items)) }
     {
         match self {
             Register::Alone(alone) => alone.send_part(part, answers),
             Register::Shared(crew) => crew.send_part(rt, part, answers),
+        }
+    }
+
+    /// Whether journals have an entry of each event: with workers always, and in one thread where they are listed at the end.
+    pub fn keeps_entries(&self) -> bool
+        ensures { result ≡ false → IsOf 0 self.now }
+    {
+        match self {
+            Register::Alone(alone) => alone.keeps_entries(),
+            Register::Shared(_) => true,
+        }
+    }
+
+    /// Handles a clock value in each shard, in one thread, and appends the lines of what is sent. No entry is kept: each journal is empty
+    /// behind it.
+    pub fn tick_each(&mut self, now: u64, answers: &mut Answers) -> Result<(), Fault>
+        requires { IsOf 0 self.old }
+        ensures sends { OnOk result (SendsPart self.old (map (λ n. RawClock n now) (range_with_len 0 16))
+            (so_far answers.old) self.new (so_far answers.new)) }
+        ensures stops { IfErr result (λ fault. fault ≡ Fault.Memory) }
+    {
+        match self {
+            Register::Alone(alone) => alone.tick_each(now, answers),
+            Register::Shared(_) => unreachable!(),
+        }
+    }
+
+    /// Handles an expiry in each shard, as `tick_each` does a clock value.
+    pub fn expire_each(&mut self, answers: &mut Answers) -> Result<(), Fault>
+        requires { IsOf 0 self.old }
+        ensures sends { OnOk result (SendsPart self.old (map (λ n. RawExpire n) (range_with_len 0 16))
+            (so_far answers.old) self.new (so_far answers.new)) }
+        ensures stops { IfErr result (λ fault. fault ≡ Fault.Memory) }
+    {
+        match self {
+            Register::Alone(alone) => alone.expire_each(answers),
+            Register::Shared(_) => unreachable!(),
         }
     }
 

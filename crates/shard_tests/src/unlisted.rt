@@ -116,9 +116,10 @@ fn run(alloc: Global) -> Option<Vec<Handled>> {
 }
 
 fn run_unlisted(alloc: Global) -> Option<Vec<OutList>> {
-    let mut sent = Vec::new(alloc);
-    let mut node = node(alloc)?;
-    node.run_unlisted(&mut Bump::new(alloc), events(alloc)?, &mut sent)
+    let (mut events, mut read, mut sent) = (events(alloc)?, Vec::new(alloc), Vec::new(alloc));
+    let mut bump = Bump::new(alloc);
+    node(alloc)?
+        .run_unlisted(&mut bump, &mut events, &mut read, &mut sent)
         .ok()?;
     Some(sent)
 }

@@ -1,6 +1,6 @@
 //! The sixteen shards of a register, in one thread.
 
-ghost use Rattle.std.specs.Prelude.{◌≡◌, ◌<◌, [], map, IfOk, IfErr, OnOk, OnErr};
+ghost use Rattle.std.specs.Prelude.{◌≡◌, ◌≢◌, ◌<◌, [], map, Err, IfOk, IfErr, OnOk, OnErr};
 ghost use Rattle.frames.specs.Octets.{IsEvent, RawClock, RawExpire};
 ghost use Rattle.hlrcore.specs.Events.{event_of, raw_event, raw_of};
 ghost use Rattle.wholenode.specs.Nodes.{NodeState, whole};
@@ -268,19 +268,48 @@ impl Node {
     /// Handles events as `run_owned` does, but keeps no entry of them: the journal of each shard that handles one is dropped, and is empty
     /// behind it. What is sent for each event is put behind `sent`. It stops at the first event that is not handled; the register and
     /// `sent` are then as the events before it leave them. A full journal refuses nothing.
+    ///
+    /// `events` is empty behind it, and so is `read`, in which the events stand once they are read: both keep their room, so that the
+    /// next ones need none of their own.
     pub fn run_unlisted(
         &mut self,
         bump: &mut Bump,
-        events: Vec<RawEvent>,
+        events: &mut Vec<RawEvent>,
+        read: &mut Vec<Event>,
         sent: &mut Vec<OutList>,
     ) -> Result<(), Cause>
-        ensures runs { OnOk result (RunsUnlisted self.old (map raw_event events.items)
+        ensures runs { OnOk result (RunsUnlisted self.old (map raw_event events.old.items)
             sent.old.items sent.new.items self.new) }
         ensures stops { IfErr result (λ cause. StopsUnlisted self.old
-            (map raw_event events.items) sent.old.items sent.new.items cause self.new) }
+            (map raw_event events.old.items) sent.old.items sent.new.items cause self.new) }
+        ensures never_full { result ≢ Err Cause.JournalFull }
+        ensures emptied { (events.new.items ≡ []) × (read.new.items ≡ []) }
         ensures keeps { NodeKeeps self.new }
     {
-        let mut read = read_all(self.alloc, bump, events)?;
+        read.clear();
+        let handled = self.read_and_run(bump, events, read, sent);
+        read.clear();
+        handled
+    }
+
+    /// The same, but what was read is left as it is.
+    fn read_and_run(
+        &mut self,
+        bump: &mut Bump,
+        events: &mut Vec<RawEvent>,
+        read: &mut Vec<Event>,
+        sent: &mut Vec<OutList>,
+    ) -> Result<(), Cause>
+        requires { read.old.items ≡ [] }
+        ensures runs { OnOk result (RunsUnlisted self.old (map raw_event events.old.items)
+            sent.old.items sent.new.items self.new) }
+        ensures stops { IfErr result (λ cause. StopsUnlisted self.old
+            (map raw_event events.old.items) sent.old.items sent.new.items cause self.new) }
+        ensures never_full { result ≢ Err Cause.JournalFull }
+        ensures emptied { events.new.items ≡ [] }
+        ensures keeps { NodeKeeps self.new }
+    {
+        read_taken(self.alloc, bump, events, read)?;
         for event in read.iter_mut() {
             sent.reserve(1)?;
             let outs = self.handle_read_unlisted(event)?;
@@ -291,11 +320,12 @@ impl Node {
         Ok(())
     }
 
-    /// Handles an event as `handle_owned` does, but keeps no entry of it: the journal of its shard is dropped, and is empty behind it. On
-    /// error nothing changes.
+    /// Handles an event as `handle_owned` does, but keeps no entry of it: the journal of its shard is dropped, and is empty behind it. A
+    /// full journal refuses nothing. On error nothing changes.
     pub fn handle_unlisted(&mut self, bump: &mut Bump, raw: RawEvent) -> Result<OutList, Cause>
         ensures takes { IfOk result (λ sent. TakesUnlisted self.old (raw_event raw) sent self.new) }
         ensures refused { IfErr result (λ cause. Refuses self.old (raw_event raw) cause) }
+        ensures never_full { result ≢ Err Cause.JournalFull }
         ensures err { OnErr result (self.new ≡ self.old) }
         ensures keeps { NodeKeeps self.new }
     {
@@ -307,9 +337,10 @@ impl Node {
     }
 
     /// The same for the expiry of a shard.
-    fn expire_unlisted(&mut self, number: ShardNumber) -> Result<OutList, Cause>
+    pub fn expire_unlisted(&mut self, number: ShardNumber) -> Result<OutList, Cause>
         ensures takes { IfOk result (λ sent. TakesUnlisted self.old (RawExpire number) sent self.new) }
         ensures refused { IfErr result (λ cause. Refuses self.old (RawExpire number) cause) }
+        ensures memory { OnErr result (result ≡ Err Cause.Memory) }
         ensures err { OnErr result (self.new ≡ self.old) }
         ensures keeps { NodeKeeps self.new }
     {
@@ -321,10 +352,11 @@ impl Node {
         }
     }
 
-    /// The same for a clock value.
-    fn tick_unlisted(&mut self, number: ShardNumber, now: u64) -> Result<OutList, Cause>
+    /// The same for a clock value of a shard.
+    pub fn tick_unlisted(&mut self, number: ShardNumber, now: u64) -> Result<OutList, Cause>
         ensures takes { IfOk result (λ sent. TakesUnlisted self.old (RawClock number now) sent self.new) }
         ensures refused { IfErr result (λ cause. Refuses self.old (RawClock number now) cause) }
+        ensures memory { OnErr result (result ≡ Err Cause.Memory) }
         ensures err { OnErr result (self.new ≡ self.old) }
         ensures keeps { NodeKeeps self.new }
     {
@@ -340,6 +372,7 @@ impl Node {
     fn read_unlisted(&mut self, bump: &mut Bump, raw: RawEvent) -> Result<OutList, Cause>
         ensures takes { IfOk result (λ sent. TakesUnlisted self.old (raw_event raw) sent self.new) }
         ensures refused { IfErr result (λ cause. Refuses self.old (raw_event raw) cause) }
+        ensures never_full { result ≢ Err Cause.JournalFull }
         ensures err { OnErr result (self.new ≡ self.old) }
         ensures keeps { NodeKeeps self.new }
     {
@@ -356,6 +389,7 @@ impl Node {
         requires { IsEvent (raw_of event.now) (event_of event.now) }
         ensures takes { IfOk result (λ sent. TakesUnlisted self.old (raw_of event.now) sent self.new) }
         ensures refused { IfErr result (λ cause. Refuses self.old (raw_of event.now) cause) }
+        ensures never_full { result ≢ Err Cause.JournalFull }
         ensures err { OnErr result (self.new ≡ self.old) }
         ensures keeps { NodeKeeps self.new }
     {
@@ -367,6 +401,33 @@ impl Node {
             Err(fault) => Err(refusal(fault)),
         }
     }
+}
+
+/// Reads events that are taken out of their list, each frame decoded in the arena.
+fn read_taken(
+    alloc: Global,
+    bump: &mut Bump,
+    events: &mut Vec<RawEvent>,
+    read: &mut Vec<Event>,
+) -> Result<(), Cause>
+    requires { read.old.items ≡ [] }
+    ensures read { OnOk result (AreRead (map raw_event events.old.items) read.new.items) }
+    // Whatever the register is, it stops at the first of them.
+    ensures stops { IfErr result (λ cause. (node : NodeState)
+        → Stops node (map raw_event events.old.items) [] cause node) }
+    ensures never_full { result ≢ Err Cause.JournalFull }
+    ensures emptied { events.new.items ≡ [] }
+{
+    for raw in events.drain(..) {
+        if read.reserve(1).is_err() {
+            return Err(Cause::Memory);
+        }
+        match Event::of_owned(alloc, bump, raw) {
+            Ok(event) => read.push_reserved(event),
+            Err(fault) => return Err(unread(&fault)),
+        }
+    }
+    Ok(())
 }
 
 /// Reads events, each frame decoded in the arena. On error the events are dropped.

@@ -1,33 +1,23 @@
-use Rattle.std.proofs.Common.{◌≡◌, ℕ, map, rules, subst, arith}
+use Rattle.std.proofs.Common.{◌≡◌, [], List, map, ap}
 use Rattle.std.specs.List.{range_with_len}
-use Rattle.frames.specs.Octets.{RawExpire}
-use Rattle.hlr_program.specs.Gathering.{Adds, AddingStops, progress}
-use Rattle.hlr_program.proofs.GatherLemmas.{adds_none, each_more, each_stops, passed_on}
+use Rattle.frames.specs.Octets.{RawExpire, RawEvent}
+use Rattle.hlrcore.specs.Events.{raw_event}
+use Rattle.hlr_program.specs.Answered.{so_far}
+use Rattle.hlr_program.specs.Gathering.{Progress, progress}
+use Rattle.hlr_program.proofs.GatherLemmas.{adds_join, adds_sent}
+use Rattle.hlr_program.proofs.ListLemmas.{then_on}
 use Rattle.hlr_program.proofs.batch.add_expiries.Goals as goal
-
-pub loop-number-init : goal.loop-number-init
-loop-number-init g c = (adds_none (progress c.args.register.now c.args.batch.now), c.requires.few)
-
-pub loop-number-preserved : goal.loop-number-preserved
-loop-number-preserved g c =
-    let same : c.unwrap-shard.result ≡ c.loop-number.number = search rules in (
-      each_more (λ n. RawExpire n) c.loop-number.number c.unwrap-shard.result (progress c.args.register.now c.args.batch.now)
-          (progress c.loop-number.register c.loop-number.batch)
-          (progress c.add.new.register c.add.new.self) c.loop-number.invariant.0 same c.in_ok-add.ensures.adds,
-      c.in_ok-add.ensures.few,
-    )
 
 pub returns-clause-adds : goal.returns-clause-adds
 returns-clause-adds g c =
-    let all : c.loop-number.number ≡ 16 = omega arith in
-    subst (λ (k : ℕ). Adds (progress c.args.register.now c.args.batch.now) (map (λ n. RawExpire n) (range_with_len 0 k))
-    (progress c.loop-number.register c.loop-number.batch)) all c.loop-number.invariant.0
-
-pub returns-in_err-add-clause-stops : goal.returns-in_err-add-clause-stops
-returns-in_err-add-clause-stops g c =
-    let same : c.unwrap-shard.result ≡ c.loop-number.number = search rules in
-    passed_on c.from_residual.result c.in_err-add.field-0.0 (AddingStops (progress c.args.register.now c.args.batch.now)
-    (map (λ n. RawExpire n) (range_with_len 0 16))) c.from_residual.ensures.1
-    (each_stops (λ n. RawExpire n) c.loop-number.number c.unwrap-shard.result (progress c.args.register.now c.args.batch.now)
-    (progress c.loop-number.register c.loop-number.batch)
-    c.in_err-add.field-0.0 (omega arith) c.loop-number.invariant.0 same c.in_err-add.ensures.stops)
+    let start : Progress = progress c.args.register.now c.args.batch.now in
+    let ready : Progress = progress c.run.new.register c.run.new.self in
+    let end : Progress = record {
+      register = c.expire_each.new.self;
+      part = map raw_event c.run.new.self.gathered.items;
+      answers = so_far c.expire_each.new.answers;
+    } in
+    let none : ready.part ≡ [] = ap (map raw_event) c.in_ok-run.ensures.none in
+    let raws : List RawEvent = map (λ n. RawExpire n) (range_with_len 0 16) in
+    then_on c.expire_each.result c.expire_each.ensures.sends
+    (λ (outs, ran, prints). adds_join start ready end [] raws c.in_ok-run.ensures.adds (adds_sent ready end raws outs none none ran prints))

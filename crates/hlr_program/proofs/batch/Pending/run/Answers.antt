@@ -1,13 +1,11 @@
-use Rattle.std.proofs.Common.{Vec, [], map, ap, subst, ◌∙◌}
-use Rattle.std.specs.Global.{Global}
-use Rattle.hlrcore.specs.declared.event.RawEvent as code
+use Rattle.std.proofs.Common.{[], map, ap}
 use Rattle.hlrcore.specs.Events.{raw_event}
 use Rattle.hlr_program.specs.Answered.{so_far}
 use Rattle.hlr_program.specs.Gathering.{AddingStops, Progress, progress}
-use Rattle.hlr_program.specs.Registers.{RunsTo, state_known}
+use Rattle.hlr_program.specs.Registers.{state_known}
 use Rattle.hlr_program.specs.Stopping.{EventsStop}
 use Rattle.hlr_program.proofs.GatherLemmas.{adds_join, adds_none, adds_part, stops_join, stops_part}
-use Rattle.hlr_program.proofs.ListLemmas.{else_on, then_on}
+use Rattle.hlr_program.proofs.ListLemmas.{else_on, then_both}
 use Rattle.hlr_program.proofs.batch.Pending.run.Goals as goal
 
 pub returns-then-is_empty-clause-adds : goal.returns-then-is_empty-clause-adds
@@ -19,22 +17,16 @@ returns-clause-adds g c =
     let made : Progress = progress c.begin_part.new.register c.begin_part.new.self in
     let end : Progress = record {
       register = c.send_part.new.self;
-      part = map raw_event c.replace-gathered.new.dest.items;
+      part = map raw_event c.send_part.new.part.items;
       answers = so_far c.send_part.new.answers;
     } in
-    then_on c.send_part.result c.send_part.ensures.sends
-    (λ (outs, ran, prints). adds_join start made end [] [] c.begin_part.ensures.adds (adds_part made end outs
-    (subst (λ (v : Vec code.RawEvent Global). RunsTo c.begin_part.new.register (map raw_event v.items) outs c.send_part.new.self)
-    c.replace-gathered.ensures.value ran)
-    (ap (λ (v : Vec code.RawEvent Global). map raw_event v.items) c.replace-gathered.ensures.after ∙ ap (map raw_event) c.in_ok-next.ensures.items)
-    prints))
+    then_both c.send_part.result c.send_part.ensures.sends c.send_part.ensures.taken
+    (λ (outs, ran, prints) taken. adds_join start made end [] [] c.begin_part.ensures.adds
+    (adds_part made end outs ran (ap (map raw_event) taken) prints))
 
 pub returns-clause-stops : goal.returns-clause-stops
 returns-clause-stops g c =
     let start : Progress = progress c.args.register.now c.args.self.now in
     let made : Progress = progress c.begin_part.new.register c.begin_part.new.self in
-    else_on (EventsStop (state_known c.begin_part.new.register) (map raw_event c.replace-gathered.result.items)) (AddingStops start []) c.send_part.result
-    c.send_part.ensures.stops
-    (λ fault stops. stops_join start made [] [] fault c.begin_part.ensures.adds (stops_part made [] fault
-    (subst (λ (v : Vec code.RawEvent Global). EventsStop (state_known c.begin_part.new.register) (map raw_event v.items) fault)
-    c.replace-gathered.ensures.value stops)))
+    else_on (EventsStop (state_known c.begin_part.new.register) made.part) (AddingStops start []) c.send_part.result
+    c.send_part.ensures.stops (λ fault stops. stops_join start made [] [] fault c.begin_part.ensures.adds (stops_part made [] fault stops))

@@ -8,23 +8,23 @@ use Rattle.wholenode.specs.Unlisted.{StopsUnlisted}
 use Rattle.wholenode.proofs.ReadLemmas.{reading_event}
 use Rattle.wholenode.proofs.UnlistedLemmas.{if_err, sending_at, sending_begins, sending_ends, sending_goes_on, sending_stops, stops_before_all}
 use Rattle.wholenode.proofs.WholeLemmas.{keeps_seen}
-use Rattle.wholenode.proofs.node.Node.run_unlisted.Goals as goal
+use Rattle.wholenode.proofs.node.Node.read_and_run.Goals as goal
 
-pub returns-in_err-read-clause-keeps : goal.returns-in_err-read-clause-keeps
-returns-in_err-read-clause-keeps c = keeps_seen _ _ _ c.self.view_is c.self.invariant
+pub returns-in_err-read_taken-clause-keeps : goal.returns-in_err-read_taken-clause-keeps
+returns-in_err-read_taken-clause-keeps c = keeps_seen _ _ _ c.self.view_is c.self.invariant
 
-pub returns-in_err-read-clause-stops : goal.returns-in_err-read-clause-stops
-returns-in_err-read-clause-stops c =
-    if_err c.from_residual.result c.in_err-read.field-0.0
-    (λ cause. StopsUnlisted c.args.self.now (map raw_event c.args.events.items) c.args.sent.now.items c.args.sent.now.items cause c.args.self.now)
+pub returns-in_err-read_taken-clause-stops : goal.returns-in_err-read_taken-clause-stops
+returns-in_err-read_taken-clause-stops c =
+    if_err c.from_residual.result c.in_err-read_taken.field-0.0
+    (λ cause. StopsUnlisted c.args.self.now (map raw_event c.args.events.now.items) c.args.sent.now.items c.args.sent.now.items cause c.args.self.now)
     c.from_residual.ensures.1
-    (stops_before_all c.args.self.now (map raw_event c.args.events.items) c.args.sent.now.items c.in_err-read.field-0.0
-    (c.in_err-read.ensures.stops c.args.self.now))
+    (stops_before_all c.args.self.now (map raw_event c.args.events.now.items) c.args.sent.now.items c.in_err-read_taken.field-0.0
+    (c.in_err-read_taken.ensures.stops c.args.self.now))
 
 pub loop-event-init : goal.loop-event-init
 loop-event-init c =
-    sending_begins c.args.self.now (map raw_event c.args.events.items) c.args.sent.now.items c.deref_mut-event-items.result.now
-    (subst (λ (es : List Event). AreRead (map raw_event c.args.events.items) es) (sym c.deref_mut-event-items.ensures.value) c.in_ok-read.ensures.read)
+    sending_begins c.args.self.now (map raw_event c.args.events.now.items) c.args.sent.now.items c.deref_mut-event-items.result.now
+    (subst (λ (es : List Event). AreRead (map raw_event c.args.events.now.items) es) (sym c.deref_mut-event-items.ensures.value) c.in_ok-read_taken.ensures.read)
     (keeps_seen _ _ _ c.self.view_is c.self.invariant)
 
 pub returns-in_err-reserve-clause-stops : goal.returns-in_err-reserve-clause-stops
@@ -33,7 +33,7 @@ returns-in_err-reserve-clause-stops c =
     let at = sending_at _ _ _ _ c.loop-event.event-items c.loop-event.event-index c.event-item.result _ within c.loop-event.invariant in
     rw c.in_err-reserve.ensures.items
     (if_err c.from_residual-in_err-reserve.result Memory
-    (λ cause. StopsUnlisted c.args.self.now (map raw_event c.args.events.items) c.args.sent.now.items c.loop-event.sent.items cause c.loop-event.self)
+    (λ cause. StopsUnlisted c.args.self.now (map raw_event c.args.events.now.items) c.args.sent.now.items c.loop-event.sent.items cause c.loop-event.self)
     c.from_residual-in_err-reserve.ensures.1 (sending_stops _ _ _ _ _ _ _ at Memory tt))
 
 pub handle_read_unlisted-requires : goal.handle_read_unlisted-requires
@@ -48,7 +48,7 @@ returns-in_err-outs-clause-stops c =
     let at = sending_at _ _ _ _ c.loop-event.event-items c.loop-event.event-index c.event-item.result _ within c.loop-event.invariant in
     rw c.in_ok-reserve.ensures.items (rw c.in_err-outs.ensures.err
     (if_err c.from_residual-in_err-outs.result c.in_err-outs.field-0.0
-    (λ cause. StopsUnlisted c.args.self.now (map raw_event c.args.events.items) c.args.sent.now.items c.loop-event.sent.items cause c.loop-event.self)
+    (λ cause. StopsUnlisted c.args.self.now (map raw_event c.args.events.now.items) c.args.sent.now.items c.loop-event.sent.items cause c.loop-event.self)
     c.from_residual-in_err-outs.ensures.1 (sending_stops _ _ _ _ _ _ _ at c.in_err-outs.field-0.0 c.in_err-outs.ensures.refused)))
 
 pub loop-event-preserved : goal.loop-event-preserved

@@ -1,7 +1,7 @@
 use Rattle.std.proofs.Common.{drop, map}
 use Rattle.hlrcore.specs.Events.{raw_event}
 use Rattle.wholenode.proofs.UnlistedLemmas.{Sending}
-use Rattle.wholenode.proofs.node.Node.run_unlisted.Given as goal
+use Rattle.wholenode.proofs.node.Node.read_and_run.Given as goal
 
 abbrev pub invariant-loop-event : goal.invariant-loop-event
 invariant-loop-event l =
