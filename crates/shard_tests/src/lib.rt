@@ -1,5 +1,5 @@
-//! Tests of the layers of a shard: the procedures (`location`), the plan of an event (`turns`), carrying out a plan
-//! (`shard_state`), steps and runs (`hlrcore`), journals (`shardlog`), the whole register (`wholenode`), and listings (`audit`).
+//! Tests of the layers of one shard: the procedures (`location`), the plan of an event (`turns`), carrying out a plan
+//! (`shard_state`), and steps and runs (`hlrcore`).
 //!
 //! They are in a crate of their own because a crate with tests is proved twice.
 #![tactic(auto)]
@@ -8,10 +8,6 @@
 mod given;
 #[cfg(test)]
 mod growths;
-#[cfg(test)]
-mod journals;
-#[cfg(test)]
-mod nodes;
 #[cfg(test)]
 mod plans;
 #[cfg(test)]
@@ -24,7 +20,5 @@ mod samples;
 mod settling;
 #[cfg(test)]
 mod steps;
-#[cfg(test)]
-mod unlisted;
 #[cfg(test)]
 mod unnamed;
