@@ -1,4 +1,4 @@
-use Rattle.std.proofs.Common.{◌≡◌, List, false, length, sym, rules}
+use Rattle.std.proofs.Common.{◌≡◌, false, sym, rules}
 use Rattle.std.specs.Prelude.{codes}
 use Rattle.std.proofs.lemmas.Result.{IfOk-weaker}
 use Rattle.records.specs.Reading.{is_text}
