@@ -193,10 +193,8 @@ impl Alone {
         ensures keeps { NodeKeeps self.new }
         ensures stops { IfErr result (λ fault. fault ≡ Fault.Memory) }
     {
-        match self.node.tick_unlisted(shard, now) {
-            Ok(outs) => Ok(answers.push_all(outs.as_slice())?),
-            Err(_) => Err(Fault::Memory),
-        }
+        let outs = self.node.tick_unlisted(shard, now);
+        Ok(answers.push_all(outs.as_slice())?)
     }
 
     /// Handles an expiry in one shard, and keeps no entry of it.

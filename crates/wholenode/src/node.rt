@@ -330,7 +330,7 @@ impl Node {
         ensures keeps { NodeKeeps self.new }
     {
         match raw {
-            RawEvent::Clock { shard, now } => self.tick_unlisted(shard, now),
+            RawEvent::Clock { shard, now } => Ok(self.tick_unlisted(shard, now)),
             RawEvent::Expire { shard } => self.expire_unlisted(shard),
             read => self.read_unlisted(bump, read),
         }
@@ -352,19 +352,16 @@ impl Node {
         }
     }
 
-    /// The same for a clock value of a shard.
-    pub fn tick_unlisted(&mut self, number: ShardNumber, now: u64) -> Result<OutList, Cause>
-        ensures takes { IfOk result (λ sent. TakesUnlisted self.old (RawClock number now) sent self.new) }
-        ensures refused { IfErr result (λ cause. Refuses self.old (RawClock number now) cause) }
-        ensures memory { OnErr result (result ≡ Err Cause.Memory) }
-        ensures err { OnErr result (self.new ≡ self.old) }
+    /// The same for a clock value of a shard, which is never refused.
+    pub fn tick_unlisted(&mut self, number: ShardNumber, now: u64) -> OutList
+        ensures takes { TakesUnlisted self.old (RawClock number now) result self.new }
         ensures keeps { NodeKeeps self.new }
     {
         let place = usize::from(number.number());
         let shard = &mut self.shards[place];
         match shard.tick_unlisted(number, now) {
-            Ok(sent) => Ok(sent),
-            Err(why) => Err(refusal(why)),
+            Ok(sent) => sent,
+            Err(_) => unreachable!(),
         }
     }
 

@@ -1,22 +1,13 @@
-use Rattle.std.proofs.Common.{subst, sym}
 use Rattle.frames.specs.Octets.{RawClock}
-use Rattle.wholenode.specs.Unlisted.{IsUnlisted}
 use Rattle.wholenode.proofs.UnlistedLemmas.{stays_unlisted}
 use Rattle.hlr_program.proofs.alone.Alone.tick.Goals as goal
-use Rattle.hlr_program.proofs.alone.Alone.tick.Goals.{in-Ok+in_ok-push_all-in-Ok+in-One-1, in-Ok+in_ok-push_all-in-Ok+in-Two-1, in-Ok+in_ok-push_all-in-Ok+in-Nothing-1, in-Err}
 
 pub invariant_of-self : goal.invariant_of-self
 invariant_of-self c = λ unlisted.
-    stays_unlisted c.self.inside.node c.tick_unlisted.new.self (RawClock c.args.shard c.args.now) c.in-Ok.outs c.in-Ok.ensures.takes (c.self.invariant unlisted)
+    stays_unlisted c.self.inside.node c.tick_unlisted-outs.new.self (RawClock c.args.shard c.args.now) c.tick_unlisted-outs.result
+    c.tick_unlisted-outs.ensures.takes (c.self.invariant unlisted)
 
 pub invariant_of-self-2 : goal.invariant_of-self-2
 invariant_of-self-2 c = λ unlisted.
-    elim c.match-tick_unlisted.branch [
-      | in-Ok+in_ok-push_all-in-Ok+in-One-1 w ↦
-          stays_unlisted c.self.inside.node c.tick_unlisted.new.self (RawClock c.args.shard c.args.now) w.in-Ok.outs w.in-Ok.ensures.takes (c.self.invariant unlisted)
-      | in-Ok+in_ok-push_all-in-Ok+in-Two-1 w ↦
-          stays_unlisted c.self.inside.node c.tick_unlisted.new.self (RawClock c.args.shard c.args.now) w.in-Ok.outs w.in-Ok.ensures.takes (c.self.invariant unlisted)
-      | in-Ok+in_ok-push_all-in-Ok+in-Nothing-1 w ↦
-          stays_unlisted c.self.inside.node c.tick_unlisted.new.self (RawClock c.args.shard c.args.now) w.in-Ok.outs w.in-Ok.ensures.takes (c.self.invariant unlisted)
-      | in-Err w ↦ subst IsUnlisted (sym w.in-Err.ensures.err) (c.self.invariant unlisted)
-    ]
+    stays_unlisted c.self.inside.node c.tick_unlisted-outs.new.self (RawClock c.args.shard c.args.now) c.tick_unlisted-outs.result
+    c.tick_unlisted-outs.ensures.takes (c.self.invariant unlisted)

@@ -5,11 +5,6 @@ use Rattle.hlrcore.specs.Events.{raw_event}
 use Rattle.wholenode.specs.Handling.{Refuses}
 use Rattle.wholenode.proofs.node.Node.handle_unlisted.Goals as goal
 
-pub returns-in-Clock-clause-refused : goal.returns-in-Clock-clause-refused
-returns-in-Clock-clause-refused c =
-    subst (λ (raw : code.RawEvent). IfErr c.tick_unlisted.result (λ cause. Refuses c.args.self.now (raw_event raw) cause)) (sym c.in-Clock.is)
-    c.tick_unlisted.ensures.refused
-
 pub returns-in-Expire-clause-refused : goal.returns-in-Expire-clause-refused
 returns-in-Expire-clause-refused c =
     subst (λ (raw : code.RawEvent). IfErr c.expire_unlisted.result (λ cause. Refuses c.args.self.now (raw_event raw) cause)) (sym c.in-Expire.is)
