@@ -1,7 +1,6 @@
 pub mod InputLaws
 pub mod OctetLaws
 pub mod DigitLaws
-pub mod KnownLaws
 pub mod LineLaws
 pub mod SpaceLaws
 pub mod FrameLaws

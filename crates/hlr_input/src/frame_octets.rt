@@ -1,8 +1,8 @@
 //! The octets of a frame in a script.
 
 ghost use Rattle.std.specs.List.{list_all};
-ghost use Rattle.hex.specs.Hex.{decode_of, is_hex_digit};
-ghost use Rattle.std.specs.Prelude.{◌≡◌, ◌↔◌, ◌%◌, IsTrue, ℕ, List, [], false, true, IfOk, IfSome, Ok, Some, length, slice_index, option_map};
+ghost use Rattle.hex.specs.Hex.{is_hex_digit};
+ghost use Rattle.std.specs.Prelude.{◌≡◌, ◌↔◌, IsTrue, ℕ, List, [], false, IfOk, IfSome, Some, length, slice_index, option_map};
 ghost use Rattle.hlr_input.specs.declared.group.Group.{Group};
 ghost use Rattle.hlr_input.specs.Lettered.{has_letter};
 ghost use Rattle.hlr_input.specs.Octets.{IsOctets, octets_of, are_known};
@@ -11,7 +11,7 @@ ghost use Rattle.records.specs.Reading.{octet_in};
 
 use crate::group::Group;
 use crate::letters::MAX_LETTERS;
-use hex::{FromHex, decode_to_slice};
+use hex::{FromHex, FromHexError, decode};
 use hlr_types::Tid;
 use std::alloc::{AllocError, Global};
 
@@ -110,7 +110,7 @@ fn stands(group: Option<Group>, known: usize) -> bool
 
 /// The octets of a frame, with these ids in place of the letters. `None` if the text has another form or a letter has no id.
 #[tactic(auto, using(crate::proofs::OctetLaws::octets_found, crate::proofs::OctetLaws::octets_again))]
-fn read_octets(alloc: Global, text: &[u8], ids: &[Tid]) -> Result<Option<Vec<u8>>, AllocError>
+pub fn read_octets(alloc: Global, text: &[u8], ids: &[Tid]) -> Result<Option<Vec<u8>>, AllocError>
     ensures found { IfOk result (λ read. IfSome read (λ octets.
         (groups : List Group) × IsOctets text.now groups
         × (octets_of ids.now groups ≡ Some octets.items))) }
@@ -119,37 +119,6 @@ fn read_octets(alloc: Global, text: &[u8], ids: &[Tid]) -> Result<Option<Vec<u8>
         ≡ octets_of ids.now groups) }
 {
     octets_with(alloc, text, ids)
-}
-
-/// The octets of a frame's text, with these ids in place of the letters, where it is known that the text has the form and that each
-/// letter has an id. A text without a letter is read as a whole.
-pub fn read_known_octets(alloc: Global, text: &[u8], ids: &[Tid]) -> Result<Vec<u8>, AllocError>
-    requires { (groups : List Group) × (found : List ℕ) × IsOctets text.now groups
-        × (octets_of ids.now groups ≡ Some found) }
-    ensures { IfOk result (λ octets. (groups : List Group) × IsOctets text.now groups
-        × (octets_of ids.now groups ≡ Some octets.items)) }
-{
-    if text != b"-".as_slice() && !has_letter(text) {
-        return read_digits(alloc, text);
-    }
-    match read_octets(alloc, text, ids)? {
-        Some(octets) => Ok(octets),
-        None => unreachable!(),
-    }
-}
-
-/// The octets of hexadecimal digits, two for each. That each character is a digit is known, so the compiler drops what the library would
-/// do with another one, and with it the branches: it takes several characters at a time.
-fn read_digits(alloc: Global, digits: &[u8]) -> Result<Vec<u8>, AllocError>
-    requires even { length digits.now % 2 ≡ 0 }
-    requires all { list_all is_hex_digit digits.now ≡ true }
-    ensures { IfOk result (λ octets. decode_of digits.now ≡ Ok octets.items) }
-{
-    let mut octets = vec![in alloc; 0u8; digits.len() / 2]?;
-    match decode_to_slice(digits, octets.as_mut_slice()) {
-        Ok(()) => Ok(octets),
-        Err(_) => unreachable!(),
-    }
 }
 
 fn octets_with(alloc: Global, text: &[u8], ids: &[Tid]) -> Result<Option<Vec<u8>>, AllocError>
@@ -162,10 +131,23 @@ fn octets_with(alloc: Global, text: &[u8], ids: &[Tid]) -> Result<Option<Vec<u8>
     if text.is_empty() {
         return Ok(None);
     }
-    group_octets(alloc, text, ids)
+    listed_octets(alloc, text, ids)
 }
 
-/// The octets of a text that is neither `-` nor empty.
+/// The octets of a text that is neither `-` nor empty. Most texts have no letter, and are read as a whole, as digits alone.
+#[tactic(auto, using(crate::proofs::DigitLaws::digits_read))]
+fn listed_octets(alloc: Global, text: &[u8], ids: &[Tid]) -> Result<Option<Vec<u8>>, AllocError>
+    ensures { IfOk result (λ read. option_map (λ octets. octets.items) read
+        ≡ octets_after ids.now [] text.now) }
+{
+    match decode(alloc, text) {
+        Ok(octets) => Ok(Some(octets)),
+        Err(FromHexError::OutOfMemory) => Err(AllocError),
+        Err(_) => group_octets(alloc, text, ids),
+    }
+}
+
+/// The octets of a text that may have letters.
 fn group_octets(alloc: Global, text: &[u8], ids: &[Tid]) -> Result<Option<Vec<u8>>, AllocError>
     ensures { IfOk result (λ read. option_map (λ octets. octets.items) read
         ≡ octets_after ids.now [] text.now) }

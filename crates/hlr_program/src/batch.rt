@@ -22,7 +22,7 @@ use crate::answers::Answers;
 use crate::check::{check_letters, is_end};
 use crate::fault::Fault;
 use crate::register::Register;
-use hlr_input::{FrameLine, Item, Place, read_checked, read_frame_line, read_known_octets};
+use hlr_input::{FrameLine, Item, Place, read_checked, read_frame_line, read_octets};
 use hlr_types::{Peer, Tid};
 use hlrcore::{Change, RawEvent, ShardNumber};
 use machine::numbers::{MAX_ENTRIES, SHARDS};
@@ -309,8 +309,10 @@ fn frame(alloc: Global, from: Peer, octets: &[u8], ids: &[Tid]) -> Result<RawEve
         (found : List ℕ) × IsOctets octets.now groups
         × (octets_of ids.now groups ≡ Some found) × (raw_event event ≡ RawFrame from found)) }
 {
-    let octets = read_known_octets(alloc, octets, ids)?;
-    Ok(RawEvent::Frame { from, octets })
+    match read_octets(alloc, octets, ids)? {
+        Some(octets) => Ok(RawEvent::Frame { from, octets }),
+        None => unreachable!(),
+    }
 }
 
 /// A clock value is one event for each shard. Where no entry is kept, these are handled at once, behind those that are gathered.
