@@ -1,8 +1,8 @@
 //! The octets of a frame in a script.
 
 ghost use Rattle.std.specs.List.{list_all};
-ghost use Rattle.hex.specs.Hex.{is_hex_digit};
-ghost use Rattle.std.specs.Prelude.{◌≡◌, ◌↔◌, IsTrue, ℕ, List, [], false, IfOk, IfSome, Some, length, slice_index, option_map};
+ghost use Rattle.hex.specs.Hex.{decode_of, hex_digit_value, is_hex_digit};
+ghost use Rattle.std.specs.Prelude.{◌≡◌, ◌↔◌, ◌%◌, ◌<◌, IsTrue, ℕ, List, [], false, true, Ok, unwrap_or, IfOk, IfSome, Some, length, slice_index, option_map};
 ghost use Rattle.hlr_input.specs.declared.group.Group.{Group};
 ghost use Rattle.hlr_input.specs.Lettered.{has_letter};
 ghost use Rattle.hlr_input.specs.Octets.{IsOctets, octets_of, are_known};
@@ -11,7 +11,7 @@ ghost use Rattle.records.specs.Reading.{octet_in};
 
 use crate::group::Group;
 use crate::letters::MAX_LETTERS;
-use hex::{FromHex, FromHexError, decode};
+use hex::FromHex;
 use hlr_types::Tid;
 use std::alloc::{AllocError, Global};
 
@@ -134,16 +134,42 @@ fn octets_with(alloc: Global, text: &[u8], ids: &[Tid]) -> Result<Option<Vec<u8>
     listed_octets(alloc, text, ids)
 }
 
-/// The octets of a text that is neither `-` nor empty. Most texts have no letter, and are read as a whole, as digits alone.
+/// The octets of a text that is neither `-` nor empty. Most texts have no letter, and are read as digits alone.
 #[tactic(auto, using(crate::proofs::DigitLaws::digits_read))]
 fn listed_octets(alloc: Global, text: &[u8], ids: &[Tid]) -> Result<Option<Vec<u8>>, AllocError>
     ensures { IfOk result (λ read. option_map (λ octets. octets.items) read
         ≡ octets_after ids.now [] text.now) }
 {
-    match decode(alloc, text) {
-        Ok(octets) => Ok(Some(octets)),
-        Err(FromHexError::OutOfMemory) => Err(AllocError),
-        Err(_) => group_octets(alloc, text, ids),
+    if text.len() % 2 == 0 && are_digits(text) {
+        let octets = digit_octets(alloc, text)?;
+        return Ok(Some(octets));
+    }
+    group_octets(alloc, text, ids)
+}
+
+/// The octets that hexadecimal digits stand for, two for each. Each digit is read by itself, and no branch depends on what it is:
+/// letters and decimal digits come in no order that a processor guesses, and a wrong guess takes it longer than a digit does.
+fn digit_octets(alloc: Global, digits: &[u8]) -> Result<Vec<u8>, AllocError>
+    requires even { length digits.now % 2 ≡ 0 }
+    requires all { list_all is_hex_digit digits.now ≡ true }
+    ensures { IfOk result (λ octets. decode_of digits.now ≡ Ok octets.items) }
+{
+    let count = digits.len() / 2;
+    let mut octets = vec![in alloc; 0u8; count]?;
+    'pairs: for place in 0..count {
+        octets[place] = digit_value(digits[2 * place]) * 16 + digit_value(digits[2 * place + 1]);
+    }
+    Ok(octets)
+}
+
+/// The value of a hexadecimal digit, which is that of the octet of 0 and the digit. 0 if it is none.
+fn digit_value(digit: u8) -> u8
+    ensures value { result ≡ unwrap_or (hex_digit_value digit) 0 }
+    ensures bound { result < 16 }
+{
+    match <[u8; 1]>::from_hex([b'0', digit]) {
+        Ok(octets) => octets[0],
+        Err(_) => 0,
     }
 }
 
