@@ -1,6 +1,7 @@
 pub mod CheckLaws
 pub mod WriteLemmas
 pub mod PrintLemmas
+pub mod DigitLemmas
 pub mod RunLemmas
 pub mod JournalLemmas
 pub mod RegisterLemmas

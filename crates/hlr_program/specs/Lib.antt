@@ -1,3 +1,4 @@
+pub mod OctetDigits
 pub mod Printed
 pub mod Statuses
 pub mod Answered

@@ -7,8 +7,8 @@ ghost use Rattle.wholenode.specs.Handling.{sent_of};
 ghost use Rattle.hlr_program.specs.Printed.{Prints};
 ghost use Rattle.hlr_program.specs.Answered.{so_far};
 
+use crate::octet_digits::OctetDigits;
 use crate::printed::push_sent;
-use bumpalo::Bump;
 use hlr_input::Letters;
 use hlrcore::{Out, OutList};
 use shardlog::Handled;
@@ -20,21 +20,19 @@ use std::alloc::{AllocError, Global};
 pub struct Answers {
     pub text: Vec<u8>,
     pub letters: Letters,
-    /// For the digits of one frame at a time.
-    digits: Bump,
+    digits: OctetDigits,
 }
 
 impl Answers {
     /// No line, and no id.
-    pub fn new(alloc: Global) -> Answers
+    pub fn new(alloc: Global, digits: OctetDigits) -> Answers
         ensures text { result.text.items ≡ [] }
         ensures letters { result.letters ≡ [] }
     {
         Answers {
             text: Vec::new(alloc),
             letters: Letters::new(alloc),
-            // Takes memory only once a frame needs some: a batch may send nothing.
-            digits: Bump::new(alloc),
+            digits,
         }
     }
 
@@ -74,8 +72,6 @@ impl Answers {
     {
         push_sent(&self.digits, &mut self.text, frame)?;
         self.letters.note(&frame.octets)?;
-        // Where it is refused, the digits of the frame stay, and the next ones stand behind them.
-        let _is_reset = self.digits.reset();
         Ok(())
     }
 }

@@ -21,6 +21,7 @@ use crate::ahead::count_events;
 use crate::answers::Answers;
 use crate::check::{check_letters, is_end};
 use crate::fault::Fault;
+use crate::octet_digits::OctetDigits;
 use crate::register::Register;
 use hlr_input::{FrameLine, Item, Place, read_checked, read_frame_line, read_octets};
 use hlr_types::{Peer, Tid};
@@ -44,14 +45,14 @@ pub struct Pending {
 }
 
 impl Pending {
-    pub fn new(alloc: Global) -> Pending
+    pub fn new(alloc: Global, digits: OctetDigits) -> Pending
         ensures gathered { result.gathered.items ≡ [] }
         ensures text { result.answers.text.items ≡ [] }
         ensures letters { result.answers.letters ≡ [] }
     {
         Pending {
             gathered: Vec::new(alloc),
-            answers: Answers::new(alloc),
+            answers: Answers::new(alloc, digits),
             ahead: 0,
             room: 0,
         }

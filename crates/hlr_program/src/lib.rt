@@ -11,6 +11,7 @@ mod crew;
 mod fault;
 mod laws;
 mod listing;
+mod octet_digits;
 mod printed;
 mod register;
 mod serve;

@@ -6,9 +6,8 @@ ghost use Rattle.hlr_program.specs.Printed.{WritesFront, sent_line};
 ghost use Rattle.hlr_program.specs.Statuses.{message_of};
 
 use crate::fault::Fault;
+use crate::octet_digits::OctetDigits;
 use arrayvec::ArrayString;
-use bumpalo::Bump;
-use hex::encode_upper;
 use hlrcore::Out;
 use std::alloc::AllocError;
 use std::fmt::Write as _;
@@ -48,16 +47,15 @@ pub fn tell<W: Write>(fault: Fault, err: &mut W)
     }
 }
 
-/// Appends the line of a sent frame: `S`, the address, and the octets in upper case, whose digits are made in the arena.
-pub fn push_sent(digits: &Bump, text: &mut Vec<u8>, sent: &Out) -> Result<(), AllocError>
+/// Appends the line of a sent frame: `S`, the address, and the octets in upper case.
+pub fn push_sent(digits: &OctetDigits, text: &mut Vec<u8>, sent: &Out) -> Result<(), AllocError>
     ensures { OnOk result (text.new.items
         ≡ text.old.items ++ sent_line sent.now.to sent.now.octets.items) }
 {
-    let octets = encode_upper(digits, sent.octets.as_slice())?;
     text.extend_from_slice(b"S ")?;
     text.extend_from_slice(sent.to.digits().text().as_slice())?;
     text.push(b' ')?;
-    text.extend_from_slice(octets.as_bytes())?;
+    digits.push(text, sent.octets.as_slice())?;
     text.push(b'\n')?;
     Ok(())
 }

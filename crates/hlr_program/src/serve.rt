@@ -13,6 +13,7 @@ use crate::batch::{Pending, handle_batch};
 use crate::check::{Script, check_script};
 use crate::fault::Fault;
 use crate::listing::closing_lines;
+use crate::octet_digits::OctetDigits;
 use crate::printed::{print, tell};
 use crate::register::Register;
 use hlr_input::{InputFault, Options, Place, read_all};
@@ -179,8 +180,9 @@ fn run_and_list<R: Threads + Wait + Sync, W: Write>(
         (printed : List ℕ) × StopsRunning options.now loaded script.now.text.items fault printed
         × Appends (W.contents out.old) (W.contents out.new) printed) }
 {
+    let digits = OctetDigits::new(alloc)?;
     let mut register = Register::new(alloc, loaded, options.workers, options.list)?;
-    run(rt, alloc, &mut register, script, out)?;
+    run(rt, alloc, digits, &mut register, script, out)?;
     let shards = register.into_shards()?;
     let text = closing_lines(alloc, options, &shards)?;
     let printed = print(&text, out);
@@ -193,6 +195,7 @@ fn run_and_list<R: Threads + Wait + Sync, W: Write>(
 fn run<R: Threads + Wait + Sync, W: Write>(
     rt: &R,
     alloc: Global,
+    digits: OctetDigits,
     register: &mut Register,
     script: &Script,
     out: &mut W,
@@ -205,7 +208,7 @@ fn run<R: Threads + Wait + Sync, W: Write>(
         (printed : List ℕ) × StopsBatches script.now.text.items (state_known register.old) fault printed
         × Appends (W.contents out.old) (W.contents out.new) printed) }
 {
-    let mut batch = Pending::new(alloc);
+    let mut batch = Pending::new(alloc, digits);
     let mut ids = Vec::new(alloc);
     let mut place = Place::new(&script.text, script.lettered, &script.lengths);
     'batches: while !place.rest.is_empty() {
