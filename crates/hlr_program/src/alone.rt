@@ -101,7 +101,7 @@ impl Alone {
         }
     }
 
-    /// Handles events, at most 65,536, and appends the lines of what they send. The list is empty then, and keeps its room. If the
+    /// Handles events, at most 65,536, and appends the lines of what they send. The list is empty then, and has as much room. If the
     /// journals are listed, and one of them has no room for that many more entries, all are cut first, so no journal is ever full. If
     /// they are not listed, they stay empty.
     pub fn send_part(

@@ -81,7 +81,7 @@ impl Register {
         }
     }
 
-    /// Handles events of a part of a batch, and appends the lines of what they send. The list is empty then, and keeps its room.
+    /// Handles events of a part of a batch, and appends the lines of what they send. The list is empty then, and has as much room.
     pub fn send_part<R: Threads + Wait + Sync>(
         &mut self,
         rt: &R,
