@@ -96,7 +96,7 @@ pub fn octets(text: &[u8]) -> Option<Vec<u8>> {
     are_octets(text).then(|| pairs.map(|pair| value(pair[0]) << 4 | value(pair[1])).collect())
 }
 
-/// The same as the function `decode` of the crate `hex` 0.4.3 has it, which the register calls: branches for each digit.
+/// The same as the function `decode` of the crate `hex` 0.4.3 has it: branches for each digit.
 #[cfg(crate_hex)]
 pub fn octets(text: &[u8]) -> Option<Vec<u8>> {
     if text.len() % 2 != 0 {
