@@ -2,7 +2,7 @@
 
 ghost use Rattle.std.specs.List.{list_all};
 ghost use Rattle.hex.specs.Hex.{decode_of, hex_digit_value, is_hex_digit};
-ghost use Rattle.std.specs.Prelude.{◌≡◌, ◌↔◌, ◌%◌, ◌<◌, IsTrue, ℕ, List, [], false, true, Ok, unwrap_or, IfOk, IfSome, Some, length, slice_index, option_map};
+ghost use Rattle.std.specs.Prelude.{◌≡◌, ◌↔◌, ◌%◌, ◌<◌, ◌==◌, ◌&&◌, not, IsTrue, ℕ, List, [], false, true, Ok, unwrap_or, IfOk, IfSome, Some, length, slice_index, option_map};
 ghost use Rattle.hlr_input.specs.declared.group.Group.{Group};
 ghost use Rattle.hlr_input.specs.Lettered.{has_letter};
 ghost use Rattle.hlr_input.specs.Octets.{IsOctets, octets_of, are_known};
@@ -26,6 +26,9 @@ pub fn are_octets(text: &[u8]) -> bool
 
 /// Whether the text is octets of a frame, one or more, without a letter: two hexadecimal digits for each.
 pub(crate) fn are_digit_pairs(text: &[u8]) -> bool
+    ensures value { result ≡ not (length text.now == 0)
+        && (length text.now % 2 == 0)
+        && list_all is_hex_digit text.now }
     ensures octets { IsTrue result → (groups : List Group) × IsOctets text.now groups }
     ensures no_letter { IsTrue result → has_letter text.now ≡ false }
 {
