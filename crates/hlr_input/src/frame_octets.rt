@@ -143,7 +143,7 @@ fn listed_octets(alloc: Global, text: &[u8], ids: &[Tid]) -> Result<Option<Vec<u
     ensures { IfOk result (λ read. option_map (λ octets. octets.items) read
         ≡ octets_after ids.now [] text.now) }
 {
-    if text.len() % 2 == 0 && are_digits(text) {
+    if are_digit_pairs(text) {
         let octets = digit_octets(alloc, text)?;
         return Ok(Some(octets));
     }
