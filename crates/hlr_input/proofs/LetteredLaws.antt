@@ -36,3 +36,8 @@ letter_of_frame line field from (number, (written, some), are) =
 pub none_behind : (whole : List (List ℕ)) (line : List ℕ) (rest : List (List ℕ)) → whole ≡ line ∷ rest → have_letters whole ≡ false → have_letters rest ≡ false
 none_behind whole line rest is none =
     (or_parts (has_letter line) (have_letters rest) (subst (λ (ls : List (List ℕ)). have_letters ls ≡ false) is none)).1
+
+-- nor has the first of them
+pub none_in_line : (whole : List (List ℕ)) (line : List ℕ) (rest : List (List ℕ)) → whole ≡ line ∷ rest → have_letters whole ≡ false → has_letter line ≡ false
+none_in_line whole line rest is none =
+    (or_parts (has_letter line) (have_letters rest) (subst (λ (ls : List (List ℕ)). have_letters ls ≡ false) is none)).0

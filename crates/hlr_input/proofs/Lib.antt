@@ -15,3 +15,4 @@ pub mod CommandTurns
 pub mod CommandWalk
 pub mod CommandEnd
 pub mod CommandLaws
+pub mod PlainLaws

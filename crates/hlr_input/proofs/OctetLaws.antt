@@ -209,7 +209,7 @@ known_without known text [] e h = refl
 known_without known text (g ∷ gs) e h = sym (groups_without known text (g ∷ gs) e h)
 
 -- a text of groups is neither `-` nor empty
-no_dash : (text : List ℕ) (g : Group) (gs : List Group) → AreGroups text (g ∷ gs) → is_text text (codes "-") ≡ false
+pub no_dash : (text : List ℕ) (g : Group) (gs : List Group) → AreGroups text (g ∷ gs) → is_text text (codes "-") ≡ false
 no_dash [] g gs h = absurd h
 no_dash (a ∷ []) g gs h = absurd h
 no_dash (a ∷ b ∷ more) g gs h =
@@ -218,7 +218,7 @@ no_dash (a ∷ b ∷ more) g gs h =
       | inr f ↦ f
     ]
 
-not_empty : (text : List ℕ) (g : Group) (gs : List Group) → AreGroups text (g ∷ gs) → (length text == 0) ≡ false
+pub not_empty : (text : List ℕ) (g : Group) (gs : List Group) → AreGroups text (g ∷ gs) → (length text == 0) ≡ false
 not_empty [] g gs h = absurd h
 not_empty (a ∷ more) g gs h = ne_eqb (length (a ∷ more)) 0 (λ e. omega arith)
 
@@ -229,7 +229,7 @@ pub stand_known : (known : ℕ) (text : List ℕ) (groups : List Group) → IsOc
 stand_known known text [] h = rw h refl
 stand_known known text (g ∷ gs) h = stand_is known text g gs h ∙ groups_again known text (g ∷ gs) h
 
-known_of : (text : List ℕ) (groups : List Group) → IsOctets text groups → are_known 26 groups ≡ true
+pub known_of : (text : List ℕ) (groups : List Group) → IsOctets text groups → are_known 26 groups ≡ true
 known_of text [] h = refl
 known_of text (g ∷ gs) h = all_known text (g ∷ gs) h
 

@@ -13,7 +13,7 @@ use crate::group::Group;
 use crate::letters::MAX_LETTERS;
 use hex::FromHex;
 use hlr_types::Tid;
-use std::alloc::{AllocError, Global};
+use std::alloc::AllocError;
 
 /// Whether the text is the octets of a frame: `-` for none, otherwise groups of two characters, each an octet in hexadecimal
 /// digits of either case, or `$` and a letter.
@@ -111,9 +111,10 @@ fn stands(group: Option<Group>, known: usize) -> bool
     }
 }
 
-/// The octets of a frame, with these ids in place of the letters. `None` if the text has another form or a letter has no id.
+/// The octets of a frame, with these ids in place of the letters, in the room of a list whose own octets are given up. `None` if the text
+/// has another form or a letter has no id.
 #[tactic(auto, using(crate::proofs::OctetLaws::octets_found, crate::proofs::OctetLaws::octets_again))]
-pub fn read_octets(alloc: Global, text: &[u8], ids: &[Tid]) -> Result<Option<Vec<u8>>, AllocError>
+pub fn read_octets(room: Vec<u8>, text: &[u8], ids: &[Tid]) -> Result<Option<Vec<u8>>, AllocError>
     ensures found { IfOk result (λ read. IfSome read (λ octets.
         (groups : List Group) × IsOctets text.now groups
         × (octets_of ids.now groups ≡ Some octets.items))) }
@@ -121,44 +122,64 @@ pub fn read_octets(alloc: Global, text: &[u8], ids: &[Tid]) -> Result<Option<Vec
         → IfOk result (λ read. option_map (λ octets. octets.items) read
         ≡ octets_of ids.now groups) }
 {
-    octets_with(alloc, text, ids)
+    octets_with(room, text, ids)
 }
 
-fn octets_with(alloc: Global, text: &[u8], ids: &[Tid]) -> Result<Option<Vec<u8>>, AllocError>
+/// The same for the octets of a frame of which it is known that they have no letter: they are not looked through for one.
+pub fn read_plain_octets(room: Vec<u8>, text: &[u8]) -> Result<Vec<u8>, AllocError>
+    requires octets { (groups : List Group) × IsOctets text.now groups }
+    requires plain { has_letter text.now ≡ false }
+    ensures { IfOk result (λ octets. (groups : List Group) × IsOctets text.now groups
+        × ((ids : List (List ℕ)) → octets_of ids groups ≡ Some octets.items)) }
+{
+    let mut octets = room;
+    octets.clear();
+    if text == b"-".as_slice() {
+        return Ok(octets);
+    }
+    digit_octets(octets, text)
+}
+
+fn octets_with(room: Vec<u8>, text: &[u8], ids: &[Tid]) -> Result<Option<Vec<u8>>, AllocError>
     ensures { IfOk result (λ read. option_map (λ octets. octets.items) read
         ≡ octets_in ids.now text.now) }
 {
+    let mut octets = room;
+    octets.clear();
     if text == b"-".as_slice() {
-        return Ok(Some(Vec::new(alloc)));
+        return Ok(Some(octets));
     }
     if text.is_empty() {
         return Ok(None);
     }
-    listed_octets(alloc, text, ids)
+    listed_octets(octets, text, ids)
 }
 
-/// The octets of a text that is neither `-` nor empty. Most texts have no letter, and are read as digits alone.
-#[tactic(auto, using(crate::proofs::DigitLaws::digits_read))]
-fn listed_octets(alloc: Global, text: &[u8], ids: &[Tid]) -> Result<Option<Vec<u8>>, AllocError>
+/// The octets of a text that is neither `-` nor empty, in the room of a list without octets. Most texts have no letter, and are read as
+/// digits alone.
+fn listed_octets(room: Vec<u8>, text: &[u8], ids: &[Tid]) -> Result<Option<Vec<u8>>, AllocError>
+    requires { room.items ≡ [] }
     ensures { IfOk result (λ read. option_map (λ octets. octets.items) read
         ≡ octets_after ids.now [] text.now) }
 {
     if are_digit_pairs(text) {
-        let octets = digit_octets(alloc, text)?;
+        let octets = digit_octets(room, text)?;
         return Ok(Some(octets));
     }
-    group_octets(alloc, text, ids)
+    group_octets(room, text, ids)
 }
 
 /// The octets that hexadecimal digits stand for, two for each. Each digit is read by itself, and no branch depends on what it is:
 /// letters and decimal digits come in no order that a processor guesses, and a wrong guess takes it longer than a digit does.
-fn digit_octets(alloc: Global, digits: &[u8]) -> Result<Vec<u8>, AllocError>
+fn digit_octets(room: Vec<u8>, digits: &[u8]) -> Result<Vec<u8>, AllocError>
+    requires none { room.items ≡ [] }
     requires even { length digits.now % 2 ≡ 0 }
     requires all { list_all is_hex_digit digits.now ≡ true }
     ensures { IfOk result (λ octets. decode_of digits.now ≡ Ok octets.items) }
 {
     let count = digits.len() / 2;
-    let mut octets = vec![in alloc; 0u8; count]?;
+    let mut octets = room;
+    octets.resize(count, 0)?;
     'pairs: for place in 0..count {
         octets[place] = digit_value(digits[2 * place]) * 16 + digit_value(digits[2 * place + 1]);
     }
@@ -176,12 +197,14 @@ fn digit_value(digit: u8) -> u8
     }
 }
 
-/// The octets of a text that may have letters.
-fn group_octets(alloc: Global, text: &[u8], ids: &[Tid]) -> Result<Option<Vec<u8>>, AllocError>
+/// The octets of a text that may have letters, in the room of a list without octets.
+fn group_octets(room: Vec<u8>, text: &[u8], ids: &[Tid]) -> Result<Option<Vec<u8>>, AllocError>
+    requires { room.items ≡ [] }
     ensures { IfOk result (λ read. option_map (λ octets. octets.items) read
         ≡ octets_after ids.now [] text.now) }
 {
-    let mut octets = Vec::with_capacity(alloc, text.len() / 2)?;
+    let mut octets = room;
+    octets.reserve(text.len() / 2)?;
     let mut rest = text;
     'groups: while rest.len() >= 2 {
         let (pair, more) = rest.split_at(2);

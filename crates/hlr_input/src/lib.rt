@@ -17,7 +17,7 @@ mod ticks;
 mod words;
 
 pub use frame_line::{FrameLine, read_frame_line};
-pub use frame_octets::{has_letter, have_ids, read_octets};
+pub use frame_octets::{has_letter, have_ids, read_octets, read_plain_octets};
 pub use group::Group;
 pub use input::{InputFault, MAX_FILE_OCTETS, read_all};
 pub use item::{Item, LineFault};

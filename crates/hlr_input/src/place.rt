@@ -2,7 +2,7 @@
 
 ghost use Rattle.std.specs.Prelude.{◌≡◌, ◌<◌, ◌≤◌, ◌+◌, ◌^◌, ◌∷◌, [], false, length, map, take, drop, IsNone, IfSome, ◌↔◌};
 ghost use Rattle.records.specs.File.{lines};
-ghost use Rattle.hlr_input.specs.Lettered.{have_letters};
+ghost use Rattle.hlr_input.specs.Lettered.{has_letter, have_letters};
 
 use records::first_line;
 
@@ -99,6 +99,7 @@ impl<'a> Place<'a> {
         ensures number { IfSome result (λ p. p.0.number ≡ self.entry.before + 1) }
         ensures before { IfSome result (λ p. p.1.before ≡ self.entry.before + 1) }
         ensures shorter { IfSome result (λ p. length p.1.rest.now < length self.entry.rest.now) }
+        ensures plain { IfSome result (λ p. self.entry.lettered ≡ false → has_letter p.0.text.now ≡ false) }
     {
         let (size, lengths) = self.lengths.split_first()?;
         let (text, rest) = cut_line(self.rest, *size as usize);

@@ -1,23 +1,27 @@
 -- Events of which no entry is kept: the journals are empty before and behind them.
-use Rattle.std.proofs.Common.{◌≡◌, ℕ, ◌+◌, ◌<◌, ◌≤◌, List, [], ◌++◌, ◌∷◌, map, length, set, refl, sym, ap, subst, ◌∙◌, arith, inl, inr}
+use Rattle.std.proofs.Common.{◌≡◌, ℕ, ◌+◌, ◌<◌, ◌≤◌, List, [], ◌++◌, ◌∷◌, drop, get_or, map, length, set, refl, sym, ap, subst, ◌∙◌, arith, inl, inr}
 use Rattle.std.specs.List.{flat_map, range_with_len}
 use Rattle.std.specs.Prelude.{◌⊎◌, Option, Some, slice_get}
 use Rattle.std.proofs.lemmas.Bool.{cases_eq}
-use Rattle.std.proofs.lemmas.List.{append-nil}
+use Rattle.std.proofs.lemmas.List.{append-nil, drop_more}
 use Rattle.std.proofs.lemmas.List.FromFn.{map-range_with_len_more}
 use Rattle.std.proofs.lemmas.Option.{slice_get_within}
 use Rattle.machine.specs.Events as machine
 use Rattle.machine.specs.declared.numbers.TheConstants.{MAX_ENTRIES}
 use Rattle.machine.specs.State.{State}
 use Rattle.frames.specs.Octets.{IsRouted, RawClock, RawEvent, RawExpire, RawOut}
+use Rattle.hlrcore.specs.declared.event.Event.{Event}
+use Rattle.hlrcore.specs.Events.{raw_of}
 use Rattle.shard_state.specs.Shards.{directory_of}
 use Rattle.shardlog.specs.Log.{Log, log}
 use Rattle.wholenode.specs.declared.fault.Cause.{Cause}
-use Rattle.wholenode.specs.Handling.{Each, IsRun}
+use Rattle.wholenode.specs.Handling.{Each, IsRun, Refuses}
 use Rattle.wholenode.specs.Keeping.{NodeKeeps}
 use Rattle.wholenode.specs.Nodes.{NodeState, whole}
-use Rattle.wholenode.specs.Unlisted.{IsUnlisted, RunsUnlisted, StopsUnlisted, TakesUnlisted}
+use Rattle.wholenode.specs.Reading.{AreRead}
+use Rattle.wholenode.specs.Unlisted.{IsUnlisted, TakesUnlisted}
 use Rattle.wholenode.proofs.Places.{set_elsewhere, set_there}
+use Rattle.wholenode.proofs.ReadLemmas.{Reading, reading_ends, reading_goes_on, reading_next}
 use Rattle.wholenode.proofs.RunLemmas.{each_more}
 use Rattle.wholenode.proofs.UnlistedLemmas.{all_stay_unlisted, is_run_unlisted}
 use Rattle.hlr_program.specs.Journals.{Continues, IsAtEnd, RunsAlone}
@@ -56,27 +60,72 @@ alone_unlisted before after raws outs empty each = (run, goes_on)
     goes_on begin events sent at = unlisted_at_end begin (events ++ raws) (sent ++ outs) after empty
         (runs_join begin (whole before.shards) (whole after.shards) events raws sent outs (run_to_end begin events sent before at) run)
 
--- the lists of a lot are printed; none were there before
-pub lot_sends : (before after : NodeState) (raws : List RawEvent) (earlier sent : List (List RawOut)) (a b : SoFar) → IsUnlisted before → earlier ≡ []
-    → RunsUnlisted before raws earlier sent after → Prints a (flat_map (λ o. o) sent) b
-    → (outs : List (List RawOut)) × RunsAlone before raws outs after × Prints a (flat_map (λ o. o) outs) b
-lot_sends before after raws earlier sent a b h none runs prints = (
-  runs.outs,
-  alone_unlisted before after raws runs.outs (all_stay_unlisted before after raws runs.outs runs.runs h) runs.runs,
-  subst (λ (outs : List (List RawOut)). Prints a (flat_map (λ o. o) outs) b)
-      (runs.sent_are ∙ ap (λ (l : List (List RawOut)). l ++ runs.outs) none) prints,
+-- those that were read are handled one after another, and the lines of what each sends are made
+pub record SendingRead (before : NodeState) (raws : List RawEvent) (printed : SoFar) (left : List Event) (here : NodeState) (answers : SoFar) : Type 0 where
+  pub outs : List (List RawOut)
+  pub reading : Reading (List RawOut) TakesUnlisted before raws outs left here
+  pub prints : Prints printed (flat_map (λ o. o) outs) answers
+
+pub read_begins : (before : NodeState) (raws : List RawEvent) (printed : SoFar) (left : List Event) → AreRead raws left → NodeKeeps before
+    → SendingRead before raws printed left before printed
+read_begins before raws printed left read keeps = record {
+  outs = [];
+  reading = record { front = []; back = raws; split = refl; read = read; runs = refl; keeps = keeps };
+  prints = prints_none printed;
+}
+
+-- those from a place on are the one there and those behind it
+pub read_at : (before : NodeState) (raws : List RawEvent) (printed : SoFar) (all : List Event) (i : ℕ) (event : Event) (here : NodeState) (answers : SoFar)
+    → i < length all → SendingRead before raws printed (drop i all) here answers
+    → SendingRead before raws printed (get_or all i event ∷ drop (i + 1) all) here answers
+read_at before raws printed all i event here answers within h =
+    subst (λ (left : List Event). SendingRead before raws printed left here answers) (drop_more all i event within) h
+
+pub read_goes_on : (before : NodeState) (raws : List RawEvent) (printed : SoFar) (event : Event) (left : List Event) (here next : NodeState)
+    (answers more : SoFar) (sent : List RawOut)
+    → SendingRead before raws printed (event ∷ left) here answers → TakesUnlisted here (raw_of event) sent next → NodeKeeps next
+    → Prints answers sent more → SendingRead before raws printed left next more
+read_goes_on before raws printed event left here next answers more sent h takes keeps prints = record {
+  outs = h.outs ++ sent ∷ [];
+  reading = reading_goes_on (List RawOut) TakesUnlisted before raws h.outs event left here h.reading sent next takes keeps;
+  prints = subst (λ (frames : List RawOut). Prints printed frames more)
+      (sym (flat_join h.outs (sent ∷ []) ∙ ap (λ (l : List RawOut). flat_map (λ o. o) h.outs ++ l) (append-nil sent)))
+      (prints_join printed answers more (flat_map (λ o. o) h.outs) sent h.prints prints);
+}
+
+pub read_ends : (before : NodeState) (raws : List RawEvent) (printed : SoFar) (left : List Event) (here : NodeState) (answers : SoFar)
+    → SendingRead before raws printed left here answers → left ≡ []
+    → (outs : List (List RawOut)) × Each TakesUnlisted before raws outs here × Prints printed (flat_map (λ o. o) outs) answers
+read_ends before raws printed left here answers h none = (
+  h.outs,
+  reading_ends (List RawOut) TakesUnlisted before raws h.outs left here h.reading none,
+  h.prints,
 )
 
-pub lot_stays : (before after : NodeState) (raws : List RawEvent) (earlier sent : List (List RawOut)) → IsUnlisted before
-    → RunsUnlisted before raws earlier sent after → IsUnlisted after
-lot_stays before after raws earlier sent h runs = all_stay_unlisted before after raws runs.outs runs.runs h
+-- the journals are empty behind those that were handled
+pub read_unlisted : (before : NodeState) (raws : List RawEvent) (printed : SoFar) (left : List Event) (here : NodeState) (answers : SoFar)
+    → SendingRead before raws printed left here answers → IsUnlisted before → IsUnlisted here
+read_unlisted before raws printed left here answers h empty =
+    all_stay_unlisted before here h.reading.front h.outs h.reading.runs empty
 
--- ---- a lot stops
+pub read_stops : (before : NodeState) (raws : List RawEvent) (printed : SoFar) (event : Event) (left : List Event) (here : NodeState) (answers : SoFar)
+    → SendingRead before raws printed (event ∷ left) here answers → (c : Cause) → Refuses here (raw_of event) c
+    → EventsStop (Some (whole before.shards)) raws (stopped_by c)
+read_stops before raws printed event left here answers h c refused =
+    let next = reading_next (List RawOut) TakesUnlisted before raws h.outs event left here h.reading in
+    refused_stops before here raws h.reading.front (raw_of event) next.rest h.outs c
+    (sym h.reading.split ∙ ap (λ (l : List RawEvent). h.reading.front ++ l) next.back_is)
+    (is_run_unlisted before here h.reading.front h.outs h.reading.runs) refused
 
-pub lot_stops : (before after : NodeState) (raws : List RawEvent) (earlier sent : List (List RawOut)) (c : Cause)
-    → StopsUnlisted before raws earlier sent c after → EventsStop (Some (whole before.shards)) raws (stopped_by c)
-lot_stops before after raws earlier sent c stops =
-    refused_stops before after raws stops.handled stops.next stops.rest stops.runs.outs c stops.raws_are stops.runs.run stops.refuses
+-- a lot that was read and handled leads on from every run, where the journals are empty
+pub lot_sends : (before after : NodeState) (raws was : List RawEvent) (a b : SoFar) → was ≡ raws → IsUnlisted before → IsUnlisted after
+    → (outs : List (List RawOut)) × Each TakesUnlisted before was outs after × Prints a (flat_map (λ o. o) outs) b
+    → (outs : List (List RawOut)) × RunsAlone before raws outs after × Prints a (flat_map (λ o. o) outs) b
+lot_sends before after raws was a b same empty empty_then (outs, each, prints) = (
+  outs,
+  subst (λ (rs : List RawEvent). RunsAlone before rs outs after) same (alone_unlisted before after was outs empty_then each),
+  prints,
+)
 
 -- ---- each shard handles an event of its own
 

@@ -4,12 +4,13 @@ ghost use Rattle.std.specs.Prelude.{◌≡◌, ◌≢◌, ◌≤◌, ◌↔◌, 
 ghost use Rattle.std.specs.List.{flat_map, list_all, range_with_len};
 ghost use Rattle.machine.specs.declared.numbers.TheConstants.{MAX_ENTRIES};
 ghost use Rattle.frames.specs.Octets.{RawClock, RawExpire, RawOut};
-ghost use Rattle.hlrcore.specs.Events.{raw_event};
+ghost use Rattle.hlrcore.specs.Events.{raw_event, raw_of};
 ghost use Rattle.shardlog.specs.declared.entry.Handled.{Handled};
 ghost use Rattle.wholenode.specs.Keeping.{NodeKeeps};
 ghost use Rattle.wholenode.specs.Nodes.{whole};
 ghost use Rattle.wholenode.specs.Opening.{BeginsWith};
-ghost use Rattle.wholenode.specs.Handling.{Runs, sent_of};
+ghost use Rattle.wholenode.specs.Handling.{Each, Runs, sent_of};
+ghost use Rattle.wholenode.specs.Reading.{AreRead};
 ghost use Rattle.wholenode.specs.Unlisted.{IsUnlisted, TakesUnlisted};
 ghost use Rattle.hlr_program.specs.Answered.{so_far};
 ghost use Rattle.hlr_program.specs.Printed.{Prints};
@@ -21,7 +22,7 @@ ghost use Rattle.hlr_program.specs.Stopping.{EventsStop};
 use crate::answers::Answers;
 use crate::fault::Fault;
 use bumpalo::Bump;
-use hlrcore::{Event, OutList, RawEvent, ShardNumber};
+use hlrcore::{Event, RawEvent, ShardNumber};
 use machine::numbers::{MAX_ENTRIES, SHARDS};
 use records::Loaded;
 use shardlog::Shard;
@@ -37,9 +38,8 @@ pub struct Alone {
     bump: Bump,
     /// Whether the journals are listed at the end. Where they are not, nobody can see an entry, and none is kept, which spares time.
     listed: bool,
-    /// The events of a lot once they are read, where no entry is kept, and what they send. The room is used again for the next lot.
+    /// The events of a lot once they are read, where no entry is kept. The room is used again for the next lot.
     read: Vec<Event>,
-    sent: Vec<OutList>,
 }
 
 impl Model for Alone {
@@ -70,7 +70,6 @@ impl Alone {
             bump: Bump::new(alloc),
             listed,
             read: Vec::new(alloc),
-            sent: Vec::new(alloc),
         })
     }
 
@@ -84,7 +83,6 @@ impl Alone {
             bump: _,
             listed: _,
             read: _,
-            sent: _,
         } = self;
         node.into_shards()
     }
@@ -103,11 +101,12 @@ impl Alone {
 
     /// Handles events, at most 65,536, and appends the lines of what they send. The list is empty then, and has as much room. If the
     /// journals are listed, and one of them has no room for that many more entries, all are cut first, so no journal is ever full. If
-    /// they are not listed, they stay empty.
+    /// they are not listed, they stay empty, and the octets of the frames go to `spare`, where memory suffices.
     pub fn send_part(
         &mut self,
         part: &mut Vec<RawEvent>,
         answers: &mut Answers,
+        spare: &mut Vec<Vec<u8>>,
     ) -> Result<(), Fault>
         requires { length part.old.items ≤ MAX_ENTRIES }
         ensures sends { OnOk result ((outs : List (List RawOut))
@@ -118,7 +117,7 @@ impl Alone {
             (map raw_event part.old.items)) }
     {
         if !self.listed {
-            return self.send_unlisted(part, answers);
+            return self.send_unlisted(part, answers, spare);
         }
         let next = Vec::with_capacity(*part.allocator(), part.capacity())?;
         let part = mem::replace(part, next);
@@ -126,11 +125,12 @@ impl Alone {
         send_listed(&mut self.node, &mut self.bump, part, answers)
     }
 
-    /// Handles events of which no entry is kept, and appends the lines of what they send.
+    /// Handles events of which no entry is kept, and appends the lines of what they send. All are read before the first is handled.
     fn send_unlisted(
         &mut self,
         part: &mut Vec<RawEvent>,
         answers: &mut Answers,
+        spare: &mut Vec<Vec<u8>>,
     ) -> Result<(), Fault>
         requires { IsUnlisted self.now }
         ensures sends { OnOk result ((outs : List (List RawOut))
@@ -140,14 +140,8 @@ impl Alone {
         ensures stops { IfErr result (EventsStop (Some (whole self.old.shards))
             (map raw_event part.old.items)) }
     {
-        // The lines of what the lot before has sent are made already.
-        self.sent.clear();
-        let sent = &mut self.sent;
-        match self
-            .node
-            .run_unlisted(&mut self.bump, part, &mut self.read, sent)
-        {
-            Ok(()) => Ok(answers.push_lists(&self.sent)?),
+        match self.node.read_lot(&mut self.bump, part, &mut self.read) {
+            Ok(()) => send_read(&mut self.node, &mut self.read, answers, spare),
             Err(cause) => Err(stopped(cause)),
         }
     }
@@ -242,6 +236,40 @@ fn send_listed(
         answers.push_all(handled.outs.as_slice())?;
     }
     Ok(())
+}
+
+/// Handles events that were read, of which no entry is kept, and appends the lines of what they send: those of each before the next is
+/// handled, so that its frames are given back while they are near. The octets of the frames that came go to `spare`.
+fn send_read(
+    node: &mut Node,
+    read: &mut [Event],
+    answers: &mut Answers,
+    spare: &mut Vec<Vec<u8>>,
+) -> Result<(), Fault>
+    requires read { AreRead (map raw_of read.now) read.now }
+    requires keeps { NodeKeeps node.now }
+    ensures sends { OnOk result ((outs : List (List RawOut))
+        × Each TakesUnlisted node.old (map raw_of read.old) outs node.new
+        × Prints (so_far answers.old) (flat_map (λ o. o) outs) (so_far answers.new)) }
+    ensures unlisted { IsUnlisted node.old → IsUnlisted node.new }
+    ensures stops { IfErr result (EventsStop (Some (whole node.old.shards)) (map raw_of read.old)) }
+{
+    for event in read.iter_mut() {
+        let outs = match node.handle_read_unlisted(event) {
+            Ok(outs) => outs,
+            Err(cause) => return Err(stopped(cause)),
+        };
+        answers.push_all(outs.as_slice())?;
+        keep_room(event.take_raw(), spare);
+    }
+    Ok(())
+}
+
+/// Keeps the octets of a frame that was handled, so that the next one is read into their room. They are dropped where memory is refused.
+fn keep_room(handled: RawEvent, spare: &mut Vec<Vec<u8>>) {
+    if let RawEvent::Frame { octets, .. } = handled {
+        let _is_kept = spare.push(octets).is_ok();
+    }
 }
 
 /// Cuts all journals, if one of them has no room for `count` more entries.

@@ -1,12 +1,13 @@
 //! One batch of a script.
 
-ghost use Rattle.std.specs.Prelude.{◌≡◌, ◌<◌, ◌≤◌, ◌∷◌, ◌+◌, ◌-◌, min, [], ℕ, List, length, map, Some, IfOk, IfErr, OnOk};
+ghost use Rattle.std.specs.Prelude.{◌≡◌, ◌<◌, ◌≤◌, ◌∷◌, ◌+◌, ◌-◌, min, [], ℕ, List, length, map, Some, false, IfOk, IfErr, OnOk};
 ghost use Rattle.std.specs.List.{AllByRecursion, range_with_len};
 ghost use Rattle.machine.specs.declared.numbers.TheConstants.{MAX_ENTRIES};
 ghost use Rattle.frames.specs.Octets.{RawEvent as Event, RawFrame, RawClock, RawExpire, RawOut};
 ghost use Rattle.records.specs.File.{lines};
 ghost use Rattle.hlrcore.specs.Events.{raw_event};
 ghost use Rattle.hlr_input.specs.declared.group.Group.{Group};
+ghost use Rattle.hlr_input.specs.Lettered.{has_letter};
 ghost use Rattle.hlr_input.specs.Octets.{IsOctets, octets_of};
 ghost use Rattle.hlr_input.specs.Script.{Frame, line_of};
 ghost use Rattle.hlr_program.specs.Answered.{so_far};
@@ -23,7 +24,9 @@ use crate::check::{check_letters, is_end};
 use crate::fault::Fault;
 use crate::octet_digits::OctetDigits;
 use crate::register::Register;
-use hlr_input::{FrameLine, Item, Place, read_checked, read_frame_line, read_octets};
+use hlr_input::{
+    FrameLine, Item, Place, read_checked, read_frame_line, read_octets, read_plain_octets,
+};
 use hlr_types::{Peer, Tid};
 use hlrcore::{Change, RawEvent, ShardNumber};
 use machine::numbers::{MAX_ENTRIES, SHARDS};
@@ -38,6 +41,8 @@ pub struct Pending {
     pub gathered: Vec<RawEvent>,
     /// The lines of what those before them have sent.
     pub answers: Answers,
+    /// Octets of frames that are handled, into whose room the next ones are read: at most as many as are handled at once.
+    spare: Vec<Vec<u8>>,
     /// How many events of the batch are not handled yet.
     ahead: usize,
     /// For how many of these there is room in the journals.
@@ -53,6 +58,7 @@ impl Pending {
         Pending {
             gathered: Vec::new(alloc),
             answers: Answers::new(alloc, digits),
+            spare: Vec::new(alloc),
             ahead: 0,
             room: 0,
         }
@@ -95,7 +101,8 @@ impl Pending {
             return Ok(());
         }
         self.begin_part(register);
-        register.send_part(rt, &mut self.gathered, &mut self.answers)
+        let spare = &mut self.spare;
+        register.send_part(rt, &mut self.gathered, &mut self.answers, spare)
     }
 
     /// Where the events that are gathered begin a part of the batch: cuts the journals, if one of them has no room for all events of
@@ -192,31 +199,33 @@ fn handle_lines<'a, R: Threads + Wait + Sync>(
         if is_end(line.text) {
             return Ok(behind);
         }
-        add_line(rt, alloc, register, batch, line.text, ids)?;
+        add_line(rt, alloc, register, batch, line.text, place.lettered, ids)?;
         place = behind;
     }
     Ok(place)
 }
 
-/// Adds the events of a line.
+/// Adds the events of a line, which may have letters or not.
 fn add_line<R: Threads + Wait + Sync>(
     rt: &R,
     alloc: Global,
     register: &mut Register,
     batch: &mut Pending,
     line: &[u8],
+    lettered: bool,
     ids: &[Tid],
 ) -> Result<(), Fault>
     requires few { length batch.now.gathered.items ≤ MAX_ENTRIES }
     requires good { IsGood line.now }
     requires known { HasIds (length ids.now) line.now }
+    requires plain { lettered ≡ false → has_letter line.now ≡ false }
     ensures adds { OnOk result (AddsLine ids.now (progress register.old batch.old) line.now
         (progress register.new batch.new)) }
     ensures few { OnOk result (length batch.new.gathered.items ≤ MAX_ENTRIES) }
     ensures stops { IfErr result (LineStops ids.now (progress register.old batch.old) line.now) }
 {
     match read_frame_line(line) {
-        Some(frame) => add_frame(rt, alloc, register, batch, frame, ids),
+        Some(frame) => add_frame(rt, alloc, register, batch, frame, lettered, ids),
         None => add_other(rt, alloc, register, batch, line, ids),
     }
 }
@@ -228,18 +237,21 @@ fn add_frame<R: Threads + Wait + Sync>(
     register: &mut Register,
     batch: &mut Pending,
     read: FrameLine,
+    lettered: bool,
     ids: &[Tid],
 ) -> Result<(), Fault>
     requires few { length batch.now.gathered.items ≤ MAX_ENTRIES }
     requires known { (events : List Event)
         × AreEvents ids.now (Frame read.from read.octets.now) events }
+    requires plain { lettered ≡ false → has_letter read.octets.now ≡ false }
     ensures adds { OnOk result (AddsSaid ids.now (progress register.old batch.old)
         (Frame read.entry.from read.entry.octets.now) (progress register.new batch.new)) }
     ensures few { OnOk result (length batch.new.gathered.items ≤ MAX_ENTRIES) }
     ensures stops { IfErr result (SaidStops ids.now (progress register.old batch.old)
         (Frame read.entry.from read.entry.octets.now)) }
 {
-    let event = frame(alloc, read.from, read.octets, ids)?;
+    let room = batch.spare.pop().unwrap_or_else(|| Vec::new(alloc));
+    let event = frame(room, read.from, read.octets, lettered, ids)?;
     batch.add(rt, register, event)
 }
 
@@ -286,7 +298,7 @@ fn add_item<R: Threads + Wait + Sync>(
     match item {
         Item::Frame { from, octets } => {
             let frame = FrameLine { from, octets };
-            add_frame(rt, alloc, register, batch, frame, ids)
+            add_frame(rt, alloc, register, batch, frame, true, ids)
         }
         Item::Clock(now) => add_clocks(rt, register, batch, now),
         Item::Expire => add_expiries(rt, register, batch),
@@ -302,15 +314,26 @@ fn add_item<R: Threads + Wait + Sync>(
     }
 }
 
-/// A received frame, with these ids in place of the letters.
-fn frame(alloc: Global, from: Peer, octets: &[u8], ids: &[Tid]) -> Result<RawEvent, AllocError>
-    requires { (groups : List Group) × (found : List ℕ) × IsOctets octets.now groups
+/// A received frame, with these ids in place of the letters, if it may have some, in the room of octets that are given up.
+fn frame(
+    room: Vec<u8>,
+    from: Peer,
+    octets: &[u8],
+    lettered: bool,
+    ids: &[Tid],
+) -> Result<RawEvent, AllocError>
+    requires known { (groups : List Group) × (found : List ℕ) × IsOctets octets.now groups
         × (octets_of ids.now groups ≡ Some found) }
+    requires plain { lettered ≡ false → has_letter octets.now ≡ false }
     ensures { IfOk result (λ event. (groups : List Group) ×
         (found : List ℕ) × IsOctets octets.now groups
         × (octets_of ids.now groups ≡ Some found) × (raw_event event ≡ RawFrame from found)) }
 {
-    match read_octets(alloc, octets, ids)? {
+    if !lettered {
+        let octets = read_plain_octets(room, octets)?;
+        return Ok(RawEvent::Frame { from, octets });
+    }
+    match read_octets(room, octets, ids)? {
         Some(octets) => Ok(RawEvent::Frame { from, octets }),
         None => unreachable!(),
     }

@@ -81,12 +81,14 @@ impl Register {
         }
     }
 
-    /// Handles events of a part of a batch, and appends the lines of what they send. The list is empty then, and has as much room.
+    /// Handles events of a part of a batch, and appends the lines of what they send. The list is empty then, and has as much room. The
+    /// octets of frames of which no entry is kept go to `spare`, for their room.
     pub fn send_part<R: Threads + Wait + Sync>(
         &mut self,
         rt: &R,
         part: &mut Vec<RawEvent>,
         answers: &mut Answers,
+        spare: &mut Vec<Vec<u8>>,
     ) -> Result<(), Fault>
         requires { length part.old.items ≤ MAX_ENTRIES }
         ensures sends { OnOk result (SendsPart self.old (map raw_event part.old.items)
@@ -96,7 +98,7 @@ impl Register {
             (map raw_event part.old.items)) }
     {
         match self {
-            Register::Alone(alone) => alone.send_part(part, answers),
+            Register::Alone(alone) => alone.send_part(part, answers, spare),
             Register::Shared(crew) => crew.send_part(rt, part, answers),
         }
     }

@@ -1,5 +1,6 @@
 pub mod WordLemmas
 pub mod PackLemmas
+pub mod PaddingLemmas
 pub mod PlaceLemmas
 pub mod PrintLemmas
 pub mod TbcdLemmas

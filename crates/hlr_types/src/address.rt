@@ -101,13 +101,12 @@ fn octets_sent(digits: &Digits) -> ShortList<9>
     ensures value { result ≡ address_octets digits.now }
     ensures digits { AreSomeDigits digits.now }
 {
-    let mut octets = ShortList::new();
-    octets.push(INTERNATIONAL_E164);
     let tbcd = tbcd_write(digits);
-    for octet in tbcd.as_slice() {
-        octets.push(*octet);
-    }
-    octets
+    let mut items = [0u8; 9];
+    items[0] = INTERNATIONAL_E164;
+    // The zeros behind the digits are copied too, as eight octets are moved at once.
+    items[1..].copy_from_slice(tbcd.padded());
+    ShortList::of_parts(&items, tbcd.len() as u8 + 1)
 }
 
 /// Law: what is sent for an address is read as its digits; an address has 2 to 9 octets, and one text of digits.

@@ -158,13 +158,16 @@ impl Digits {
         ensures value { result ≡ text_of self.now }
         ensures ascii { IsAscii result }
     {
-        let mut text = ShortList::new();
+        // How many there are is counted beside them: in the list it would be written for each, and read again for the next.
+        let mut items = [0u8; 16];
+        let mut count: usize = 0;
         let mut rest = self.word;
         while rest != 0 {
-            text.push((rest >> 60) as u8 + (b'0' - 1));
+            items[count] = (rest >> 60) as u8 + (b'0' - 1);
+            count += 1;
             rest <<= 4;
         }
-        text
+        ShortList::of_parts(&items, count as u8)
     }
 }
 

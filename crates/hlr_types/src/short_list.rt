@@ -38,6 +38,8 @@ impl<const N: usize> Model for ShortList<N> {
 }
 
 impl<const N: usize> ShortList<N> {
+    ghost use Rattle.hlr_types.specs.Padding.{IsPadded};
+
     /// No octet.
     pub fn new() -> Self
         requires { N < 256 }
@@ -60,6 +62,25 @@ impl<const N: usize> ShortList<N> {
             list.push(*octet);
         }
         list
+    }
+
+    /// The first octets of an array in which the others are zero.
+    pub(crate) fn of_parts(items: &[u8; N], count: u8) -> Self
+        requires { IsPadded N items.now count }
+        ensures { result ≡ take count items.now }
+    {
+        ShortList {
+            items: *items,
+            count,
+        }
+    }
+
+    /// The array that they stand in: the octets, and then zeros.
+    pub(crate) fn padded(&self) -> &[u8]
+        ensures padded { IsPadded N result.now (length self.now) }
+        ensures value { take (length self.now) result.now ≡ self.now }
+    {
+        &self.items
     }
 
     /// The octets.

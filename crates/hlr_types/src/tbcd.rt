@@ -115,13 +115,15 @@ fn octets_of(word: u64) -> Tbcd
     requires { IsWord word }
     ensures { result ≡ tbcd (in_word word) }
 {
-    let mut octets = ShortList::new();
+    let mut items = [0u8; 8];
+    let mut count: usize = 0;
     let mut rest = word;
     while rest != 0 {
-        octets.push(octet_of((rest >> 56) as u8));
+        items[count] = octet_of((rest >> 56) as u8);
+        count += 1;
         rest <<= 8;
     }
-    octets
+    ShortList::of_parts(&items, count as u8)
 }
 
 /// The octet of two half octets of a word, the first digit in its low half. Both are digits plus one; where the second is the 0

@@ -108,20 +108,11 @@ fn an_unlisted_event_drops_the_journal(rt: HostRuntime) -> Result<(), Fail> {
     Ok(())
 }
 
-/// What a register sends for the events: with entries, and without by one call and by one for each.
+/// What a register sends for the events: with entries, and without.
 fn run(alloc: Global) -> Option<Vec<Handled>> {
     node(alloc)?
         .run_owned(&mut Bump::new(alloc), events(alloc)?)
         .ok()
-}
-
-fn run_unlisted(alloc: Global) -> Option<Vec<OutList>> {
-    let (mut events, mut read, mut sent) = (events(alloc)?, Vec::new(alloc), Vec::new(alloc));
-    let mut bump = Bump::new(alloc);
-    node(alloc)?
-        .run_unlisted(&mut bump, &mut events, &mut read, &mut sent)
-        .ok()?;
-    Some(sent)
 }
 
 fn handled_unlisted(alloc: Global) -> Option<Vec<OutList>> {
@@ -145,8 +136,23 @@ fn are_those_of(sent: &[OutList], done: &[Handled]) -> bool {
 #[test]
 fn a_register_sends_the_same(rt: HostRuntime) -> Result<(), Fail> {
     let done = run(rt.alloc()).ok_or("run")?;
-    let by_one_call = run_unlisted(rt.alloc()).ok_or("run unlisted")?;
-    let by_three = handled_unlisted(rt.alloc()).ok_or("handled unlisted")?;
-    assert!(rt; are_those_of(&by_one_call, &done) && are_those_of(&by_three, &done));
+    let sent = handled_unlisted(rt.alloc()).ok_or("handled unlisted")?;
+    assert!(rt; are_those_of(&sent, &done));
     Ok(())
+}
+
+/// How many events are left in their list, and how many stand in the list of those that were read, which had one before.
+fn left_and_read(alloc: Global) -> Option<(usize, usize)> {
+    let (mut events, mut read) = (events(alloc)?, Vec::new(alloc));
+    let shard = ShardNumber::new(2)?;
+    read.push(Event::Expire { shard }).ok()?;
+    node(alloc)?
+        .read_lot(&mut Bump::new(alloc), &mut events, &mut read)
+        .ok()?;
+    Some((events.len(), read.len()))
+}
+
+#[test]
+fn a_lot_is_read(rt: HostRuntime) {
+    assert_eq!(rt; left_and_read(rt.alloc()), Some((0, 3)));
 }

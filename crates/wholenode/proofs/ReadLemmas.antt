@@ -125,3 +125,14 @@ reading_ends A T before raws done left here h none =
     let nothing : h.back ≡ [] = none_behind h.back (subst (λ (es : List Event). AreRead h.back es) none h.read) in
     subst (λ (rs : List RawEvent). Each T before rs done here)
     (sym (append-nil h.front) ∙ ap (λ (l : List RawEvent). h.front ++ l) (sym nothing) ∙ h.split) h.runs
+
+-- events that were read are as the machine has them, each by itself
+pub read_alone : (raws : List RawEvent) (events : List Event) → AreRead raws events → (map raw_of events ≡ raws) × AreRead (map raw_of events) events
+read_alone [] [] read = (refl, tt)
+read_alone [] (e ∷ es) read = absurd read
+read_alone (r ∷ rs) [] read = absurd read
+read_alone (r ∷ rs) (e ∷ es) (same, is, rest) =
+    let more = read_alone rs es rest in (
+      ap (λ (raw : RawEvent). raw ∷ map raw_of es) same ∙ ap (λ (raws : List RawEvent). r ∷ raws) more.0,
+      (refl, subst (λ (raw : RawEvent). IsEvent raw (event_of e)) (sym same) is, more.1),
+    )

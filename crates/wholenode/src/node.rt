@@ -8,7 +8,7 @@ ghost use Rattle.wholenode.specs.Opening.{BeginsWith};
 ghost use Rattle.wholenode.specs.Handling.{Cuts, Drops, IsRun, Refuses, Runs, Stops, Takes, sent_of};
 ghost use Rattle.wholenode.specs.Keeping.{NodeKeeps};
 ghost use Rattle.wholenode.specs.Reading.{AreRead};
-ghost use Rattle.wholenode.specs.Unlisted.{RunsUnlisted, StopsUnlisted, TakesUnlisted};
+ghost use Rattle.wholenode.specs.Unlisted.{TakesUnlisted};
 
 use crate::fault::{Cause, NodeFault, refusal, unread};
 use crate::opening::opening_shards;
@@ -265,59 +265,28 @@ impl Node {
         self.shards[place].drop_journal();
     }
 
-    /// Handles events as `run_owned` does, but keeps no entry of them: the journal of each shard that handles one is dropped, and is empty
-    /// behind it. What is sent for each event is put behind `sent`. It stops at the first event that is not handled; the register and
-    /// `sent` are then as the events before it leave them. A full journal refuses nothing.
+    /// Reads events, which are taken out of their list, for `handle_read_unlisted`: each frame is decoded in the arena. They stand in
+    /// `read` then, in place of what was there. Where memory runs out, the events are dropped, and the register stops at the first of them.
     ///
-    /// `events` is empty behind it, and so is `read`, in which the events stand once they are read: both keep their room, so that the
-    /// next ones need none of their own.
-    pub fn run_unlisted(
-        &mut self,
+    /// Both lists keep their room, so that the next events need none of their own.
+    ///
+    /// Limitation: an event that was read takes some 180 octets. Hand over some 64 frames at a time. Clock values and expiries need no
+    /// reading, and take longer this way than by `tick_unlisted` and `expire_unlisted`.
+    pub fn read_lot(
+        &self,
         bump: &mut Bump,
         events: &mut Vec<RawEvent>,
         read: &mut Vec<Event>,
-        sent: &mut Vec<OutList>,
     ) -> Result<(), Cause>
-        ensures runs { OnOk result (RunsUnlisted self.old (map raw_event events.old.items)
-            sent.old.items sent.new.items self.new) }
-        ensures stops { IfErr result (λ cause. StopsUnlisted self.old
-            (map raw_event events.old.items) sent.old.items sent.new.items cause self.new) }
-        ensures never_full { result ≢ Err Cause.JournalFull }
-        ensures emptied { (events.new.items ≡ []) × (read.new.items ≡ []) }
-        ensures keeps { NodeKeeps self.new }
-    {
-        read.clear();
-        let handled = self.read_and_run(bump, events, read, sent);
-        read.clear();
-        handled
-    }
-
-    /// The same, but what was read is left as it is.
-    fn read_and_run(
-        &mut self,
-        bump: &mut Bump,
-        events: &mut Vec<RawEvent>,
-        read: &mut Vec<Event>,
-        sent: &mut Vec<OutList>,
-    ) -> Result<(), Cause>
-        requires { read.old.items ≡ [] }
-        ensures runs { OnOk result (RunsUnlisted self.old (map raw_event events.old.items)
-            sent.old.items sent.new.items self.new) }
-        ensures stops { IfErr result (λ cause. StopsUnlisted self.old
-            (map raw_event events.old.items) sent.old.items sent.new.items cause self.new) }
+        ensures read { OnOk result (AreRead (map raw_event events.old.items) read.new.items) }
+        ensures stops { IfErr result (λ cause. Stops self.now
+            (map raw_event events.old.items) [] cause self.now) }
         ensures never_full { result ≢ Err Cause.JournalFull }
         ensures emptied { events.new.items ≡ [] }
-        ensures keeps { NodeKeeps self.new }
+        ensures keeps { NodeKeeps self.now }
     {
-        read_taken(self.alloc, bump, events, read)?;
-        for event in read.iter_mut() {
-            sent.reserve(1)?;
-            let outs = self.handle_read_unlisted(event)?;
-            sent.push_reserved(outs);
-            // Its octets are given back while they are near.
-            let _handled = event.take_raw();
-        }
-        Ok(())
+        read.clear();
+        read_taken(self.alloc, bump, events, read)
     }
 
     /// Handles an event as `handle_owned` does, but keeps no entry of it: the journal of its shard is dropped, and is empty behind it. A
@@ -381,8 +350,8 @@ impl Node {
         }
     }
 
-    /// The same for an event that was read.
-    fn handle_read_unlisted(&mut self, event: &Event) -> Result<OutList, Cause>
+    /// The same for an event that was read, as by `read_lot`.
+    pub fn handle_read_unlisted(&mut self, event: &Event) -> Result<OutList, Cause>
         requires { IsEvent (raw_of event.now) (event_of event.now) }
         ensures takes { IfOk result (λ sent. TakesUnlisted self.old (raw_of event.now) sent self.new) }
         ensures refused { IfErr result (λ cause. Refuses self.old (raw_of event.now) cause) }

@@ -5,7 +5,7 @@ use Rattle.hlr_input.proofs.ValueLaws.{pair_more, pairs_done}
 use Rattle.hlr_input.proofs.frame_octets.digit_octets.Goals as goal
 
 pub pairs-init : goal.pairs-init
-pairs-init c = (search rules, decode_start c.args.digits.now c.in_ok-octets.octets.items)
+pairs-init c = (search rules, decode_start c.args.digits.now c.resize.new.self.items)
 
 pub pairs-preserved : goal.pairs-preserved
 pairs-preserved c = (

@@ -1,5 +1,6 @@
-use Rattle.std.proofs.Common.{◌≡◌, subst, sym}
+use Rattle.std.proofs.Common.{◌≡◌, ◌∙◌, subst, sym}
 use Rattle.hlr_input.specs.Script.{Frame, IsLine, Line}
+use Rattle.hlr_input.proofs.LetteredLaws.{letter_of_frame}
 use Rattle.hlr_program.specs.Gathering.{LineStops, SaidStops, progress}
 use Rattle.hlr_program.proofs.GatherLemmas.{item_events, line_stops}
 use Rattle.hlr_program.proofs.ListLemmas.{else_on}
@@ -16,3 +17,7 @@ returns-in-Some-clause-stops g c =
     let same : said ≡ c.requires.good.0 = c.in-Some.ensures.only c.requires.good.0 c.requires.good.1.0 in
     else_on (SaidStops c.args.ids.now here said) (LineStops c.args.ids.now here c.args.line.now) c.add_frame.result c.add_frame.ensures.stops
     (λ fault stops. line_stops c.args.ids.now c.args.line.now said here fault (subst (IsLine c.args.line.now) (sym same) c.requires.good.1.0) stops)
+
+pub add_frame-requires-clause-plain : goal.add_frame-requires-clause-plain
+add_frame-requires-clause-plain g c = λ lifetimes lives unlettered.
+    sym (letter_of_frame c.args.line.now c.in-Some.frame.octets.now c.in-Some.frame.from c.in-Some.ensures.fields) ∙ c.requires.plain unlettered

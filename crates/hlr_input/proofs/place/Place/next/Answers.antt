@@ -1,6 +1,6 @@
 use Rattle.std.proofs.Common.{◌≡◌, ◌+◌, List, ℕ, map, length, drop, ap, refl, ◌∙◌, arith}
 use Rattle.records.specs.File.{lines}
-use Rattle.hlr_input.proofs.LetteredLaws.{none_behind}
+use Rattle.hlr_input.proofs.LetteredLaws.{none_behind, none_in_line}
 use Rattle.hlr_input.proofs.PlaceLaws.{is_next, next_line, no_next}
 use Rattle.hlr_input.proofs.place.Place.next.Goals as goal
 
@@ -38,3 +38,7 @@ returns-clause-line c =
     c.in_ok-size.ensures.cases.0 in
     next_line c.args.self.rest.now c.cut_line.result.0.now c.cut_line.result.1.now c.in_ok-size.size.now c.in_ok-size.lengths.now n
     c.cut_line.ensures.line c.cut_line.ensures.rest
+
+pub returns-clause-plain : goal.returns-clause-plain
+returns-clause-plain c = λ none.
+    none_in_line (lines c.args.self.rest.now) c.cut_line.result.0.now (lines c.cut_line.result.1.now) (returns-clause-line c) (c.args.self.plain none)
