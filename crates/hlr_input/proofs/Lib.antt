@@ -2,6 +2,7 @@ pub mod InputLaws
 pub mod OctetLaws
 pub mod DigitLaws
 pub mod ValueLaws
+pub mod LotLemmas
 pub mod LineLaws
 pub mod SpaceLaws
 pub mod FrameLaws

@@ -8,10 +8,7 @@ use Rattle.hex.specs.Hex.{decode_of, decode_pairs, decode_sized, hex_digit_value
 use Rattle.hex.proofs.HexLemmas.{decode_of-even}
 use Rattle.hex.proofs.Pairs.{prepend, decode_step, decode_done}
 use Rattle.hex.specs.declared.error.FromHexError.{FromHexError}
-
--- the value of a digit, and 0 for what is none
-abbrev pub value_of : ℕ → ℕ
-value_of digit = unwrap_or (hex_digit_value digit) 0
+use Rattle.hlr_input.specs.Digits.{value_of}
 
 pub value_below : (digit : ℕ) → value_of digit < 16
 value_below digit = grind (arith)

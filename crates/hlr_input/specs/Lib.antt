@@ -5,4 +5,5 @@ pub mod Reading
 pub mod CommandLine
 pub mod Command
 pub mod Seen
+pub mod Digits
 pub mod Lettered

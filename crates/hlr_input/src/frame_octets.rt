@@ -2,9 +2,10 @@
 
 ghost use Rattle.std.specs.List.{list_all};
 ghost use Rattle.hex.specs.Hex.{decode_of, hex_digit_value, is_hex_digit};
-ghost use Rattle.std.specs.Prelude.{◌≡◌, ◌↔◌, ◌%◌, ◌<◌, ◌==◌, ◌&&◌, not, IsTrue, ℕ, List, [], false, true, Ok, unwrap_or, IfOk, IfSome, Some, length, slice_index, option_map};
+ghost use Rattle.std.specs.Prelude.{◌≡◌, ◌↔◌, ◌%◌, ◌<◌, ◌≤◌, ◌+◌, ◌*◌, ◌==◌, ◌&&◌, not, IsTrue, ℕ, List, [], false, true, Ok, unwrap_or, IfOk, IfSome, Some, length, slice_index, option_map};
 ghost use Rattle.hlr_input.specs.declared.group.Group.{Group};
 ghost use Rattle.hlr_input.specs.Lettered.{has_letter};
+ghost use Rattle.hlr_input.specs.Digits.{AreOctetsOf, octet_at};
 ghost use Rattle.hlr_input.specs.Octets.{IsOctets, octets_of, are_known};
 ghost use Rattle.hlr_input.specs.Reading.{group_in, letter_in, are_groups, octets_stand, stands, octets_after, octets_in};
 ghost use Rattle.records.specs.Reading.{octet_in};
@@ -14,6 +15,11 @@ use crate::letters::MAX_LETTERS;
 use hex::FromHex;
 use hlr_types::Tid;
 use std::alloc::AllocError;
+
+/// How many octets are read at once from their digits, and how many digits these are.
+const AT_ONCE: usize = 16;
+
+const DIGITS_AT_ONCE: usize = 2 * AT_ONCE;
 
 /// Whether the text is the octets of a frame: `-` for none, otherwise groups of two characters, each an octet in hexadecimal
 /// digits of either case, or `$` and a letter.
@@ -169,21 +175,80 @@ fn listed_octets(room: Vec<u8>, text: &[u8], ids: &[Tid]) -> Result<Option<Vec<u
     group_octets(room, text, ids)
 }
 
-/// The octets that hexadecimal digits stand for, two for each. Each digit is read by itself, and no branch depends on what it is:
-/// letters and decimal digits come in no order that a processor guesses, and a wrong guess takes it longer than a digit does.
+/// The octets that hexadecimal digits stand for, two for each.
 fn digit_octets(room: Vec<u8>, digits: &[u8]) -> Result<Vec<u8>, AllocError>
     requires none { room.items ≡ [] }
     requires even { length digits.now % 2 ≡ 0 }
     requires all { list_all is_hex_digit digits.now ≡ true }
     ensures { IfOk result (λ octets. decode_of digits.now ≡ Ok octets.items) }
 {
-    let count = digits.len() / 2;
     let mut octets = room;
-    octets.resize(count, 0)?;
-    'pairs: for place in 0..count {
-        octets[place] = digit_value(digits[2 * place]) * 16 + digit_value(digits[2 * place + 1]);
-    }
+    octets.resize(digits.len() / 2, 0)?;
+    write_octets(&mut octets, digits);
     Ok(octets)
+}
+
+/// Writes the octets of digits over as many octets: sixteen at once, and the last sixteen again from where they begin, so that none is left
+/// to be read by itself, which takes several times as long.
+fn write_octets(octets: &mut [u8], digits: &[u8])
+    requires { length digits.now ≡ 2 * length octets.old }
+    ensures { AreOctetsOf digits.now octets.new }
+{
+    let Some(last) = octets.len().checked_sub(AT_ONCE) else {
+        write_few(octets, digits);
+        return;
+    };
+    let mut place = 0;
+    'lots: while place < last {
+        write_lot(octets, digits, place);
+        place += AT_ONCE;
+    }
+    write_lot(octets, digits, last);
+}
+
+/// The same for fewer than sixteen: they are read as sixteen, and what is read beyond them is left.
+fn write_few(octets: &mut [u8], digits: &[u8])
+    requires few { length octets.old < 16 }
+    requires half { length digits.now ≡ 2 * length octets.old }
+    ensures { AreOctetsOf digits.now octets.new }
+{
+    let mut chunk = [b'0'; DIGITS_AT_ONCE];
+    chunk[..digits.len()].copy_from_slice(digits);
+    let lot = octets_of_lot(&chunk);
+    octets.copy_from_slice(&lot[..octets.len()]);
+}
+
+/// The same for the sixteen octets from a place on.
+fn write_lot(octets: &mut [u8], digits: &[u8], place: usize)
+    requires room { place + 16 ≤ length octets.old }
+    requires half { length digits.now ≡ 2 * length octets.old }
+    ensures len { length octets.new ≡ length octets.old }
+    ensures written { (k : ℕ) → place ≤ k → k < place + 16
+        → slice_index octets.new k ≡ octet_at digits.now k }
+    ensures kept { (k : ℕ) → k < place → slice_index octets.new k ≡ slice_index octets.old k }
+{
+    let (chunk, _) = digits[2 * place..]
+        .split_first_chunk::<DIGITS_AT_ONCE>()
+        .unwrap();
+    octets[place..place + AT_ONCE].copy_from_slice(&octets_of_lot(chunk));
+}
+
+/// The sixteen octets of their digits. Each digit is read by itself, and no branch depends on what it is: letters and decimal digits come
+/// in no order that a processor guesses, and a wrong guess takes it longer than a digit does. Their values come first, so that the
+/// compiler takes sixteen at a time in both loops.
+#[inline(always)]
+fn octets_of_lot(digits: &[u8; DIGITS_AT_ONCE]) -> [u8; AT_ONCE]
+    ensures { AreOctetsOf digits.now result }
+{
+    let mut values = [0u8; DIGITS_AT_ONCE];
+    'values: for place in 0..DIGITS_AT_ONCE {
+        values[place] = digit_value(digits[place]);
+    }
+    let mut octets = [0u8; AT_ONCE];
+    'octets: for place in 0..AT_ONCE {
+        octets[place] = values[2 * place] * 16 + values[2 * place + 1];
+    }
+    octets
 }
 
 /// The value of a hexadecimal digit, which is that of the octet of 0 and the digit. 0 if it is none.

@@ -1,10 +1,12 @@
-//! Tests of the input: digits and ids (`hlr_types`), the records file (`records`), and the command line (`hlr_input`).
+//! Tests of the input: digits and ids (`hlr_types`), the records file (`records`), the octets of frames and the command line (`hlr_input`).
 //!
 //! They are in a crate of their own because a crate with tests is proved twice.
 #![tactic(auto)]
 
 #[cfg(test)]
 mod command_lines;
+#[cfg(test)]
+mod frame_octets;
 #[cfg(test)]
 mod identities;
 #[cfg(test)]

@@ -1,18 +1,11 @@
-use Rattle.std.proofs.Common.{refl, ◌∙◌, arith, rules}
-use Rattle.std.proofs.lemmas.List.{length-set}
-use Rattle.hex.proofs.Pairs.{decode_start}
-use Rattle.hlr_input.proofs.ValueLaws.{pair_more, pairs_done}
+use Rattle.std.proofs.Common.{◌≡◌, ◌/◌, ℕ, List, length, arith, rules, sym, ap, ◌∙◌}
+use Rattle.std.specs.Prelude.{Ok}
+use Rattle.hlr_input.proofs.LotLemmas.{read_all, written_back}
 use Rattle.hlr_input.proofs.frame_octets.digit_octets.Goals as goal
 
-pub pairs-init : goal.pairs-init
-pairs-init c = (search rules, decode_start c.args.digits.now c.resize.new.self.items)
-
-pub pairs-preserved : goal.pairs-preserved
-pairs-preserved c = (
-  length-set _ _ _ ∙ c.pairs.invariant.0,
-  pair_more c.args.digits.now c.pairs.octets.items c.pairs.place _ (omega arith) (omega arith) c.requires.all
-      (rw (c.digit_value.ensures.value, c.digit_value-in-pairs.ensures.value) refl) c.pairs.invariant.1,
-)
-
 pub returns : goal.returns
-returns c = pairs_done c.args.digits.now c.pairs.octets.items c.pairs.place (omega arith) (omega arith) c.requires.even c.pairs.invariant.1
+returns c =
+    let room : c.resize.new.self.len ≡ length c.args.digits.now / 2 = search rules in
+    let own : length c.write_octets.new.octets ≡ c.resize.new.self.len = omega (arith, room, c.write_octets.ensures.half) in
+    read_all c.args.digits.now c.write_octets.new.octets c.requires.even c.requires.all c.write_octets.ensures
+    ∙ ap (λ (os : List ℕ). Ok os) (sym (written_back c.write_octets.new.octets c.resize.new.self.items c.resize.new.self.len own))
