@@ -2,7 +2,7 @@
 
 ghost use Rattle.std.specs.List.{list_all};
 ghost use Rattle.hex.specs.Hex.{decode_of, hex_digit_value, is_hex_digit};
-ghost use Rattle.std.specs.Prelude.{◌≡◌, ◌↔◌, ◌%◌, ◌<◌, ◌≤◌, ◌+◌, ◌*◌, ◌==◌, ◌&&◌, not, IsTrue, ℕ, List, [], false, true, Ok, unwrap_or, IfOk, IfSome, Some, length, slice_index, option_map};
+ghost use Rattle.std.specs.Prelude.{◌≡◌, ◌↔◌, ◌%◌, ◌<◌, ◌≤◌, ◌+◌, ◌*◌, ◌==◌, ◌&&◌, not, IsTrue, ℕ, List, [], false, true, Ok, unwrap_or, vec_capacity, IsOk, IfOk, IfSome, Some, length, slice_index, option_map};
 ghost use Rattle.hlr_input.specs.declared.group.Group.{Group};
 ghost use Rattle.hlr_input.specs.Lettered.{has_letter};
 ghost use Rattle.hlr_input.specs.Digits.{AreOctetsOf, octet_at};
@@ -131,12 +131,14 @@ pub fn read_octets(room: Vec<u8>, text: &[u8], ids: &[Tid]) -> Result<Option<Vec
     octets_with(room, text, ids)
 }
 
-/// The same for the octets of a frame of which it is known that they have no letter: they are not looked through for one.
+/// The same for the octets of a frame of which it is known that they have no letter: they are not looked through for one. No memory is
+/// asked for where the list has room for half as many octets as the text has.
 pub fn read_plain_octets(room: Vec<u8>, text: &[u8]) -> Result<Vec<u8>, AllocError>
     requires octets { (groups : List Group) × IsOctets text.now groups }
     requires plain { has_letter text.now ≡ false }
-    ensures { IfOk result (λ octets. (groups : List Group) × IsOctets text.now groups
+    ensures read { IfOk result (λ octets. (groups : List Group) × IsOctets text.now groups
         × ((ids : List (List ℕ)) → octets_of ids groups ≡ Some octets.items)) }
+    ensures had_room { length text.now ≤ 2 * vec_capacity room → IsOk result }
 {
     let mut octets = room;
     octets.clear();
@@ -180,7 +182,8 @@ fn digit_octets(room: Vec<u8>, digits: &[u8]) -> Result<Vec<u8>, AllocError>
     requires none { room.items ≡ [] }
     requires even { length digits.now % 2 ≡ 0 }
     requires all { list_all is_hex_digit digits.now ≡ true }
-    ensures { IfOk result (λ octets. decode_of digits.now ≡ Ok octets.items) }
+    ensures read { IfOk result (λ octets. decode_of digits.now ≡ Ok octets.items) }
+    ensures had_room { length digits.now ≤ 2 * vec_capacity room → IsOk result }
 {
     let mut octets = room;
     octets.resize(digits.len() / 2, 0)?;
@@ -225,7 +228,9 @@ fn write_lot(octets: &mut [u8], digits: &[u8], place: usize)
     ensures len { length octets.new ≡ length octets.old }
     ensures written { (k : ℕ) → place ≤ k → k < place + 16
         → slice_index octets.new k ≡ octet_at digits.now k }
-    ensures kept { (k : ℕ) → k < place → slice_index octets.new k ≡ slice_index octets.old k }
+    ensures before { (k : ℕ) → k < place → slice_index octets.new k ≡ slice_index octets.old k }
+    ensures behind { (k : ℕ) → place + 16 ≤ k
+        → slice_index octets.new k ≡ slice_index octets.old k }
 {
     let (chunk, _) = digits[2 * place..]
         .split_first_chunk::<DIGITS_AT_ONCE>()

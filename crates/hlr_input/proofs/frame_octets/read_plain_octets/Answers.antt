@@ -16,9 +16,9 @@ digit_octets-requires-clause-all c =
     let other : is_text c.args.text.now (codes "-") ≡ false = rw c.as_slice.ensures at (sym c.eq.ensures ∙ c.if-eq.false) in
     (plain_digits c.args.text.now c.requires.octets.0 c.requires.octets.1 other c.requires.plain).1
 
-pub returns : goal.returns
-returns c =
+pub returns-clause-read : goal.returns-clause-read
+returns-clause-read c =
     let other : is_text c.args.text.now (codes "-") ≡ false = rw c.as_slice.ensures at (sym c.eq.ensures ∙ c.if-eq.false) in
     IfOk-weaker c.digit_octets.result _ _
     (λ octets e. (c.requires.octets.0, c.requires.octets.1, plain_read c.args.text.now octets.items c.requires.octets.0 c.requires.octets.1 other e))
-    c.digit_octets.ensures
+    c.digit_octets.ensures.read
