@@ -8,7 +8,7 @@
 #include "address.h"
 #include "transaction.h"
 
-/* Notes the address that came with a peer's transaction id. As many are kept as dialogues can be open; the oldest give way. */
+/* Notes the address that came with a peer's transaction id: 65,536 of them, in sets of four; in a full set the oldest gives way. */
 void note_dialogue(const peer_name name, const struct transaction_id *id, const struct osmo_sccp_addr *address);
 
 /* The address noted for a peer's transaction id, or null. */
