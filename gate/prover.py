@@ -1,5 +1,5 @@
-"""What wrong-bodies/run and wrong-definitions/run share: `rt` as a module, the libraries below a crate, and one check of a crate
-with edited texts. The gate (`rt ci`) is run by `rt` itself; this only calls the prover as `rt` calls it for a must-fail edit."""
+"""What the scripts of the gate share: `rt` as a module, the crates, what `rt ci` kept of them, the libraries below a crate, and one
+check of a crate with edited texts. The gate (`rt ci`) is run by `rt` itself; this only calls the prover as `rt` calls it."""
 import copy
 import importlib.machinery
 import importlib.util
@@ -41,13 +41,26 @@ def stamp(crate):
 rtlib.Crate.stamp = stamp
 
 
+def listed():
+    """The crates of crates.txt by name, lowest first."""
+    return {it.name: it for it in lowest_first(rtlib.crates_below(str(TOP)))}
+
+
 def crates():
-    """The crates of crates.txt by name, lowest first; no other `rt` works in them until this run ends."""
-    found = sorted(rtlib.crates_below(str(TOP)), key=lambda it: len(it.below()))
-    for it in found:
+    """The same, and no other `rt` works in them until this run ends."""
+    found = listed()
+    for it in found.values():
         rtlib.stop_on_links(it.folder)
-    held.extend(rtlib.lock(found))
-    return {it.name: it for it in found}
+    held.extend(rtlib.lock(found.values()))
+    return found
+
+
+def lowest_first(crates):
+    return sorted(crates, key=lambda it: len(it.below()))
+
+
+def libraries_below(above):
+    return lowest_first({it for crate in above for it in crate.below()})
 
 
 def is_as_left_by_ci(crate):
@@ -59,31 +72,46 @@ def is_as_left_by_ci(crate):
     return max(map(os.path.getmtime, [f"{TOP}/crates.txt", *files])) < os.path.getmtime(made)
 
 
+class Kept:
+    """What `rt ci` kept, on this machine, of the files as they stand: it finds that by the sum of all that was read for it. It is put
+    into a folder of this run, and out/ stays as it is."""
+
+    def __init__(self, crates):
+        rt.Crate.allowed = rt.handles_of(str(TOP))
+        # (an older toolchain keeps nothing)
+        self.store = rt.Kept(crates) if hasattr(rt, "Kept") else None
+        self.room = tempfile.TemporaryDirectory(prefix="kept-")
+
+    def taken(self, crate, of_tests=False):
+        """The folder in which is now what was proved of the crate, or of its tests, whose libraries below have been taken; None
+        where it is not kept."""
+        copied = copy.copy(crate)
+        copied.folder = f"{self.room.name}/{crate.name}"
+        if not self.store or not self.store.give(copied, of_tests, self.store.key(crate)):
+            return None
+        self.store.is_built(copied)
+        return f"{copied.folder}/out"
+
+    def take_libraries(self, crates):
+        """Whether all these, lowest first, are kept; they are then used where they have been put."""
+        folders = {it: self.taken(it) for it in crates}
+        for it, folder in folders.items() if all(folders.values()) else ():
+            it.rlib = f"{folder}/rlib/{it.name}.rlib"
+        return all(folders.values())
+
+
 def are_kept_by_ci(crates):
-    """Whether these libraries, lowest first, are those that `rt ci` keeps, on this machine, of the files as they stand: it finds
-    them by the sum of all that was read for them, and leaves them older than the files of a fresh clone."""
-    if not hasattr(rt, "Kept"):  # a toolchain whose `rt ci` keeps none
-        return False
-    rt.Crate.allowed = rt.handles_of(str(TOP))
-    kept = rt.Kept(crates)
-    for crate in crates:
-        key = kept.key(crate)
-        try:
-            with open(f"{kept.place(crate, False, key)}/made.json", encoding="utf-8") as it:
-                made = json.load(it)
-            if made["key"] != key or any(rtlib.sum_of(f"{crate.folder}/out/{path}") != sum for path, sum in made["files"]):
-                return False
-        except (OSError, ValueError, KeyError):
-            return False
-        kept.is_built(crate)
-    return True
+    """Whether `rt ci` kept all these libraries, lowest first, which are then used from there."""
+    held.append(Kept(crates))
+    return held[-1].take_libraries(crates)
 
 
 def lacking_libraries(above):
-    """Makes the libraries below these crates ready, and returns the names of those that are not proved. Those that `rt ci` has
-    just proved, or kept, are used as they are; on a tree with kept work each that changed is built over that, side by side."""
-    below = sorted({it for crate in above for it in crate.below()}, key=lambda it: len(it.below()))
-    if all(map(is_as_left_by_ci, below)) or are_kept_by_ci(below):
+    """Makes the libraries below these crates ready, and returns the names of those that are not proved. Used as they are: those that
+    `rt ci` has just left in out/, or `rt check` on a tree with kept work, or else those that `rt ci` kept; where not all of them are
+    there in one of these ways, each that changed is built over kept work, side by side."""
+    below = libraries_below(above)
+    if all(map(is_as_left_by_ci, below)) or all(it.is_built() for it in below) or are_kept_by_ci(below):
         return []
 
     def build(crate, given, jobs):

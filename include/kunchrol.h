@@ -14,8 +14,9 @@
  * Each call but kunchrol_close returns KUNCHROL_OK, or the reason why it did nothing. In that case the register and the frames that wait
  * are unchanged.
  *
- * The register keeps a journal of each of its sixteen shards: an entry for each event, with the whole frame that came and the frames that
- * were sent. A journal grows until it has 65,536 entries, whether anybody reads it or not; kunchrol_cut empties it.
+ * A register that is opened with KUNCHROL_KEEP_JOURNALS keeps a journal of each of its sixteen shards: an entry for each event, with the
+ * whole frame that came and the frames that were sent. A journal grows until it has 65,536 entries, whether anybody reads it or not;
+ * kunchrol_cut empties it. Without that flag no entry is kept, no memory is taken for one, and no event is refused for a full journal.
  */
 #ifndef KUNCHROL_H
 #define KUNCHROL_H
@@ -62,11 +63,16 @@ static inline const char *kunchrol_name(uint32_t code)
 	return code < sizeof(names) / sizeof(names[0]) ? names[code] : "unknown";
 }
 
+enum {
+	KUNCHROL_KEEP_JOURNALS = 1 /* kunchrol_open: keep the entries that kunchrol_cut lists */
+};
+
 /*
  * Opens a register, in a closed handle, on the text of a records file (docs/PROTOCOL.md): no dialogue is open, each shard's clock is
- * at 0, and no frame waits. If a line has a fault, its number, from 1, is stored at line, otherwise 0.
+ * at 0, and no frame waits. With KUNCHROL_KEEP_JOURNALS as journals it keeps a journal of each shard, with 0 none. If a line has a
+ * fault, its number, from 1, is stored at line, otherwise 0.
  */
-uint32_t kunchrol_open(const uint8_t *records, size_t records_len, struct kunchrol *hlr, uint64_t *line);
+uint32_t kunchrol_open(const uint8_t *records, size_t records_len, uint8_t journals, struct kunchrol *hlr, uint64_t *line);
 
 /*
  * The five calls below give one event each. Take the frames of the event before with kunchrol_next first: an event that is handled drops

@@ -1,8 +1,9 @@
 /*
- * Plays a script on records through the library, as the program `hlr` does in one thread: play RECORDS SCRIPT [--again] [--list] [--save].
+ * Plays a script on records through the library, as the program `hlr` does in one thread: play RECORDS SCRIPT [--again] [--none] [--list] [--save].
  * Prints `S <to> <octets>` for each frame that is sent; with --list then the journals, which are cut, and with --save the records,
- * each line behind `V `. A call that answers MEMORY changed nothing, so with --again it is made once more; where a journal is full all
- * are cut, and the event is given again. A line that is not handled is told on standard error, and the status is then 1.
+ * each line after `V `. A call that returns MEMORY changed nothing, so with --again it is made once more; if a journal is full all
+ * are cut, and the event is given again. With --none the register keeps no journals. A line that is not handled is reported on
+ * standard error, and the status is then 1.
  */
 #include "../../include/kunchrol.h"
 #include "libc.h"
@@ -227,14 +228,18 @@ int main(int argc, char **argv)
 {
 	long records_len = argc < 3 ? -1 : read_file(argv[1], records, sizeof(records));
 	long script_len = argc < 3 ? -1 : read_file(argv[2], script, MAX_TEXT);
+	uint8_t journals = KUNCHROL_KEEP_JOURNALS;
 	uint64_t line = 0;
 	uint32_t code;
 
 	if (records_len < 0 || script_len < 0)
 		return 2;
-	for (int word = 3; word < argc; word++)
+	for (int word = 3; word < argc; word++) {
 		is_made_again |= !strcmp(argv[word], "--again");
-	CALL(code, kunchrol_open(records, (size_t)records_len, &hlr, &line));
+		if (!strcmp(argv[word], "--none"))
+			journals = 0;
+	}
+	CALL(code, kunchrol_open(records, (size_t)records_len, journals, &hlr, &line));
 	if (code) {
 		dprintf(STANDARD_ERROR, "play: records line %llu: %s\n", (unsigned long long)line, kunchrol_name(code));
 		return 1;

@@ -1,26 +1,15 @@
-/* The time of a route through the library: speed ROUTES. A journal that is full is cut, and its listing is dropped. */
+/* The time of a route through the library: speed ROUTES. The register keeps no journals. */
 #include "../../include/kunchrol.h"
 #include "frames.h"
 
-enum { MAX_LISTING = 4194304 };
-
 static struct kunchrol hlr = KUNCHROL_CLOSED_HANDLE;
-static uint8_t listing[MAX_LISTING];
 
 static uint32_t route(void)
 {
 	uint8_t to[KUNCHROL_MAX_DIGITS], octets[KUNCHROL_MAX_OCTETS];
 	size_t to_len, len;
-	uint32_t code;
+	uint32_t code = kunchrol_frame(&hlr, (const uint8_t *)ASKING, strlen(ASKING), ROUTE, sizeof(ROUTE));
 
-	for (;;) {
-		code = kunchrol_frame(&hlr, (const uint8_t *)ASKING, strlen(ASKING), ROUTE, sizeof(ROUTE));
-		if (code != KUNCHROL_JOURNAL)
-			break;
-		for (uint8_t shard = 0; shard < KUNCHROL_SHARDS; shard++)
-			if ((code = kunchrol_cut(&hlr, shard, listing, sizeof(listing), &len)))
-				return code;
-	}
 	return code ? code : kunchrol_next(&hlr, to, sizeof(to), &to_len, octets, sizeof(octets), &len);
 }
 
@@ -39,7 +28,7 @@ int main(int argc, char **argv)
 	uint64_t line = 0;
 	double begun;
 
-	if (!routes || kunchrol_open((const uint8_t *)RECORDS, strlen(RECORDS), &hlr, &line))
+	if (!routes || kunchrol_open((const uint8_t *)RECORDS, strlen(RECORDS), 0, &hlr, &line))
 		return 2;
 	begun = seconds();
 	for (unsigned long long done = 0; done < routes && !code; done++)

@@ -142,7 +142,7 @@ bool hlr_open(const char *path, send_function send, char own[KUNCHROL_MAX_DIGITS
 
 	if (!text)
 		return false;
-	code = kunchrol_open(text, len, &hlr, &line);
+	code = kunchrol_open(text, len, KUNCHROL_KEEP_JOURNALS, &hlr, &line);
 	if (code)
 		fprintf(stderr, "hlr: %s line %llu: %s\n", path, (unsigned long long)line, kunchrol_name(code));
 	else if (sscanf((const char *)text, "HLR%*1[12] %16[0-9]", own) != 1)

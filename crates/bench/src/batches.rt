@@ -11,7 +11,7 @@ use std::alloc::Global;
 use std::sync::Wait;
 use std::thread::Threads;
 use std::time::Instant;
-use wholenode::Node;
+use wholenode::{Keep, Node};
 use workers::{Job, JobNumber, Office, OpenGate, Receipt, numbers_rise, reconcile, run_batch};
 
 /// A subscriber of each shard, all with one serving register.
@@ -96,7 +96,7 @@ fn tell(rt: &HostRuntime, name: &str, start: &Instant, count: u64) -> Result<()>
 
 fn time_node(rt: &HostRuntime, count: u64) -> Result<()> {
     let alloc = rt.alloc();
-    let mut node = Node::new(alloc, loaded(alloc)?)?;
+    let mut node = Node::new(alloc, loaded(alloc)?, Keep::Entries)?;
     let events = routes(alloc, count)?;
     let start = Instant::now(rt)?;
     let done = node

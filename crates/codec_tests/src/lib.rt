@@ -1,7 +1,7 @@
 //! Tests of the codecs: octets and trees, the codecs of TCAP and MAP, the verdict on a frame, and sent
 //! messages.
 //!
-//! They are in a crate of their own because a crate with tests is proved twice.
+//! They are in a crate of their own, which the gate runs and does not prove.
 #![tactic(auto)]
 
 #[cfg(test)]

@@ -13,6 +13,7 @@ use Rattle.shard_state.specs.declared.answer.Out.{Out}
 use Rattle.shard_state.specs.Frames.{raw_out}
 use Rattle.shardlog.specs.declared.entry.Epoch.{Epoch}
 use Rattle.shardlog.specs.declared.entry.Handled.{Handled}
+use Rattle.shardlog.specs.declared.keep.Keep.{Keep}
 use Rattle.shardlog.specs.Log.{Log}
 use Rattle.audit.specs.Listing.{ListsJournal}
 use Rattle.wholenode.specs.Handling.{Cuts, Takes, sent_of}
@@ -22,10 +23,10 @@ use Rattle.wholenode.specs.Opening.{BeginsWith}
 use Rattle.embed.specs.Journals.{CutsOff, ListsShard}
 use Rattle.embed.specs.Registers.{Answers, Opens, RegisterState, register}
 
-pub opens : (contents : Contents) (loaded : Subscribers) (n : NodeState) (waiting : List RawOut) → loaded ≡ loaded_from contents
-    → BeginsWith loaded n → NodeKeeps n → waiting ≡ [] → Opens contents (register n waiting)
-opens contents loaded n waiting is begins keeps none = record {
-  begins = subst (λ (it : Subscribers). BeginsWith it n) is begins;
+pub opens : (contents : Contents) (loaded : Subscribers) (keep : Keep) (n : NodeState) (waiting : List RawOut) → loaded ≡ loaded_from contents
+    → BeginsWith loaded keep n → NodeKeeps n → waiting ≡ [] → Opens contents keep (register n waiting)
+opens contents loaded keep n waiting is begins keeps none = record {
+  begins = subst (λ (it : Subscribers). BeginsWith it keep n) is begins;
   keeps = keeps;
   waiting = none;
 }

@@ -6,6 +6,7 @@ use Rattle.records.specs.File.{Contents}
 use Rattle.records.specs.Loaded.{loaded_from}
 use Rattle.shard_state.specs.Frames.{raw_out_code}
 use Rattle.shardlog.specs.declared.entry.Handled.{Handled}
+use Rattle.shardlog.specs.declared.keep.Keep.{Keep}
 use Rattle.wholenode.specs.Handling.{Takes, sent_of}
 use Rattle.wholenode.specs.Keeping.{NodeKeeps}
 use Rattle.wholenode.specs.Nodes.{NodeState, node_state_code}
@@ -24,9 +25,10 @@ register_state_code =
     code_by (NodeState × List RawOut) (coded× node_state_code (coded_list raw_out_code)) (λ r. (r.node, r.waiting))
     (λ p. register p.0 p.1) (λ _. refl)
 
--- The register of a records file with these contents: no dialogue is open, each clock is at 0, and no frame waits.
-pub record Opens (contents : Contents) (r : RegisterState) : Type 0 where
-  pub begins : BeginsWith (loaded_from contents) r.node
+-- The register of a records file with these contents, which keeps journals or none: no dialogue is open, each clock is at 0, and no frame
+-- waits.
+pub record Opens (contents : Contents) (keep : Keep) (r : RegisterState) : Type 0 where
+  pub begins : BeginsWith (loaded_from contents) keep r.node
   pub keeps : NodeKeeps r.node
   pub waiting : r.waiting ≡ []
 

@@ -10,3 +10,4 @@ mod room;
 pub use events::{clock_event, codes_event, expiry_event, frame_event, withdrawal_event};
 pub use fault::RoomFault;
 pub use register::Register;
+pub use wholenode::Keep;

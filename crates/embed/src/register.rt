@@ -19,7 +19,7 @@ use records::{RecordsFault, read_records};
 use std::alloc::{AllocError, Global};
 use std::marker::Model;
 use std::slice;
-use wholenode::{Cause, Node};
+use wholenode::{Cause, Keep, Node};
 
 /// The sixteen shards with their journals, an arena for one frame at a time, and the frames of the last event, the first of
 /// which, `taken` in number, were taken.
@@ -45,15 +45,16 @@ impl Model for Register {
 
 impl Register {
     /// The register of a records file, which `read_records` describes: no dialogue is open, each clock is at 0, the journals are
-    /// empty, and no frame waits. The first line with a fault decides.
-    pub fn open(alloc: Global, text: &[u8]) -> Result<Register, RecordsFault>
+    /// empty, and no frame waits. Each event gets an entry in the journal of its shard, or none does. The first line with a fault decides.
+    pub fn open(alloc: Global, text: &[u8], keep: Keep) -> Result<Register, RecordsFault>
         // A text that is opened is a records file, and the register begins with its contents.
         ensures found { IfOk result (λ r.
-            (contents : Contents) × File text.now contents × Opens contents r) }
+            (contents : Contents) × File text.now contents × Opens contents keep r) }
 
         // A records file is opened, unless memory runs out.
         ensures only { (contents : Contents) → File text.now contents
-            → MatchResult result (Opens contents) (λ fault. fault ≡ RecordsFault.Memory) }
+            → MatchResult result (Opens contents keep)
+            (λ fault. fault ≡ RecordsFault.Memory) }
 
         // A fault is the one of the first line with a fault, which is reported unless memory runs out.
         ensures bad_line { (n : ℕ) → result ≡ Err (RecordsFault.BadLine n) → IsBadLine text.now n }
@@ -66,7 +67,7 @@ impl Register {
             (λ fault. (fault ≡ RecordsFault.Twice n) ⊎ (fault ≡ RecordsFault.Memory)) }
     {
         let loaded = read_records(alloc, text)?;
-        let node = Node::new(alloc, loaded)?;
+        let node = Node::new(alloc, loaded, keep)?;
         Ok(Register {
             alloc,
             node,
@@ -77,17 +78,18 @@ impl Register {
     }
 
     /// Handles one event. The frames that it sends are then to be read by `front` and taken by `drop_front`, one after the other;
-    /// frames of the event before it that were not taken are dropped. On error nothing changes, and frames that wait still do.
+    /// frames of the event before it that were not taken are dropped. On error nothing changes, frames that wait still do, and the event is
+    /// dropped.
     ///
     /// - `JournalFull`: the journal of its shard has 65,536 entries, until `cut`.
     /// - `NoRoom`: it is an operator's change for which the machine has no step: it would open a dialogue beside 4,096.
     /// - `Memory` and `ResetRefused`: out of memory.
-    pub fn handle(&mut self, raw: &RawEvent) -> Result<(), Cause>
-        ensures answers { OnOk result (Answers self.old (raw_event raw.now) self.new) }
-        ensures refused { IfErr result (λ cause. Refuses self.old.node (raw_event raw.now) cause) }
+    pub fn handle(&mut self, raw: RawEvent) -> Result<(), Cause>
+        ensures answers { OnOk result (Answers self.old (raw_event raw) self.new) }
+        ensures refused { IfErr result (λ cause. Refuses self.old.node (raw_event raw) cause) }
         ensures err { OnErr result (self.new ≡ self.old) }
     {
-        match self.node.handle(&mut self.bump, raw) {
+        match self.node.take(&mut self.bump, raw) {
             Ok(handled) => {
                 self.sent = handled.outs;
                 self.taken = 0;

@@ -1,6 +1,6 @@
 -- How a run ends: with success, or with a fault.
 use Rattle.std.proofs.Common.{◌≡◌, ℕ, zero, suc, ◌<◌, ◌≤◌, List, [], ◌++◌, refl, sym, ap, subst, ◌∙◌, append_assoc, inl, inr}
-use Rattle.std.specs.Prelude.{Option, Some, None, Result, Ok, Err, IfErr, IfSome, IsErrAnd, OnOk}
+use Rattle.std.specs.Prelude.{Bool, Option, Some, None, Result, Ok, Err, IfErr, IfSome, IsErrAnd, OnOk}
 use Rattle.std.specs.Result.{result_err}
 use Rattle.std.specs.List.{AllByRecursion}
 use Rattle.std.specs.Io.KnownBytes.{Appends, Keeps}
@@ -10,6 +10,8 @@ use Rattle.machine.specs.Sound.{Sound}
 use Rattle.machine.specs.State.{State}
 use Rattle.records.specs.File.{lines}
 use Rattle.records.specs.Loaded.{Subscribers}
+use Rattle.shardlog.specs.declared.keep.Keep.{Keep}
+use Rattle.shardlog.specs.Codes.{kept_if}
 use Rattle.shardlog.specs.Log.{Log}
 use Rattle.hlr_input.specs.declared.options.Options.{Options}
 use Rattle.wholenode.specs.Nodes.{NodeState, whole}
@@ -23,7 +25,7 @@ use Rattle.hlr_program.specs.Closing.{Closes}
 use Rattle.hlr_program.specs.Journals.{IsAtEnd}
 use Rattle.hlr_program.specs.Printed.{WritesFront}
 use Rattle.hlr_program.specs.Promise.{Ends, EndsAlone, EndsWith, IsInput, RunsAndLists, RunsScript, StopsAtListing, StopsBatches, StopsRecords, StopsRunning, StopsScript, known_with}
-use Rattle.hlr_program.specs.Registers.{HandsOver, IsOf, OpensWith, RunsTo, state_known}
+use Rattle.hlr_program.specs.Registers.{HandsOver, IsOf, OpensWith, RunsTo, part_of, state_known}
 use Rattle.hlr_program.specs.Runs.{AreOneRun, BatchRun, IsLoadedFrom, events_in, opening_of, printed_of, sent_in}
 use Rattle.hlr_program.specs.Stopping.{HandingOutStops}
 use Rattle.hlr_program.proofs.GatherLemmas.{stops_weaker}
@@ -32,15 +34,20 @@ use Rattle.hlr_program.proofs.RegisterLemmas.{known_run, unknown_before}
 
 -- ---- the register that has loaded a records file
 
-known_opening : (loaded : Subscribers) (workers : ℕ) (start : Register) → IsOf workers start → OpensWith loaded start
+known_opening : (listed : Bool) (loaded : Subscribers) (workers : ℕ) (start : Register) → IsOf workers start → OpensWith listed loaded start
     → state_known start ≡ known_with workers (opening_of loaded)
-known_opening loaded zero (Alone node) of opens = ap (λ (S : State). Some S) opens.0.whole_is
-known_opening loaded (suc more) (Shared shared) of opens = refl
-known_opening loaded zero (Shared shared) of opens = absurd of
-known_opening loaded (suc more) (Alone node) of opens = absurd of
+known_opening listed loaded zero (Alone alone) of opens = ap (λ (S : State). Some S) opens.0.whole_is
+known_opening listed loaded (suc more) (Shared crew) of opens = refl
+known_opening listed loaded zero (Shared crew) of opens = absurd of
+known_opening listed loaded (suc more) (Alone alone) of opens = absurd of
 
-begins_at_end : (loaded : Subscribers) (start : NodeState) → BeginsWith loaded start → IsAtEnd (opening_of loaded) [] [] start
-begins_at_end loaded start begins =
+-- it was given nothing
+pub opens_empty : (listed : Bool) (loaded : Subscribers) (start : Register) → OpensWith listed loaded start → part_of start ≡ []
+opens_empty listed loaded (Alone alone) opens = opens.2
+opens_empty listed loaded (Shared crew) opens = opens.1
+
+begins_at_end : (loaded : Subscribers) (keep : Keep) (start : NodeState) → BeginsWith loaded keep start → IsAtEnd (opening_of loaded) [] [] start
+begins_at_end loaded keep start begins =
     opening_at_end (opening_of loaded) start
     (λ n l at. let opens = begins.shards_are.each n l at in (
       ap (λ (k : Log). k.base) opens.begins
@@ -50,27 +57,27 @@ begins_at_end loaded start begins =
     begins.whole_is
 
 -- the shards that the register returns are those at the end of the run
-ends_with : (loaded : Subscribers) (workers : ℕ) (start end : Register) (batches : List BatchRun) (shards : List Log) → IsOf workers start
-    → OpensWith loaded start
+ends_with : (listed : Bool) (loaded : Subscribers) (workers : ℕ) (start end : Register) (batches : List BatchRun) (shards : List Log) → IsOf workers start
+    → OpensWith listed loaded start
     → RunsTo start (events_in batches) (sent_in batches) end → HandsOver end shards → EndsWith workers (opening_of loaded) batches shards
-ends_with loaded zero (Alone start) (Alone end) batches shards of (begins, keeps) (run, continues) (same, kept) =
+ends_with listed loaded zero (Alone start) (Alone end) batches shards of (begins, keeps, none) (run, continues) (same, kept) =
     subst (λ (ls : List Log). EndsAlone (opening_of loaded) batches ls) (sym same) (record {
-      directory = end.directory;
+      directory = end.register.directory;
       keeps = kept;
-      run = subst (λ (S : State). AreOneRun S batches (whole end.shards)) begins.whole_is run;
-      at_end = continues (opening_of loaded) [] [] (begins_at_end loaded start begins);
+      run = subst (λ (S : State). AreOneRun S batches (whole end.register.shards)) begins.whole_is run;
+      at_end = continues (opening_of loaded) [] [] (begins_at_end loaded (kept_if listed) start.register begins);
     })
-ends_with loaded (suc more) (Shared start) (Shared end) batches shards of opens ran hands = hands (opening_of loaded) (events_in batches) (sent_in batches)
-    (ran.1 (opening_of loaded) [] [] opens)
-ends_with loaded zero (Alone start) (Shared end) batches shards of opens ran hands = absurd ran
-ends_with loaded (suc more) (Shared start) (Alone end) batches shards of opens ran hands = absurd ran
-ends_with loaded zero (Shared start) end batches shards of opens ran hands = absurd of
-ends_with loaded (suc more) (Alone start) end batches shards of opens ran hands = absurd of
+ends_with listed loaded (suc more) (Shared start) (Shared end) batches shards of opens ran hands =
+    hands (opening_of loaded) (events_in batches) (sent_in batches) (ran.1 (opening_of loaded) [] [] opens.0)
+ends_with listed loaded zero (Alone start) (Shared end) batches shards of opens ran hands = absurd ran
+ends_with listed loaded (suc more) (Shared start) (Alone end) batches shards of opens ran hands = absurd ran
+ends_with listed loaded zero (Shared start) end batches shards of opens ran hands = absurd of
+ends_with listed loaded (suc more) (Alone start) end batches shards of opens ran hands = absurd of
 
-module _ (options : Options) (loaded : Subscribers) (start : Register) (of : IsOf options.workers start) (opens : OpensWith loaded start)
+module _ (options : Options) (loaded : Subscribers) (start : Register) (of : IsOf options.workers start) (opens : OpensWith options.list loaded start)
     (sound : Sound (opening_of loaded)) where
   known_is : state_known start ≡ known_with options.workers (opening_of loaded)
-  known_is = known_opening loaded options.workers start of opens
+  known_is = known_opening options.list loaded options.workers start of opens
 
   pub runs_and_lists : (script : List ℕ) (batches : List BatchRun) (end : Register) (shards : List Log) (closing : List ℕ) → RunsScript script start batches end
       → HandsOver end shards
@@ -80,7 +87,7 @@ module _ (options : Options) (loaded : Subscribers) (start : Register) (of : IsO
     are_batches = ran.are_batches;
     begins_sound = sound;
     shards = shards;
-    ends = ends_with loaded options.workers start end batches shards of opens ran.ran hands;
+    ends = ends_with options.list loaded options.workers start end batches shards of opens ran.ran hands;
     closing = closing;
     closes = closes;
     printed_is = refl;

@@ -46,12 +46,13 @@ adds_join a b c r s h k = record {
 }
 
 -- an event is appended to the part
-pub adds_one : (a b : Progress) (raw : RawEvent) → b.register ≡ a.register → b.part ≡ a.part ++ raw ∷ [] → b.answers ≡ a.answers → Adds a (raw ∷ []) b
+pub adds_one : (a b : Progress) (raw : RawEvent) → RunsTo a.register [] [] b.register → b.part ≡ a.part ++ raw ∷ [] → b.answers ≡ a.answers
+    → Adds a (raw ∷ []) b
 adds_one a b raw same put sends = record {
   handled = [];
   outs = [];
   order = sym put;
-  ran = subst (λ (r : Register). RunsTo a.register [] [] r) (sym same) (ran_none a.register);
+  ran = same;
   prints = subst (λ (s : SoFar). Prints a.answers [] s) (sym sends) (prints_none a.answers);
 }
 
@@ -75,16 +76,6 @@ adds_sent a b raws outs none left ran sends = record {
   order = ap (λ (l : List RawEvent). l ++ raws) none ∙ sym (ap (λ (l : List RawEvent). raws ++ l) left ∙ append-nil raws);
   ran = ran;
   prints = sends;
-}
-
--- room is made in the journals
-pub adds_room : (a b : Progress) → RunsTo a.register [] [] b.register → b.part ≡ a.part → b.answers ≡ a.answers → Adds a [] b
-adds_room a b ran part answers = record {
-  handled = [];
-  outs = [];
-  order = append-nil a.part ∙ sym part;
-  ran = ran;
-  prints = subst (λ (s : SoFar). Prints a.answers [] s) (sym answers) (prints_none a.answers);
 }
 
 -- ---- events that stop
@@ -125,7 +116,7 @@ meets_behind S M handled es sent run h = record {
 -- the same, as far as the state is known
 meets_behind_from : (a b : Register) (handled es : List RawEvent) (sent : List (List RawOut)) → RunsTo a handled sent b → MeetsNoRoomFrom (state_known b) es
     → MeetsNoRoomFrom (state_known a) (handled ++ es)
-meets_behind_from (Alone a) (Alone b) handled es sent ran h = meets_behind (whole a.shards) (whole b.shards) handled es sent ran.0 h
+meets_behind_from (Alone a) (Alone b) handled es sent ran h = meets_behind (whole a.register.shards) (whole b.register.shards) handled es sent ran.0 h
 meets_behind_from (Shared a) (Shared b) handled es sent ran h = tt
 meets_behind_from (Alone a) (Shared b) handled es sent ran h = absurd ran
 meets_behind_from (Shared a) (Alone b) handled es sent ran h = tt

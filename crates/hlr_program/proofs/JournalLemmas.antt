@@ -1,4 +1,5 @@
--- The journals have the last entries of a run, also when one more part is handled and when they are cut.
+-- The journals have the last entries of a run, also when more events are handled and when they are cut. Where no entry is kept they are
+-- empty, and begin in the current states.
 use Rattle.std.proofs.Common.{◌≡◌, ℕ, ◌<◌, List, [], ◌∷◌, ◌++◌, map, length, length-set, set, refl, sym, ap, subst, ◌∙◌, append_assoc, arith, inl, inr}
 use Rattle.std.specs.Prelude.{◌⊎◌, Option, Some, None, option_map, slice_get}
 use Rattle.std.proofs.Math.Path.{fun_ext}
@@ -13,12 +14,17 @@ use Rattle.frames.specs.Octets.{RawEntry, RawEvent, RawOut, RunOctets}
 use Rattle.frames.specs.OctetJournals.{MergesOctets}
 use Rattle.shard_state.specs.Shards.{state_of}
 use Rattle.shardlog.specs.declared.entry.Handled.{Handled}
-use Rattle.shardlog.specs.Log.{Log}
+use Rattle.shardlog.specs.declared.keep.Keep.{Keep}
+use Rattle.shardlog.specs.declared.keep.Keep.TheVariants.{Entries, Nothing}
+use Rattle.shardlog.specs.Handling.{Handles, recorded}
+use Rattle.shardlog.specs.Log.{Log, cut_log}
 use Rattle.wholenode.specs.Handling.{IsRun, Runs, Takes, sent_of}
+use Rattle.wholenode.specs.Keeping.{NodeKeeps}
 use Rattle.wholenode.specs.Nodes.{NodeState, base_at, bases, journal_at, journals, state_at, whole, whole_base}
-use Rattle.wholenode.proofs.Places.{set_elsewhere, set_there}
-use Rattle.hlr_program.specs.Journals.{Continues, IsAtEnd}
-use Rattle.hlr_program.specs.Parts.{AreCut, MakesRoom, cut_log}
+use Rattle.wholenode.proofs.Places.{set_elsewhere, set_or_not, set_there}
+use Rattle.wholenode.proofs.RunLemmas.{is_run}
+use Rattle.hlr_program.specs.Journals.{Continues, IsAtEnd, RunsAlone}
+use Rattle.hlr_program.specs.Parts.{AreCut, KeepsAs, MakesRoom}
 use Rattle.hlr_program.proofs.RunLemmas.{no_run, run_join, runs_join}
 
 -- ---- one entry more
@@ -80,6 +86,24 @@ merges_more (x ∷ es) js n e small (m, rest, lt, is, more) = elim (cases_eq n m
 
 -- ---- one shard takes an event
 
+recorded_keep : (keep : Keep) (l m : Log) (e : RawEntry) → m ≡ recorded keep l e m.state → m.keep ≡ keep
+recorded_keep Entries l m e is = ap (λ (k : Log). k.keep) is
+recorded_keep Nothing l m e is = ap (λ (k : Log). k.keep) is
+
+-- where entries are kept, the journal has one more
+pub entry_added : (old new : Log) (raw : RawEvent) (handled : Handled) → old.keep ≡ Entries → (h : Handles old raw handled new)
+    → new ≡ recorded Entries old h.entry new.state
+entry_added old new raw handled listed h = h.new_is ∙ ap (λ (k : Keep). recorded k old h.entry new.state) listed
+
+pub takes_keep : (keep : Keep) (before : NodeState) (raw : RawEvent) (handled : Handled) (after : NodeState) → Takes before raw handled after
+    → KeepsAs keep before → KeepsAs keep after
+takes_keep keep before raw handled after t keeps = λ n l at.
+    elim (set_or_not before.shards t.place n t.next l (sym (ap (λ (m : NodeState). slice_get m.shards n) t.changed) ∙ at)) [
+      | inl h ↦ ap (λ (m : Log). m.keep) (sym h.1) ∙ recorded_keep t.shard.keep t.shard t.next t.handles.entry t.handles.new_is
+          ∙ keeps t.place t.shard t.is_for.stands
+      | inr h ↦ keeps n l h
+    ]
+
 bases_set : (shards : List Log) (i : ℕ) (l m : Log) → slice_get shards i ≡ Some l → m.base ≡ l.base → bases (set shards i m) ≡ bases shards
 bases_set shards i l m at same = fun_ext (λ n. each n (cases_eq i n))
   where
@@ -101,9 +125,9 @@ journals_set shards i l m e at added = fun_ext (λ n. each n (cases_eq i n))
 
 takes_at_end : (begin : State) (events : List RawEvent) (sent : List (List RawOut)) (before : NodeState) (raw : RawEvent) (handled : Handled)
     (after : NodeState)
-    → length before.shards ≡ 16 → Takes before raw handled after → IsAtEnd begin events sent before
+    → length before.shards ≡ 16 → KeepsAs Entries before → Takes before raw handled after → IsAtEnd begin events sent before
     → IsAtEnd begin (events ++ raw ∷ []) (sent ++ sent_of handled ∷ []) after
-takes_at_end begin events sent before raw handled after sixteen t h = record {
+takes_at_end begin events sent before raw handled after sixteen keeps t h = record {
   before_cut = h.before_cut;
   sent_before_cut = h.sent_before_cut;
   kept = h.kept ++ raw ∷ [];
@@ -128,36 +152,40 @@ takes_at_end begin events sent before raw handled after sixteen t h = record {
     entry : RawEntry
     entry = t.handles.entry
 
+    added : t.next ≡ recorded Entries t.shard entry t.next.state
+    added = entry_added t.shard t.next raw handled (keeps t.place t.shard t.is_for.stands) t.handles
+
     small : t.place < 16
     small = omega (arith, sixteen, slice_get_within before.shards t.place t.shard t.is_for.stands)
 
     base : whole_base after.shards ≡ whole_base before.shards
-    base = ap (λ (n : NodeState). whole_base n.shards) t.changed ∙ ap union (bases_set before.shards t.place t.shard t.next t.is_for.stands t.handles.base)
+    base = ap (λ (n : NodeState). whole_base n.shards) t.changed ∙ ap union
+        (bases_set before.shards t.place t.shard t.next t.is_for.stands (ap (λ (l : Log). l.base) added))
 
     grown : put_at (journals before.shards) t.place (journals before.shards t.place ++ entry ∷ []) ≡ journals after.shards
-    grown = journals_set before.shards t.place t.shard t.next entry t.is_for.stands t.handles.added ∙ sym (ap (λ (n : NodeState). journals n.shards) t.changed)
+    grown = journals_set before.shards t.place t.shard t.next entry t.is_for.stands (ap (λ (l : Log). l.entries) added) ∙ sym (ap (λ (n : NodeState). journals n.shards) t.changed)
 
 same_count : (before : NodeState) (raw : RawEvent) (handled : Handled) (after : NodeState) → length before.shards ≡ 16 → Takes before raw handled after
     → length after.shards ≡ 16
 same_count before raw handled after sixteen t = ap (λ (n : NodeState). length n.shards) t.changed ∙ length-set before.shards t.place t.next ∙ sixteen
 
--- ---- a part is handled
+-- ---- events are handled
 
 runs_at_end : (begin : State) (events : List RawEvent) (sent : List (List RawOut)) (before : NodeState) (raws : List RawEvent) (done : List Handled)
     (after : NodeState)
-    → length before.shards ≡ 16 → Runs before raws done after → IsAtEnd begin events sent before
+    → length before.shards ≡ 16 → KeepsAs Entries before → Runs before raws done after → IsAtEnd begin events sent before
     → IsAtEnd begin (events ++ raws) (sent ++ map sent_of done) after
-runs_at_end begin events sent before [] [] after sixteen runs h =
+runs_at_end begin events sent before [] [] after sixteen keeps runs h =
     subst (λ (n : NodeState). IsAtEnd begin (events ++ []) (sent ++ []) n) (sym runs)
     (subst (λ (es : List RawEvent). IsAtEnd begin es (sent ++ []) before) (sym (append-nil events))
     (subst (λ (os : List (List RawOut)). IsAtEnd begin events os before) (sym (append-nil sent)) h))
-runs_at_end begin events sent before [] (d ∷ ds) after sixteen runs h = absurd runs
-runs_at_end begin events sent before (r ∷ rs) [] after sixteen runs h = absurd runs
-runs_at_end begin events sent before (r ∷ rs) (d ∷ ds) after sixteen (between, first, more) h =
+runs_at_end begin events sent before [] (d ∷ ds) after sixteen keeps runs h = absurd runs
+runs_at_end begin events sent before (r ∷ rs) [] after sixteen keeps runs h = absurd runs
+runs_at_end begin events sent before (r ∷ rs) (d ∷ ds) after sixteen keeps (between, first, more) h =
     subst (λ (es : List RawEvent). IsAtEnd begin es (sent ++ sent_of d ∷ map sent_of ds) after) (append_assoc events (r ∷ []) rs)
     (subst (λ (os : List (List RawOut)). IsAtEnd begin ((events ++ r ∷ []) ++ rs) os after) (append_assoc sent (sent_of d ∷ []) (map sent_of ds))
-    (runs_at_end begin (events ++ r ∷ []) (sent ++ sent_of d ∷ []) between rs ds after (same_count before r d between sixteen first) more
-    (takes_at_end begin events sent before r d between sixteen first h)))
+    (runs_at_end begin (events ++ r ∷ []) (sent ++ sent_of d ∷ []) between rs ds after (same_count before r d between sixteen first)
+    (takes_keep Entries before r d between first keeps) more (takes_at_end begin events sent before r d between sixteen keeps first h)))
 
 -- ---- the journals are cut
 
@@ -216,17 +244,11 @@ pub made_whole : (before ready : NodeState) (count : ℕ) → MakesRoom before c
 made_whole before ready count (inl (room, same)) = ap (λ (n : NodeState). whole n.shards) same
 made_whole before ready count (inr (none, cut)) = cut_whole before ready cut
 
-made_at_end : (begin : State) (events : List RawEvent) (sent : List (List RawOut)) (before ready : NodeState) (count : ℕ) → MakesRoom before count ready
+pub made_at_end : (begin : State) (events : List RawEvent) (sent : List (List RawOut)) (before ready : NodeState) (count : ℕ) → MakesRoom before count ready
     → IsAtEnd begin events sent before
     → IsAtEnd begin events sent ready
 made_at_end begin events sent before ready count (inl (room, same)) h = subst (λ (n : NodeState). IsAtEnd begin events sent n) (sym same) h
 made_at_end begin events sent before ready count (inr (none, cut)) h = cut_at_end begin events sent before ready cut h
-
-pub part_continues : (before ready : NodeState) (count : ℕ) (raws : List RawEvent) (done : List Handled) (after : NodeState) → MakesRoom before count ready
-    → length ready.shards ≡ 16
-    → Runs ready raws done after → Continues before raws (map sent_of done) after
-part_continues before ready count raws done after makes sixteen runs =
-    λ begin events sent h. runs_at_end begin events sent ready raws done after sixteen runs (made_at_end begin events sent before ready count makes h)
 
 -- ---- continuing
 
@@ -263,3 +285,40 @@ pub opening_at_end : (begin : State) (node : NodeState) → ((n : ℕ) (l : Log)
     → whole node.shards ≡ begin
     → IsAtEnd begin [] [] node
 opening_at_end begin node fresh is = empty_at_end begin [] [] node fresh (subst (λ (S : State). IsRun begin [] [] S) (sym is) (no_run begin))
+
+-- ---- events that are handled one after another, whether entries are kept or not
+
+-- where none is kept
+unlisted_at_end : (begin : State) (events : List RawEvent) (sent : List (List RawOut)) (node : NodeState) → NodeKeeps node → KeepsAs Nothing node
+    → IsRun begin events sent (whole node.shards) → IsAtEnd begin events sent node
+unlisted_at_end begin events sent node sound keeps =
+    empty_at_end begin events sent node (λ n l at. let none : l ≡ cut_log l = (sound.shards.each n l at).keeps.none (keeps n l at) in
+    (ap (λ (m : Log). m.base) none, ap (λ (m : Log). m.entries) none))
+
+pub runs_keep : (keep : Keep) (before : NodeState) (raws : List RawEvent) (done : List Handled) (after : NodeState) → Runs before raws done after
+    → KeepsAs keep before → KeepsAs keep after
+runs_keep keep before [] [] after runs keeps = subst (KeepsAs keep) (sym runs) keeps
+runs_keep keep before [] (d ∷ ds) after runs keeps = absurd runs
+runs_keep keep before (r ∷ rs) [] after runs keeps = absurd runs
+runs_keep keep before (r ∷ rs) (d ∷ ds) after (between, first, more) keeps =
+    runs_keep keep between rs ds after more (takes_keep keep before r d between first keeps)
+
+runs_continue : (keep : Keep) (before : NodeState) (raws : List RawEvent) (done : List Handled) (after : NodeState) → NodeKeeps before
+    → KeepsAs keep before → NodeKeeps after → Runs before raws done after → Continues before raws (map sent_of done) after
+runs_continue Entries before raws done after sound keeps sound_after runs =
+    λ begin events sent h. runs_at_end begin events sent before raws done after sound.shards.count keeps runs h
+runs_continue Nothing before raws done after sound keeps sound_after runs =
+    λ begin events sent h. unlisted_at_end begin (events ++ raws) (sent ++ map sent_of done) after sound_after
+    (runs_keep Nothing before raws done after runs keeps)
+    (runs_join begin (whole before.shards) (whole after.shards) events raws sent (map sent_of done) (run_to_end begin events sent before h)
+    (is_run before after raws done runs))
+
+pub runs_alone : (keep : Keep) (before : NodeState) (raws : List RawEvent) (done : List Handled) (after : NodeState) → NodeKeeps before
+    → KeepsAs keep before → NodeKeeps after → Runs before raws done after → RunsAlone before raws (map sent_of done) after
+runs_alone keep before raws done after sound keeps sound_after runs =
+    (is_run before after raws done runs, runs_continue keep before raws done after sound keeps sound_after runs)
+
+pub alone_join : (a b c : NodeState) (r s : List RawEvent) (x y : List (List RawOut)) → RunsAlone a r x b → RunsAlone b s y c
+    → RunsAlone a (r ++ s) (x ++ y) c
+alone_join a b c r s x y h k =
+    (runs_join (whole a.shards) (whole b.shards) (whole c.shards) r s x y h.0 k.0, continues_join a b c r s x y h.1 k.1)

@@ -6,11 +6,11 @@ pub mod RunLemmas
 pub mod JournalLemmas
 pub mod RegisterLemmas
 pub mod PartLemmas
-pub mod UnlistedLemmas
 pub mod AheadLemmas
 pub mod GatherLemmas
 pub mod ScriptLemmas
 pub mod ListLemmas
+pub mod LotLemmas
 pub mod EndLemmas
 pub mod SoundLemmas
 pub mod OperatorLemmas

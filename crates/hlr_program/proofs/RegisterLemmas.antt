@@ -13,8 +13,8 @@ use Rattle.hlr_program.specs.Registers.{RunsTo, state_known}
 use Rattle.hlr_program.specs.Runs.{AreRunFrom, BatchRun, events_in, sent_in}
 use Rattle.hlr_program.specs.Statuses.{closing_fault, shared_fault}
 use Rattle.hlr_program.specs.Stopping.{EventsStop, HandingOutStops, IsUnknown}
-use Rattle.hlr_program.proofs.JournalLemmas.{continues_join, continues_none}
-use Rattle.hlr_program.proofs.RunLemmas.{no_run, one_each, runs_join}
+use Rattle.hlr_program.proofs.JournalLemmas.{alone_join, continues_none}
+use Rattle.hlr_program.proofs.RunLemmas.{no_run, one_each}
 
 -- ---- registers that workers share
 
@@ -36,15 +36,12 @@ goes_on_join a b c r s x y (each_first, first) (each_next, next) = (
 -- ---- registers
 
 pub ran_none : (a : Register) → RunsTo a [] [] a
-ran_none (Alone a) = (no_run (whole a.shards), continues_none a)
-ran_none (Shared a) = goes_on_none a
+ran_none (Alone a) = (no_run (whole a.register.shards), continues_none a.register)
+ran_none (Shared a) = goes_on_none a.register
 
 pub ran_join : (a b c : Register) (r s : List RawEvent) (x y : List (List RawOut)) → RunsTo a r x b → RunsTo b s y c → RunsTo a (r ++ s) (x ++ y) c
-ran_join (Alone a) (Alone b) (Alone c) r s x y h k = (
-  runs_join (whole a.shards) (whole b.shards) (whole c.shards) r s x y h.0 k.0,
-  continues_join a b c r s x y h.1 k.1,
-)
-ran_join (Shared a) (Shared b) (Shared c) r s x y h k = goes_on_join a b c r s x y h k
+ran_join (Alone a) (Alone b) (Alone c) r s x y h k = alone_join a.register b.register c.register r s x y h k
+ran_join (Shared a) (Shared b) (Shared c) r s x y h k = goes_on_join a.register b.register c.register r s x y h k
 ran_join (Alone a) (Alone b) (Shared c) r s x y h k = absurd k
 ran_join (Alone a) (Shared b) c r s x y h k = absurd h
 ran_join (Shared a) (Shared b) (Alone c) r s x y h k = absurd k
@@ -52,7 +49,7 @@ ran_join (Shared a) (Alone b) c r s x y h k = absurd h
 
 -- an answer for each event
 pub ran_each : (a b : Register) (events : List RawEvent) (sent : List (List RawOut)) → RunsTo a events sent b → length sent ≡ length events
-ran_each (Alone a) (Alone b) events sent h = one_each (whole a.shards) (whole b.shards) events sent h.0
+ran_each (Alone a) (Alone b) events sent h = one_each (whole a.register.shards) (whole b.register.shards) events sent h.0
 ran_each (Shared a) (Shared b) events sent h = h.0
 ran_each (Alone a) (Shared b) events sent h = absurd h
 ran_each (Shared a) (Alone b) events sent h = absurd h

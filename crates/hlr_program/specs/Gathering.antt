@@ -1,27 +1,26 @@
--- How the events of a batch are gathered in parts and handled.
-use Rattle.std.specs.Prelude.{◌≡◌, ℕ, List, ◌++◌, map, length, Option}
+-- How the events of a batch are given to the register, gathered and handled.
+use Rattle.std.specs.Prelude.{◌≡◌, ℕ, List, ◌++◌, length, Option}
 use Rattle.std.specs.List.{flat_map}
 use Rattle.frames.specs.Octets.{RawEvent, RawOut}
-use Rattle.hlrcore.specs.Events.{raw_event}
 use Rattle.machine.specs.State.{State}
 use Rattle.hlr_input.specs.Script.{Line, IsLine}
-use Rattle.hlr_program.specs.declared.batch.Pending.{Pending}
+use Rattle.hlr_program.specs.declared.answers.Answers.{Answers}
 use Rattle.hlr_program.specs.declared.fault.Fault.{Fault}
 use Rattle.hlr_program.specs.declared.register.Register.{Register}
 use Rattle.hlr_program.specs.Answered.{so_far}
 use Rattle.hlr_program.specs.Printed.{Prints, SoFar}
-use Rattle.hlr_program.specs.Registers.{RunsTo, state_known}
+use Rattle.hlr_program.specs.Registers.{RunsTo, part_of, state_known}
 use Rattle.hlr_program.specs.Runs.{AreEvents, BatchRun, LinesEvents, frames_of}
 use Rattle.hlr_program.specs.Stopping.{EventsStop, IsUnknown, MeetsNoRoomFrom, StopsWhere}
 
--- The register, the events of a batch that are gathered and not handled yet, and what the events before them have answered.
+-- The register, the events of a batch that it was given and has not handled yet, and what the events before them have answered.
 pub record Progress : Type 0 where
   pub register : Register
   pub part : List RawEvent
   pub answers : SoFar
 
-abbrev pub progress : Register → Pending → Progress
-progress register batch = record { register = register; part = map raw_event batch.gathered.items; answers = so_far batch.answers }
+abbrev pub progress : Register → Answers → Progress
+progress register answers = record { register = register; part = part_of register; answers = so_far answers }
 
 -- the whole state of the register, if it is known
 abbrev pub state_in : Progress → Option State

@@ -6,6 +6,8 @@ pub mod Batches
 pub mod Checked
 pub mod Runs
 pub mod Parts
+pub mod Gathered
+pub mod Shards
 pub mod Journals
 pub mod Stopping
 pub mod Registers

@@ -1,14 +1,44 @@
-//! How many events a batch has.
+//! How many events a batch has, and how many of them are ahead.
 
-ghost use Rattle.std.specs.Prelude.{◌≡◌, ◌≤◌, ◌<◌, ◌^◌, ℕ, List, length};
+ghost use Rattle.std.specs.Prelude.{◌≡◌, ◌≤◌, ◌<◌, ◌^◌, ◌-◌, min, ℕ, List, length};
 ghost use Rattle.frames.specs.Octets.{RawEvent};
+ghost use Rattle.machine.specs.declared.numbers.TheConstants.{MAX_ENTRIES};
 ghost use Rattle.records.specs.File.{lines};
 ghost use Rattle.hlr_program.specs.Batches.{batch_of};
 ghost use Rattle.hlr_program.specs.Runs.{LineEvents, LinesEvents};
 
 use crate::check::is_end;
 use hlr_input::Place;
-use machine::numbers::SHARDS;
+use machine::numbers::{MAX_ENTRIES, SHARDS};
+
+/// The events of a batch that are not handled yet.
+#[derive(Clone, Copy)]
+pub struct Ahead {
+    pub events: usize,
+    /// For how many of these the journals have room: those that are left of their part.
+    pub room: usize,
+}
+
+impl Ahead {
+    /// A batch of so many events, at its beginning.
+    pub fn new(events: usize) -> Ahead
+        ensures events { result.events ≡ events }
+        ensures room { result.room ≡ 0 }
+    {
+        Ahead { events, room: 0 }
+    }
+
+    /// How many events are left of their part, or, where none is, how many the next part has: 65,536, or those that are left of the batch.
+    pub fn left_of_part(&self) -> usize
+        ensures within { 0 < self.now.room → result ≡ self.now.room }
+        ensures next { self.now.room ≡ 0 → result ≡ min self.now.events MAX_ENTRIES }
+    {
+        if self.room > 0 {
+            return self.room;
+        }
+        self.events.min(MAX_ENTRIES)
+    }
+}
 
 /// How many events the lines of a batch stand for.
 pub fn count_events(from: Place) -> usize

@@ -1,271 +1,337 @@
 //! A register in one thread: its shards with their journals, and the arena in which frames are decoded.
 
-ghost use Rattle.std.specs.Prelude.{◌≡◌, ◌≢◌, ◌≤◌, ◌↔◌, [], List, IsTrue, IfOk, IfErr, OnOk, Some, map, length};
-ghost use Rattle.std.specs.List.{flat_map, list_all, range_with_len};
+ghost use Rattle.std.specs.Prelude.{◌≡◌, ◌≢◌, ◌<◌, ◌≤◌, ◌+◌, ◌-◌, ◌↔◌, ◌∷◌, min, max, ℕ, [], List, IsTrue, IfOk, IfErr, OnOk, OnErr, Some, map, length};
+ghost use Rattle.std.specs.List.{flat_map};
 ghost use Rattle.machine.specs.declared.numbers.TheConstants.{MAX_ENTRIES};
-ghost use Rattle.frames.specs.Octets.{RawClock, RawExpire, RawOut};
-ghost use Rattle.hlrcore.specs.Events.{raw_event, raw_of};
-ghost use Rattle.shardlog.specs.declared.entry.Handled.{Handled};
+ghost use Rattle.frames.specs.Octets.{RawOut};
+ghost use Rattle.hlrcore.specs.Events.{raw_of};
+ghost use Rattle.shardlog.specs.Codes.{kept_if};
+ghost use Rattle.shardlog.specs.declared.keep.Keep.{Keep};
+ghost use Rattle.wholenode.specs.Handling.{Refuses, Takes};
 ghost use Rattle.wholenode.specs.Keeping.{NodeKeeps};
 ghost use Rattle.wholenode.specs.Nodes.{whole};
-ghost use Rattle.wholenode.specs.Opening.{BeginsWith};
-ghost use Rattle.wholenode.specs.Handling.{Each, Runs, sent_of};
 ghost use Rattle.wholenode.specs.Reading.{AreRead};
-ghost use Rattle.wholenode.specs.Unlisted.{IsUnlisted, TakesUnlisted};
 ghost use Rattle.hlr_program.specs.Answered.{so_far};
 ghost use Rattle.hlr_program.specs.Printed.{Prints};
 ghost use Rattle.hlr_program.specs.Journals.{RunsAlone};
-ghost use Rattle.hlr_program.specs.Parts.{AreCut, HasRoom, MakesRoom, needs_reading};
+ghost use Rattle.hlr_program.specs.Parts.{AreCut, HasRoom, IsReady, MakesRoom};
+ghost use Rattle.hlr_program.specs.Shards.{event_for};
 ghost use Rattle.hlr_program.specs.Statuses.{stopped_by};
 ghost use Rattle.hlr_program.specs.Stopping.{EventsStop};
 
+use crate::ahead::Ahead;
 use crate::answers::Answers;
+use crate::each::Each;
 use crate::fault::Fault;
 use bumpalo::Bump;
 use hlrcore::{Event, RawEvent, ShardNumber};
 use machine::numbers::{MAX_ENTRIES, SHARDS};
 use records::Loaded;
-use shardlog::Shard;
+use shardlog::{Handled, Keep, Shard};
 use std::alloc::{AllocError, Global};
 use std::marker::Model;
-use std::mem;
-use wholenode::{Cause, Node};
+use wholenode::{Cause, Node, read_lot};
 
-/// The sixteen shards, and an arena for one frame at a time.
+/// How many frames and changes are read before the first of them is handled: a lot. The code that reads them stays near then.
+const LOT: usize = 64;
+
+/// The sixteen shards, an arena for one frame at a time, and the events of a lot.
 #[derive(Drop)]
 pub struct Alone {
+    alloc: Global,
     node: Node,
     bump: Bump,
-    /// Whether the journals are listed at the end. Where they are not, nobody can see an entry, and none is kept, which spares time.
-    listed: bool,
-    /// The events of a lot once they are read, where no entry is kept. The room is used again for the next lot.
+    /// Where the journals are not listed, nobody can see an entry, and none is kept, which spares time.
+    keep: Keep,
+    /// Where entries are kept, what of the batch is not handled yet.
+    ahead: Ahead,
+    /// Frames and changes that are not handled yet.
+    gathered: Vec<RawEvent>,
+    /// The same once they are read. Both lists keep their buffers for the next lot.
     read: Vec<Event>,
+    /// Octets of frames that are handled, into whose buffers the next ones are read.
+    spare: Vec<Vec<u8>>,
 }
 
 impl Model for Alone {
-    ghost use Rattle.std.specs.Prelude.{◌≡◌, false};
+    ghost use Rattle.std.specs.Prelude.{◌≤◌, length, map};
+    ghost use Rattle.hlrcore.specs.Events.{raw_event};
     ghost use Rattle.wholenode.specs.Nodes.{NodeState, node_state_code};
-    ghost use Rattle.wholenode.specs.Unlisted.{IsUnlisted};
+    ghost use Rattle.hlr_program.specs.Gathered.{Gathered, gathered_code, with_part};
+    ghost use Rattle.hlr_program.specs.Parts.{IsReady};
 
-    ghost Value = { NodeState };
+    ghost Value = { Gathered NodeState };
 
-    ghost coded = { node_state_code };
+    ghost coded = { gathered_code NodeState node_state_code };
 
-    ghost view = { λ r. r.node };
+    ghost view = { λ a. with_part a.node (map raw_event a.gathered.items) };
 
-    // Where the journals are not listed, each of them is empty.
-    ghost invariant = { λ r. r.listed ≡ false → IsUnlisted r.node };
+    // The journals have room for what is left of the part, and the events that are gathered are one lot at most.
+    ghost invariant = { λ a. IsReady a.keep a.node a.ahead.room × (length a.gathered.items ≤ 64) };
 }
 
 impl Alone {
-    /// The register of a records file, with no open dialogue and empty journals. `listed` says whether the journals are listed at the
-    /// end: only then entries are kept.
+    ghost use Rattle.std.specs.Prelude.{◌≡◌, ◌≤◌, ◌∷◌, [], false, IfOk, IfErr, OnOk, length};
+    ghost use Rattle.hlrcore.specs.Events.{raw_event};
+    ghost use Rattle.shardlog.specs.Codes.{kept_if};
+    ghost use Rattle.wholenode.specs.Keeping.{NodeKeeps};
+    ghost use Rattle.wholenode.specs.Opening.{BeginsWith};
+    ghost use Rattle.hlr_program.specs.declared.register.Register.TheVariants as register;
+    ghost use Rattle.hlr_program.specs.Gathering.{Adds, AddingStops, progress};
+    ghost use Rattle.hlr_program.specs.Parts.{KeepsAs};
+    ghost use Rattle.hlr_program.specs.Shards.{event_for, events_for};
+
+    /// The register of a records file, with no open dialogue, empty journals, and no event. `listed` says whether the journals are listed
+    /// at the end: only then entries are kept.
     pub fn new(alloc: Global, loaded: Loaded, listed: bool) -> Result<Alone, AllocError>
-        ensures begins { IfOk result (BeginsWith loaded) }
-        ensures keeps { IfOk result NodeKeeps }
+        ensures begins { IfOk result (λ alone. BeginsWith loaded (kept_if listed) alone.register) }
+        ensures keeps { IfOk result (λ alone. NodeKeeps alone.register) }
+        ensures none { IfOk result (λ alone. alone.part ≡ []) }
     {
-        let node = Node::new(alloc, loaded)?;
+        let keep = keep_of(listed);
+        let node = Node::new(alloc, loaded, keep)?;
         Ok(Alone {
+            alloc,
             node,
             bump: Bump::new(alloc),
-            listed,
+            keep,
+            ahead: Ahead::new(0),
+            gathered: Vec::new(alloc),
             read: Vec::new(alloc),
+            spare: Vec::new(alloc),
         })
     }
 
     /// The shards, indexed by their numbers.
     pub fn into_shards(self) -> Vec<Shard>
-        ensures shards { result.items ≡ self.shards }
-        ensures keeps { NodeKeeps self }
+        ensures shards { result.items ≡ self.register.shards }
+        ensures keeps { NodeKeeps self.register }
     {
         let Alone {
+            alloc: _,
             node,
             bump: _,
-            listed: _,
+            keep: _,
+            ahead: _,
+            gathered: _,
             read: _,
+            spare: _,
         } = self;
         node.into_shards()
     }
 
-    /// Before a part of a batch, of so many events: cuts all journals, if one of them has no room for as many more entries.
-    pub fn begin_part(&mut self, count: usize)
-        requires { count ≤ MAX_ENTRIES }
-        ensures made { MakesRoom self.old count self.new }
-        ensures ran { RunsAlone self.old [] [] self.new }
+    /// Whether entries are kept.
+    pub fn keeps_entries(&self) -> bool
+        ensures { KeepsAs (kept_if result) self.now.register }
     {
-        // Journals of which no entry is kept are empty.
-        if self.listed {
-            make_room(&mut self.node, count);
+        matches!(self.keep, Keep::Entries)
+    }
+
+    /// A batch of so many events begins.
+    pub fn begin_batch(&mut self, events: usize)
+        ensures { self.new ≡ self.old }
+    {
+        self.ahead = Ahead::new(events);
+    }
+
+    /// An empty list for the octets of a frame, with the buffer of one that is handled, if there is one.
+    pub fn take_room(&mut self) -> Vec<u8>
+        ensures { self.new ≡ self.old }
+    {
+        match self.spare.pop() {
+            Some(room) => room,
+            None => Vec::new(self.alloc),
         }
     }
 
-    /// Handles events, at most 65,536, and appends the lines of what they send. The list is empty then, and has as much room. If the
-    /// journals are listed, and one of them has no room for that many more entries, all are cut first, so no journal is ever full. If
-    /// they are not listed, they stay empty, and the octets of the frames go to `spare`, where memory suffices.
-    pub fn send_part(
-        &mut self,
-        part: &mut Vec<RawEvent>,
-        answers: &mut Answers,
-        spare: &mut Vec<Vec<u8>>,
-    ) -> Result<(), Fault>
-        requires { length part.old.items ≤ MAX_ENTRIES }
-        ensures sends { OnOk result ((outs : List (List RawOut))
-            × RunsAlone self.old (map raw_event part.old.items) outs self.new
-            × Prints (so_far answers.old) (flat_map (λ o. o) outs) (so_far answers.new)) }
-        ensures taken { OnOk result (part.new.items ≡ []) }
-        ensures stops { IfErr result (EventsStop (Some (whole self.old.shards))
-            (map raw_event part.old.items)) }
+    /// Gathers a frame or a change. Those that are gathered are handled first if they are a lot.
+    pub fn take(&mut self, raw: RawEvent, answers: &mut Answers) -> Result<(), Fault>
+        ensures adds { OnOk result (Adds (progress (register.Alone self.old) answers.old)
+            (raw_event raw ∷ []) (progress (register.Alone self.new) answers.new)) }
+        ensures stops { IfErr result (AddingStops (progress (register.Alone self.old) answers.old)
+            (raw_event raw ∷ [])) }
     {
-        if !self.listed {
-            return self.send_unlisted(part, answers, spare);
+        if self.gathered.len() >= lot_of(self.keep, &self.ahead) {
+            self.run(answers)?;
         }
-        let next = Vec::with_capacity(*part.allocator(), part.capacity())?;
-        let part = mem::replace(part, next);
-        make_room(&mut self.node, part.len());
-        send_listed(&mut self.node, &mut self.bump, part, answers)
+        self.gathered.push(raw).map_err(|_| Fault::Memory)?;
+        Ok(())
     }
 
-    /// Handles events of which no entry is kept, and appends the lines of what they send. All are read before the first is handled.
-    fn send_unlisted(
-        &mut self,
-        part: &mut Vec<RawEvent>,
-        answers: &mut Answers,
-        spare: &mut Vec<Vec<u8>>,
-    ) -> Result<(), Fault>
-        requires { IsUnlisted self.now }
-        ensures sends { OnOk result ((outs : List (List RawOut))
-            × RunsAlone self.old (map raw_event part.old.items) outs self.new
-            × Prints (so_far answers.old) (flat_map (λ o. o) outs) (so_far answers.new)) }
-        ensures taken { part.new.items ≡ [] }
-        ensures stops { IfErr result (EventsStop (Some (whole self.old.shards))
-            (map raw_event part.old.items)) }
+    /// Handles an event of each shard, in order of the shards, after those that are gathered, and appends the lines of what they send.
+    pub fn take_each(&mut self, said: Each, answers: &mut Answers) -> Result<(), Fault>
+        ensures adds { OnOk result (Adds (progress (register.Alone self.old) answers.old)
+            (events_for said) (progress (register.Alone self.new) answers.new)) }
+        ensures stops { IfErr result (AddingStops (progress (register.Alone self.old) answers.old)
+            (events_for said)) }
     {
-        match self.node.read_lot(&mut self.bump, part, &mut self.read) {
-            Ok(()) => send_read(&mut self.node, &mut self.read, answers, spare),
+        self.run(answers)?;
+        for number in 0..SHARDS {
+            let shard = ShardNumber::new(number).unwrap();
+            self.take_for(said, shard, answers)?;
+        }
+        Ok(())
+    }
+
+    /// Handles an event of a shard, where none are gathered, and appends the lines of what it sends.
+    #[inline(always)]
+    fn take_for(
+        &mut self,
+        said: Each,
+        shard: ShardNumber,
+        answers: &mut Answers,
+    ) -> Result<(), Fault>
+        requires { self.now.part ≡ [] }
+        ensures adds { OnOk result (Adds (progress (register.Alone self.old) answers.old)
+            (event_for said shard ∷ []) (progress (register.Alone self.new) answers.new)) }
+        ensures none { self.new.part ≡ [] }
+        ensures stops { IfErr result (AddingStops (progress (register.Alone self.old) answers.old)
+            (event_for said shard ∷ [])) }
+    {
+        begin_part(self.keep, &mut self.node, &mut self.ahead, 1);
+        handle_for(&mut self.node, said, shard, answers)
+    }
+
+    /// Handles the events that are gathered, and appends the lines of what they send.
+    pub fn run(&mut self, answers: &mut Answers) -> Result<(), Fault>
+        ensures adds { OnOk result (Adds (progress (register.Alone self.old) answers.old) []
+            (progress (register.Alone self.new) answers.new)) }
+        ensures none { OnOk result (self.new.part ≡ []) }
+        ensures stops { IfErr result (AddingStops (progress (register.Alone self.old) answers.old) []) }
+    {
+        if self.gathered.is_empty() {
+            return Ok(());
+        }
+        let count = self.gathered.len();
+        begin_part(self.keep, &mut self.node, &mut self.ahead, count);
+        match read_lot(
+            self.alloc,
+            &mut self.bump,
+            &mut self.gathered,
+            &mut self.read,
+        ) {
+            Ok(()) => handle_lot(&mut self.node, &mut self.read, answers, &mut self.spare),
             Err(cause) => Err(stopped(cause)),
         }
     }
+}
 
-    /// Whether journals have an entry of each event: where they are listed at the end.
-    pub fn keeps_entries(&self) -> bool {
-        self.listed
-    }
+/// Entries are kept only to be listed.
+fn keep_of(listed: bool) -> Keep
+    ensures { result ≡ kept_if listed }
+{
+    if listed { Keep::Entries } else { Keep::Nothing }
+}
 
-    /// Handles a clock value in each shard, and appends the lines of what is sent. No entry is kept: each journal is empty behind it.
-    pub fn tick_each(&mut self, now: u64, answers: &mut Answers) -> Result<(), Fault>
-        ensures sends { OnOk result ((outs : List (List RawOut))
-            × RunsAlone self.old (map (λ n. RawClock n now) (range_with_len 0 16)) outs self.new
-            × Prints (so_far answers.old) (flat_map (λ o. o) outs) (so_far answers.new)) }
-        ensures stops { IfErr result (λ fault. fault ≡ Fault.Memory) }
-    {
-        for number in 0..SHARDS {
-            let shard = ShardNumber::new(number).unwrap();
-            self.tick(shard, now, answers)?;
-        }
-        Ok(())
-    }
-
-    /// Handles an expiry in each shard, as `tick_each` does a clock value.
-    pub fn expire_each(&mut self, answers: &mut Answers) -> Result<(), Fault>
-        ensures sends { OnOk result ((outs : List (List RawOut))
-            × RunsAlone self.old (map (λ n. RawExpire n) (range_with_len 0 16)) outs self.new
-            × Prints (so_far answers.old) (flat_map (λ o. o) outs) (so_far answers.new)) }
-        ensures stops { IfErr result (λ fault. fault ≡ Fault.Memory) }
-    {
-        for number in 0..SHARDS {
-            let shard = ShardNumber::new(number).unwrap();
-            self.expire(shard, answers)?;
-        }
-        Ok(())
-    }
-
-    /// Handles a clock value in one shard, and keeps no entry of it.
-    fn tick(&mut self, shard: ShardNumber, now: u64, answers: &mut Answers) -> Result<(), Fault>
-        ensures takes { OnOk result ((sent : List RawOut)
-            × TakesUnlisted self.old (RawClock shard now) sent self.new
-            × Prints (so_far answers.old) sent (so_far answers.new)) }
-        ensures keeps { NodeKeeps self.new }
-        ensures stops { IfErr result (λ fault. fault ≡ Fault.Memory) }
-    {
-        let outs = self.node.tick_unlisted(shard, now);
-        Ok(answers.push_all(outs.as_slice())?)
-    }
-
-    /// Handles an expiry in one shard, and keeps no entry of it.
-    fn expire(&mut self, shard: ShardNumber, answers: &mut Answers) -> Result<(), Fault>
-        ensures takes { OnOk result ((sent : List RawOut)
-            × TakesUnlisted self.old (RawExpire shard) sent self.new
-            × Prints (so_far answers.old) sent (so_far answers.new)) }
-        ensures keeps { NodeKeeps self.new }
-        ensures stops { IfErr result (λ fault. fault ≡ Fault.Memory) }
-    {
-        match self.node.expire_unlisted(shard) {
-            Ok(outs) => Ok(answers.push_all(outs.as_slice())?),
-            Err(_) => Err(Fault::Memory),
-        }
+/// How many events a lot has at most. Where entries are kept, it ends with its part.
+fn lot_of(keep: Keep, ahead: &Ahead) -> usize
+    ensures few { result ≤ 64 }
+    ensures ends { keep ≡ Keep.Entries → 0 < ahead.now.room → result ≤ ahead.now.room }
+    ensures next { keep ≡ Keep.Entries → ahead.now.room ≡ 0 → result ≤ ahead.now.events }
+{
+    match keep {
+        Keep::Entries => ahead.left_of_part().min(LOT),
+        Keep::Nothing => LOT,
     }
 }
 
-/// Handles events, for each of which its journal has room, and appends the lines of what they send. Where each has to be read, all
-/// are read, then handled, and then the lines are made. Otherwise they are taken one after the other, and the line of what is sent is
-/// made at once, while its octets are near.
-fn send_listed(
+/// Before so many events. Where they begin a part of the batch, all journals are cut, if one of them has no room for all events of the
+/// part (profile). A part has 65,536 events, or those that are left of the batch. Where no entry is kept there is always room.
+#[inline(always)]
+fn begin_part(keep: Keep, node: &mut Node, ahead: &mut Ahead, count: usize)
+    requires few { count ≤ MAX_ENTRIES }
+    requires ready { IsReady keep node.now ahead.now.room }
+    ensures cuts { keep ≡ Keep.Entries → ahead.old.room < count
+        → MakesRoom node.old (max count (min ahead.old.events MAX_ENTRIES)) node.new }
+    ensures stays { count ≤ ahead.old.room → node.new ≡ node.old }
+    ensures unlisted { keep ≡ Keep.Nothing → (node.new ≡ node.old) × (ahead.new ≡ ahead.old) }
+    // What is left of the room: what is handled now is taken off.
+    ensures made { keep ≡ Keep.Entries → ahead.old.room < count
+        → ahead.new.room ≡ max count (min ahead.old.events MAX_ENTRIES) - count }
+    ensures taken { keep ≡ Keep.Entries → count ≤ ahead.old.room
+        → ahead.new.room ≡ ahead.old.room - count }
+    ensures left { keep ≡ Keep.Entries → ahead.new.events ≡ ahead.old.events - count }
+    ensures ready { IsReady keep node.new (count + ahead.new.room) }
+    ensures ran { RunsAlone node.old [] [] node.new }
+{
+    if let Keep::Nothing = keep {
+        return;
+    }
+    if ahead.room < count {
+        ahead.room = ahead.events.min(MAX_ENTRIES).max(count);
+        make_room(node, ahead.room);
+    }
+    ahead.room -= count;
+    ahead.events = ahead.events.saturating_sub(count);
+}
+
+/// Handles an event of a shard, and appends the lines of what it sends.
+#[inline(always)]
+fn handle_for(
     node: &mut Node,
-    bump: &mut Bump,
-    part: Vec<RawEvent>,
+    said: Each,
+    shard: ShardNumber,
     answers: &mut Answers,
 ) -> Result<(), Fault>
-    requires { HasRoom node.now (length part.items) }
-    ensures sends { OnOk result ((done : List Handled)
-        × Runs node.old (map raw_event part.items) done node.new
-        × Prints (so_far answers.old) (flat_map sent_of done) (so_far answers.new)) }
+    requires { (keep : Keep) × IsReady keep node.now 1 }
+    ensures sends { OnOk result ((sent : List RawOut)
+        × RunsAlone node.old (event_for said shard ∷ []) (sent ∷ []) node.new
+        × Prints (so_far answers.old) sent (so_far answers.new)) }
+    ensures ready { (keep : Keep) (more : ℕ) → IsReady keep node.old (1 + more)
+        → IsReady keep node.new more }
     ensures stops { IfErr result (EventsStop (Some (whole node.old.shards))
-        (map raw_event part.items)) }
+        (event_for said shard ∷ [])) }
 {
-    if need_reading(&part) {
-        return match node.run_owned(bump, part) {
-            Ok(done) => Ok(answers.push_handled(&done)?),
-            Err(fault) => Err(stopped(fault.cause)),
-        };
+    match tick_or_expire(node, said, shard) {
+        Ok(handled) => Ok(answers.push_all(handled.outs.as_slice())?),
+        Err(cause) => Err(stopped(cause)),
     }
-    for raw in part {
-        let handled = match node.handle_owned(bump, raw) {
-            Ok(handled) => handled,
-            Err(cause) => return Err(stopped(cause)),
-        };
-        answers.push_all(handled.outs.as_slice())?;
-    }
-    Ok(())
 }
 
-/// Handles events that were read, of which no entry is kept, and appends the lines of what they send: those of each before the next is
-/// handled, so that its frames are given back while they are near. The octets of the frames that came go to `spare`.
-fn send_read(
+/// A clock value and an expiry need no reading.
+#[inline(always)]
+fn tick_or_expire(node: &mut Node, said: Each, shard: ShardNumber) -> Result<Handled, Cause>
+    ensures takes { IfOk result (λ handled. Takes node.old (event_for said shard) handled node.new) }
+    ensures refused { IfErr result (λ cause. Refuses node.old (event_for said shard) cause) }
+    ensures err { OnErr result (node.new ≡ node.old) }
+    ensures keeps { NodeKeeps node.new }
+{
+    match said {
+        Each::Clock(now) => node.tick(shard, now),
+        Each::Expiry => node.expire(shard),
+    }
+}
+
+/// Handles events that were read, and appends the lines of what they send: those of each before the next is handled, while its frames
+/// are near. The buffers of octets that no entry takes go to `spare`.
+fn handle_lot(
     node: &mut Node,
     read: &mut [Event],
     answers: &mut Answers,
     spare: &mut Vec<Vec<u8>>,
 ) -> Result<(), Fault>
     requires read { AreRead (map raw_of read.now) read.now }
-    requires keeps { NodeKeeps node.now }
+    requires ready { (keep : Keep) × IsReady keep node.now (length read.now) }
     ensures sends { OnOk result ((outs : List (List RawOut))
-        × Each TakesUnlisted node.old (map raw_of read.old) outs node.new
+        × RunsAlone node.old (map raw_of read.old) outs node.new
         × Prints (so_far answers.old) (flat_map (λ o. o) outs) (so_far answers.new)) }
-    ensures unlisted { IsUnlisted node.old → IsUnlisted node.new }
+    ensures ready { (keep : Keep) (more : ℕ) → IsReady keep node.old (length read.old + more)
+        → IsReady keep node.new more }
     ensures stops { IfErr result (EventsStop (Some (whole node.old.shards)) (map raw_of read.old)) }
 {
     for event in read.iter_mut() {
-        let outs = match node.handle_read_unlisted(event) {
-            Ok(outs) => outs,
+        let handled = match node.handle(event) {
+            Ok(handled) => handled,
             Err(cause) => return Err(stopped(cause)),
         };
-        answers.push_all(outs.as_slice())?;
+        answers.push_all(handled.outs.as_slice())?;
         keep_room(event.take_raw(), spare);
     }
     Ok(())
 }
 
-/// Keeps the octets of a frame that was handled, so that the next one is read into their room. They are dropped where memory is refused.
+/// Keeps the octets of a frame that was handled, so that the next one is read into their buffer. They are dropped where memory is
+/// refused.
 fn keep_room(handled: RawEvent, spare: &mut Vec<Vec<u8>>) {
     if let RawEvent::Frame { octets, .. } = handled {
         let _is_kept = spare.push(octets).is_ok();
@@ -309,14 +375,7 @@ fn cut_all(node: &mut Node)
     }
 }
 
-/// Whether none of these is a clock value or an expiry, which name their shards, and need no reading.
-fn need_reading(events: &[RawEvent]) -> bool
-    ensures { result ≡ list_all needs_reading events.now }
-{
-    events.iter().all(|event| matches!(event, RawEvent::Frame { .. } | RawEvent::Change { .. }))
-}
-
-/// The fault of a part that stopped; each event had room in its journal.
+/// The fault of events that were not handled; each had room in its journal.
 fn stopped(cause: Cause) -> Fault
     requires { cause ≢ Cause.JournalFull }
     ensures { result ≡ stopped_by cause }

@@ -3,7 +3,6 @@
 ghost use Rattle.std.specs.Prelude.{◌≡◌, ◌∷◌, [], OnOk, map};
 ghost use Rattle.std.specs.List.{flat_map};
 ghost use Rattle.shard_state.specs.Frames.{raw_out};
-ghost use Rattle.wholenode.specs.Handling.{sent_of};
 ghost use Rattle.hlr_program.specs.Printed.{Prints};
 ghost use Rattle.hlr_program.specs.Answered.{so_far};
 
@@ -11,7 +10,6 @@ use crate::octet_digits::OctetDigits;
 use crate::printed::push_sent;
 use hlr_input::Letters;
 use hlrcore::{Out, OutList};
-use shardlog::Handled;
 use std::alloc::{AllocError, Global};
 
 /// The lines of the frames that a batch has sent so far, and the local ids that letters stand for behind it. Nothing is printed
@@ -36,7 +34,8 @@ impl Answers {
         }
     }
 
-    /// Appends the lines of these frames, in order, and records the local ids in them.
+    /// Appends the lines of these frames, in order, and records the local ids in them. Most events send none.
+    #[inline(always)]
     pub fn push_all(&mut self, sent: &[Out]) -> Result<(), AllocError>
         ensures { OnOk result (Prints (so_far self.old) (map raw_out sent.now) (so_far self.new)) }
     {
@@ -52,16 +51,6 @@ impl Answers {
     {
         for outs in sent {
             self.push_all(outs.as_slice())?;
-        }
-        Ok(())
-    }
-
-    /// The same for what handled events have sent, one event after the other.
-    pub fn push_handled(&mut self, done: &[Handled]) -> Result<(), AllocError>
-        ensures { OnOk result (Prints (so_far self.old) (flat_map sent_of done.now) (so_far self.new)) }
-    {
-        for handled in done {
-            self.push_all(handled.outs.as_slice())?;
         }
         Ok(())
     }

@@ -8,6 +8,7 @@ mod answers;
 mod batch;
 mod check;
 mod crew;
+mod each;
 mod fault;
 mod laws;
 mod listing;

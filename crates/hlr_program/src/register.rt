@@ -3,20 +3,14 @@
 use crate::alone::Alone;
 use crate::answers::Answers;
 use crate::crew::Crew;
+use crate::each::Each;
 use crate::fault::Fault;
 use hlrcore::RawEvent;
-use machine::numbers::MAX_ENTRIES;
 use records::Loaded;
 use shardlog::Shard;
 use std::alloc::{AllocError, Global};
 use std::sync::Wait;
 use std::thread::Threads;
-
-/// How many events are handled at once in one thread.
-const LOT: usize = 64;
-
-// A part of a batch ends with the last of them.
-const _: () = prove!(MAX_ENTRIES % LOT == 0);
 
 /// The sixteen shards, and who handles their events.
 #[derive(Drop)]
@@ -28,14 +22,12 @@ pub enum Register {
 }
 
 impl Register {
-    ghost use Rattle.std.specs.Prelude.{◌≡◌, ◌≤◌, [], false, IfOk, IfErr, OnOk, map, length};
-    ghost use Rattle.std.specs.List.{range_with_len};
-    ghost use Rattle.machine.specs.declared.numbers.TheConstants.{MAX_ENTRIES};
-    ghost use Rattle.frames.specs.Octets.{RawClock, RawExpire};
+    ghost use Rattle.std.specs.Prelude.{◌≡◌, ◌≤◌, ◌∷◌, [], IfOk, IfErr, OnOk};
     ghost use Rattle.hlrcore.specs.Events.{raw_event};
-    ghost use Rattle.hlr_program.specs.Answered.{so_far};
-    ghost use Rattle.hlr_program.specs.Registers.{BeginsPart, HandsOver, IsOf, OpensWith, RunsTo, SendsPart, state_known};
-    ghost use Rattle.hlr_program.specs.Stopping.{EventsStop, HandingOutStops};
+    ghost use Rattle.hlr_program.specs.Gathering.{Adds, AddingStops, progress};
+    ghost use Rattle.hlr_program.specs.Registers.{CountsFirst, HandsOver, IsOf, OpensWith, part_of, state_known};
+    ghost use Rattle.hlr_program.specs.Shards.{events_for};
+    ghost use Rattle.hlr_program.specs.Stopping.{HandingOutStops};
 
     /// The register of a records file: in one thread if `workers` is 0. `listed` says whether the journals are listed at the end. In one
     /// thread entries are kept only then; with workers they always are, since jobs and receipts account for them.
@@ -47,7 +39,7 @@ impl Register {
     ) -> Result<Register, AllocError>
         requires { workers ≤ 16 }
         ensures is_of { IfOk result (IsOf workers) }
-        ensures opens { IfOk result (OpensWith loaded) }
+        ensures opens { IfOk result (OpensWith listed loaded) }
     {
         if workers == 0 {
             let alone = Alone::new(alloc, loaded, listed)?;
@@ -57,86 +49,85 @@ impl Register {
         Ok(Register::Shared(crew))
     }
 
-    /// How many events are handled at once: in one thread a few, which are near then, and with workers a whole part of a batch.
-    pub fn lot(&self) -> usize
-        ensures { result ≤ MAX_ENTRIES }
+    /// Whether the events of a batch are counted before it: for room in the journals, which workers make by themselves.
+    pub fn counts(&self) -> bool
+        ensures { CountsFirst self.now result }
     {
         match self {
-            Register::Alone(_) => LOT,
-            Register::Shared(_) => MAX_ENTRIES,
+            Register::Alone(alone) => alone.keeps_entries(),
+            Register::Shared(_) => false,
         }
     }
 
-    /// Before a part of a batch, of so many events: cuts all journals, if one of them has no room for as many more entries. Workers do so
-    /// by themselves.
-    #[tactic(auto, using(crate::proofs::RegisterLemmas::ran_none))]
-    pub fn begin_part(&mut self, count: usize)
-        requires { count ≤ MAX_ENTRIES }
-        ensures begins { BeginsPart self.old count self.new }
-        ensures ran { RunsTo self.old [] [] self.new }
+    /// A batch of so many events begins.
+    pub fn begin_batch(&mut self, events: usize)
+        ensures { self.new ≡ self.old }
     {
         match self {
-            Register::Alone(alone) => alone.begin_part(count),
+            Register::Alone(alone) => alone.begin_batch(events),
             Register::Shared(_) => {}
         }
     }
 
-    /// Handles events of a part of a batch, and appends the lines of what they send. The list is empty then, and has as much room. The
-    /// octets of frames of which no entry is kept go to `spare`, for their room.
-    pub fn send_part<R: Threads + Wait + Sync>(
+    /// An empty list for the octets of a frame, where there is one with the buffer of a frame that is handled.
+    pub fn take_room(&mut self) -> Vec<u8>
+        ensures { self.new ≡ self.old }
+    {
+        match self {
+            Register::Alone(alone) => alone.take_room(),
+            Register::Shared(crew) => crew.take_room(),
+        }
+    }
+
+    /// Takes an event. It is handled at once, or with others, at the latest when the batch ends; the lines of what is sent are appended
+    /// then.
+    pub fn take<R: Threads + Wait + Sync>(
         &mut self,
         rt: &R,
-        part: &mut Vec<RawEvent>,
+        raw: RawEvent,
         answers: &mut Answers,
-        spare: &mut Vec<Vec<u8>>,
     ) -> Result<(), Fault>
-        requires { length part.old.items ≤ MAX_ENTRIES }
-        ensures sends { OnOk result (SendsPart self.old (map raw_event part.old.items)
-            (so_far answers.old) self.new (so_far answers.new)) }
-        ensures taken { OnOk result (part.new.items ≡ []) }
-        ensures stops { IfErr result (EventsStop (state_known self.old)
-            (map raw_event part.old.items)) }
+        ensures adds { OnOk result (Adds (progress self.old answers.old) (raw_event raw ∷ [])
+            (progress self.new answers.new)) }
+        ensures stops { IfErr result (AddingStops (progress self.old answers.old) (raw_event raw ∷ [])) }
     {
         match self {
-            Register::Alone(alone) => alone.send_part(part, answers, spare),
-            Register::Shared(crew) => crew.send_part(rt, part, answers),
+            Register::Alone(alone) => alone.take(raw, answers),
+            Register::Shared(crew) => crew.take(rt, raw, answers),
         }
     }
 
-    /// Whether journals have an entry of each event: with workers always, and in one thread where they are listed at the end.
-    pub fn keeps_entries(&self) -> bool
-        ensures { result ≡ false → IsOf 0 self.now }
+    /// Takes an event of each shard, in order of the shards.
+    pub fn take_each<R: Threads + Wait + Sync>(
+        &mut self,
+        rt: &R,
+        said: Each,
+        answers: &mut Answers,
+    ) -> Result<(), Fault>
+        ensures adds { OnOk result (Adds (progress self.old answers.old) (events_for said)
+            (progress self.new answers.new)) }
+        ensures stops { IfErr result (AddingStops (progress self.old answers.old) (events_for said)) }
     {
         match self {
-            Register::Alone(alone) => alone.keeps_entries(),
-            Register::Shared(_) => true,
+            Register::Alone(alone) => alone.take_each(said, answers),
+            Register::Shared(crew) => crew.take_each(rt, said, answers),
         }
     }
 
-    /// Handles a clock value in each shard, in one thread, and appends the lines of what is sent. No entry is kept: each journal is empty
-    /// behind it.
-    pub fn tick_each(&mut self, now: u64, answers: &mut Answers) -> Result<(), Fault>
-        requires { IsOf 0 self.old }
-        ensures sends { OnOk result (SendsPart self.old (map (λ n. RawClock n now) (range_with_len 0 16))
-            (so_far answers.old) self.new (so_far answers.new)) }
-        ensures stops { IfErr result (λ fault. fault ≡ Fault.Memory) }
+    /// Handles the events of the batch that are not handled yet, and appends the lines of what they send.
+    pub fn end_batch<R: Threads + Wait + Sync>(
+        &mut self,
+        rt: &R,
+        answers: &mut Answers,
+    ) -> Result<(), Fault>
+        ensures adds { OnOk result (Adds (progress self.old answers.old) []
+            (progress self.new answers.new)) }
+        ensures none { OnOk result (part_of self.new ≡ []) }
+        ensures stops { IfErr result (AddingStops (progress self.old answers.old) []) }
     {
         match self {
-            Register::Alone(alone) => alone.tick_each(now, answers),
-            Register::Shared(_) => unreachable!(),
-        }
-    }
-
-    /// Handles an expiry in each shard, as `tick_each` does a clock value.
-    pub fn expire_each(&mut self, answers: &mut Answers) -> Result<(), Fault>
-        requires { IsOf 0 self.old }
-        ensures sends { OnOk result (SendsPart self.old (map (λ n. RawExpire n) (range_with_len 0 16))
-            (so_far answers.old) self.new (so_far answers.new)) }
-        ensures stops { IfErr result (λ fault. fault ≡ Fault.Memory) }
-    {
-        match self {
-            Register::Alone(alone) => alone.expire_each(answers),
-            Register::Shared(_) => unreachable!(),
+            Register::Alone(alone) => alone.run(answers),
+            Register::Shared(crew) => crew.run(rt, answers),
         }
     }
 

@@ -1,15 +1,16 @@
 //! A run of the program.
 
-ghost use Rattle.std.specs.Prelude.{◌≡◌, ◌≤◌, ℕ, List, Option, IfOk, IfErr, IfSome, OnOk};
+ghost use Rattle.std.specs.Prelude.{◌≡◌, ◌≤◌, ℕ, [], List, Option, IfOk, IfErr, IfSome, OnOk};
 ghost use Rattle.std.specs.Result.{result_err};
 ghost use Rattle.std.specs.Io.KnownBytes.{Appends};
 ghost use Rattle.machine.specs.Sound.{Sound};
 ghost use Rattle.hlr_program.specs.Checked.{IsChecked};
-ghost use Rattle.hlr_program.specs.Registers.{state_known};
+ghost use Rattle.hlr_program.specs.Registers.{part_of, state_known};
 ghost use Rattle.hlr_program.specs.Runs.{BatchRun, IsLoadedFrom, opening_of, printed_of};
 ghost use Rattle.hlr_program.specs.Promise.{Ends, RunsAndLists, RunsScript, StopsRecords, StopsScript, StopsRunning, StopsBatches, Tells, status_at};
 
-use crate::batch::{Pending, handle_batch};
+use crate::answers::Answers;
+use crate::batch::handle_batch;
 use crate::check::{Script, check_script};
 use crate::fault::Fault;
 use crate::listing::closing_lines;
@@ -200,7 +201,8 @@ fn run<R: Threads + Wait + Sync, W: Write>(
     script: &Script,
     out: &mut W,
 ) -> Result<(), Fault>
-    requires { IsChecked script.now }
+    requires checked { IsChecked script.now }
+    requires none { part_of register.now ≡ [] }
     ensures ran { OnOk result ((batches : List BatchRun)
         × RunsScript script.now.text.items register.old batches register.new
         × Appends (W.contents out.old) (W.contents out.new) (printed_of batches)) }
@@ -208,16 +210,16 @@ fn run<R: Threads + Wait + Sync, W: Write>(
         (printed : List ℕ) × StopsBatches script.now.text.items (state_known register.old) fault printed
         × Appends (W.contents out.old) (W.contents out.new) printed) }
 {
-    let mut batch = Pending::new(alloc, digits);
+    let mut answers = Answers::new(alloc, digits);
     let mut ids = Vec::new(alloc);
     let mut place = Place::new(&script.text, script.lettered, &script.lengths);
     'batches: while !place.rest.is_empty() {
         // The letters of a batch stand for ids of those before it.
         ids.clear();
-        ids.extend_from_slice(batch.answers.letters.ids())?;
-        place = handle_batch(rt, alloc, register, &mut batch, place, &ids)?;
-        print(&batch.answers.text, out)?;
-        batch.answers.text.clear();
+        ids.extend_from_slice(answers.letters.ids())?;
+        place = handle_batch(rt, alloc, register, &mut answers, place, &ids)?;
+        print(&answers.text, out)?;
+        answers.text.clear();
     }
     Ok(())
 }

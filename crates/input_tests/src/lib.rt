@@ -1,6 +1,6 @@
 //! Tests of the input: digits and ids (`hlr_types`), the records file (`records`), the octets of frames and the command line (`hlr_input`).
 //!
-//! They are in a crate of their own because a crate with tests is proved twice.
+//! They are in a crate of their own, which the gate runs and does not prove.
 #![tactic(auto)]
 
 #[cfg(test)]

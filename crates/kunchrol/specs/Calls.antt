@@ -1,22 +1,29 @@
 -- What a call does to what a handle has.
-use Rattle.std.specs.Prelude.{◌≡◌, ℕ, List, drop, length, slice_get, take, Some, None}
+use Rattle.std.specs.Prelude.{◌≡◌, ℕ, zero, suc, List, drop, length, slice_get, take, Some, None}
 use Rattle.frames.specs.Octets.{RawEvent, RawOut}
 use Rattle.hlr_types.specs.DigitTexts.{text_of}
 use Rattle.records.specs.File.{Contents, File}
 use Rattle.audit.specs.Saving.{Saves}
+use Rattle.shardlog.specs.declared.keep.Keep.{Keep}
+use Rattle.shardlog.specs.declared.keep.Keep.TheVariants.{Entries, Nothing}
 use Rattle.embed.specs.Journals.{CutsOff, ListsShard}
 use Rattle.embed.specs.Registers.{RegisterState, Opens, Answers}
 use Rattle.embed.specs.Rooms.{Writes}
 use Rattle.kunchrol.specs.Handles.{Held}
 
--- The handle was closed, and has the register of the records file that the text is.
-pub record OpensText (text : List ℕ) (before after : Held) : Type 0 where
+-- Whether journals are kept, by the number that asks for them.
+abbrev pub keep_of : ℕ → Keep
+keep_of zero = Nothing
+keep_of (suc n) = Entries
+
+-- The handle was closed, and has the register of the records file that the text is, with journals or without.
+pub record OpensText (text : List ℕ) (keep : Keep) (before after : Held) : Type 0 where
   pub was_closed : before ≡ None
   pub contents : Contents
   pub file : File text contents
   pub is : RegisterState
   pub after_is : after ≡ Some is
-  pub opens : Opens contents is
+  pub opens : Opens contents keep is
 
 -- The register takes an event of the kind asked for, by a step of the machine, and exactly the frames that it sends wait.
 pub record Takes (IsAsked : RawEvent → Type 0) (before after : Held) : Type 0 where

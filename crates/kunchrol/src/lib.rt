@@ -13,26 +13,30 @@ ghost use Rattle.std.specs.Prelude.{◌≡◌, ◌≢◌, length, None, Some};
 ghost use Rattle.hlrcore.specs.Events.{raw_event};
 ghost use Rattle.embed.specs.Events.{IsFrame, IsClock, IsExpiry, IsCodesChange, IsWithdrawal};
 ghost use Rattle.embed.specs.Registers.{Answers};
-ghost use Rattle.kunchrol.specs.Calls.{OpensText, Takes, SendsFrame, SavesRecords, CutsJournal};
+ghost use Rattle.kunchrol.specs.Calls.{OpensText, Takes, SendsFrame, SavesRecords, CutsJournal, keep_of};
 ghost use Rattle.kunchrol.specs.Refusals.{Refused, RefusesCut, RefusesEvent, RefusesKind, RefusesNext, RefusesSave, RefusesText};
 
 use code::{ARGUMENT, CLOSED, MEMORY, OK, OPEN, code_of_cause, code_of_records, line_of};
-use embed::{Register, clock_event, codes_event, expiry_event, frame_event, withdrawal_event};
+use embed::{
+    Keep, Register, clock_event, codes_event, expiry_event, frame_event, withdrawal_event,
+};
 pub use handle::Handle;
 use hlrcore::{RawEvent, ShardNumber};
 use next::next_frame;
 use room::{cut_journal, save_records};
 use std::alloc::Global;
 
-/// Opens a register on the text of a records file. Where a line has a fault its number is put at `line`, else 0.
+/// Opens a register on the text of a records file. It keeps journals, or with `journals` 0 none. If a line has a fault its number is put at
+/// `line`, else 0.
 #[unsafe(no_mangle)]
 pub extern "C" fn kunchrol_open(
     alloc: Global,
     text: &[u8],
+    journals: u8,
     handle: &mut Handle,
     line: &mut u64,
 ) -> u32
-    ensures opened { result ≡ 0 → OpensText text.now handle.old.value handle.new.value }
+    ensures opened { result ≡ 0 → OpensText text.now (keep_of journals) handle.old.value handle.new.value }
     ensures why { result ≢ 0 → RefusesText text.now handle.old.value line.new result }
     ensures no_line { result ≢ 9 → result ≢ 10 → line.new ≡ 0 }
     ensures refused { result ≢ 0 → handle.new.value ≡ handle.old.value }
@@ -42,7 +46,7 @@ pub extern "C" fn kunchrol_open(
         handle.put(register);
         return OPEN;
     }
-    match Register::open(alloc, text) {
+    match Register::open(alloc, text, keep_of(journals)) {
         Ok(register) => match Box::new(alloc, register) {
             Ok(register) => {
                 handle.put(register);
@@ -54,6 +58,16 @@ pub extern "C" fn kunchrol_open(
             *line = line_of(fault);
             code_of_records(fault)
         }
+    }
+}
+
+fn keep_of(journals: u8) -> Keep
+    ensures { result ≡ keep_of journals }
+{
+    if journals == 0 {
+        Keep::Nothing
+    } else {
+        Keep::Entries
     }
 }
 
@@ -71,7 +85,7 @@ pub extern "C" fn kunchrol_frame(
     ensures refused { result ≢ 0 → handle.new.value ≡ handle.old.value }
 {
     match frame_event(alloc, from, octets) {
-        Ok(Some(event)) => give(alloc, handle, &event),
+        Ok(Some(event)) => give(alloc, handle, event),
         Ok(None) => ARGUMENT,
         Err(_) => MEMORY,
     }
@@ -85,7 +99,7 @@ pub extern "C" fn kunchrol_clock(alloc: Global, handle: &mut Handle, shard: u8, 
     ensures refused { result ≢ 0 → handle.new.value ≡ handle.old.value }
 {
     match clock_event(shard, now) {
-        Some(event) => give(alloc, handle, &event),
+        Some(event) => give(alloc, handle, event),
         None => ARGUMENT,
     }
 }
@@ -98,7 +112,7 @@ pub extern "C" fn kunchrol_expire(alloc: Global, handle: &mut Handle, shard: u8)
     ensures refused { result ≢ 0 → handle.new.value ≡ handle.old.value }
 {
     match expiry_event(shard) {
-        Some(event) => give(alloc, handle, &event),
+        Some(event) => give(alloc, handle, event),
         None => ARGUMENT,
     }
 }
@@ -118,7 +132,7 @@ pub extern "C" fn kunchrol_codes(
     ensures refused { result ≢ 0 → handle.new.value ≡ handle.old.value }
 {
     match codes_event(alloc, imsi, codes) {
-        Ok(Some(event)) => give(alloc, handle, &event),
+        Ok(Some(event)) => give(alloc, handle, event),
         Ok(None) => ARGUMENT,
         Err(_) => MEMORY,
     }
@@ -132,15 +146,15 @@ pub extern "C" fn kunchrol_withdraw(alloc: Global, handle: &mut Handle, imsi: &[
     ensures refused { result ≢ 0 → handle.new.value ≡ handle.old.value }
 {
     match withdrawal_event(imsi) {
-        Some(event) => give(alloc, handle, &event),
+        Some(event) => give(alloc, handle, event),
         None => ARGUMENT,
     }
 }
 
-fn give(alloc: Global, handle: &mut Handle, event: &RawEvent) -> u32
+fn give(alloc: Global, handle: &mut Handle, event: RawEvent) -> u32
     ensures handled { result ≡ 0 → Takes
-        (λ raw. raw ≡ raw_event event.now) handle.old.value handle.new.value }
-    ensures why { result ≢ 0 → Refused (raw_event event.now) handle.old.value result }
+        (λ raw. raw ≡ raw_event event) handle.old.value handle.new.value }
+    ensures why { result ≢ 0 → Refused (raw_event event) handle.old.value result }
     ensures refused { result ≢ 0 → handle.new.value ≡ handle.old.value }
 {
     let Some(mut register) = handle.take(alloc) else {
@@ -151,9 +165,9 @@ fn give(alloc: Global, handle: &mut Handle, event: &RawEvent) -> u32
     code
 }
 
-fn answer(register: &mut Register, event: &RawEvent) -> u32
-    ensures handled { result ≡ 0 → Answers register.old (raw_event event.now) register.new }
-    ensures why { result ≢ 0 → RefusesEvent register.old (raw_event event.now) result }
+fn answer(register: &mut Register, event: RawEvent) -> u32
+    ensures handled { result ≡ 0 → Answers register.old (raw_event event) register.new }
+    ensures why { result ≢ 0 → RefusesEvent register.old (raw_event event) result }
     ensures refused { result ≢ 0 → register.new ≡ register.old }
 {
     match register.handle(event) {

@@ -8,7 +8,7 @@ use hlrcore::RawEvent;
 use records::read_records;
 use shardlog::Handled;
 use std::alloc::Global;
-use wholenode::Node;
+use wholenode::{Keep, Node};
 
 const RECORDS: &[u8] = b"HLR1 447700900100
 234150000000001 447700900000 11,21 * 447700900011,447700900001,-,s
@@ -45,7 +45,7 @@ fn send(rt: &impl Print, handled: &Handled) -> Result<()> {
 
 fn run(rt: &(impl Print + AllocGlobal)) -> Result<()> {
     let alloc = rt.alloc();
-    let mut node = Node::new(alloc, read_records(alloc, RECORDS)?)?;
+    let mut node = Node::new(alloc, read_records(alloc, RECORDS)?, Keep::Nothing)?;
     let mut bump = Bump::new(alloc);
     let event = received(alloc, FROM, &FRAME)?;
     match node.run(&mut bump, &[event]) {

@@ -1,4 +1,4 @@
-//! Inputs of the tests. A failure is a text here, since a `Fail` must not be dropped when an allocation fails on purpose.
+//! Inputs of the tests.
 
 use hlr_types::{Digits, Peer};
 use hlrcore::Out;

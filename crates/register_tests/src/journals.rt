@@ -3,10 +3,10 @@
 use crate::given::{octets_at, peer};
 use crate::samples::{RECORDS, ROUTE, ROUTE_ANSWER};
 use bumpalo::Bump;
-use hlrcore::{Event, RawEvent, ShardNumber, State};
+use hlrcore::{Event, RawEvent, ShardNumber, State, addressee_of};
 use machine::numbers::MAX_ENTRIES;
 use records::read_records;
-use shardlog::{Entry, Shard, ShardFault};
+use shardlog::{Entry, Handled, Keep, Shard, ShardFault};
 use std::alloc::Global;
 use std::process::Abort;
 use std::test::Fail;
@@ -36,7 +36,7 @@ enum Step {
 fn shard(alloc: Global) -> Result<Shard, Fail> {
     let loaded = read_records(alloc, RECORDS)?;
     let state = State::new(alloc, 1, &loaded)?;
-    Ok(Shard::new(alloc, state).ok().ok_or("shard")?)
+    Ok(Shard::new(alloc, state, Keep::Entries).ok().ok_or("shard")?)
 }
 
 fn raw_event(alloc: Global, given: Given) -> Option<RawEvent> {
@@ -57,6 +57,11 @@ fn event(alloc: Global, given: Given) -> Option<Event> {
     Event::of(alloc, &mut Bump::new(alloc), &raw).ok()
 }
 
+fn handled(shard: &mut Shard, event: &mut Event) -> Result<Handled, ShardFault> {
+    let found = addressee_of(shard.state().directory(), event);
+    shard.handle(event, found)
+}
+
 fn handles(
     alloc: Global,
     shard: &mut Shard,
@@ -64,18 +69,18 @@ fn handles(
     place: usize,
     said: &[u8],
 ) -> Option<bool> {
-    let handled = shard.handle(&event(alloc, given)?).ok()?;
+    let handled = handled(shard, &mut event(alloc, given)?).ok()?;
     Some(handled.position == place && octets_at(handled.outs.as_slice(), 0) == said)
 }
 
 fn refuses(alloc: Global, shard: &mut Shard, given: Given) -> Option<ShardFault> {
-    shard.handle(&event(alloc, given)?).err()
+    handled(shard, &mut event(alloc, given)?).err()
 }
 
 fn fills(alloc: Global, shard: &mut Shard) -> Option<bool> {
-    let tick = event(alloc, Given::Clock(1))?;
+    let mut tick = event(alloc, Given::Clock(1))?;
     for _ in 0..MAX_ENTRIES {
-        if shard.handle(&tick).is_err() {
+        if handled(shard, &mut tick).is_err() {
             return None;
         }
     }

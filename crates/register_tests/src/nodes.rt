@@ -9,7 +9,7 @@ use machine::numbers::MAX_ENTRIES;
 use records::read_records;
 use std::alloc::Global;
 use std::test::Fail;
-use wholenode::{Cause, Node};
+use wholenode::{Cause, Keep, Node};
 
 /// Four subscribers, the first of them registered.
 const RECORDS: &[u8] = b"HLR1 447700900100
@@ -38,7 +38,7 @@ HLR2 447700900100
 
 fn node(alloc: Global) -> Result<Node, Fail> {
     let loaded = read_records(alloc, RECORDS)?;
-    Ok(Node::new(alloc, loaded)?)
+    Ok(Node::new(alloc, loaded, Keep::Entries)?)
 }
 
 fn frame(alloc: Global, octets: &[u8]) -> Result<RawEvent, Fail> {

@@ -1,13 +1,11 @@
 //! Tests of the layers of one shard: the procedures (`location`), the plan of an event (`turns`), carrying out a plan
 //! (`shard_state`), and steps and runs (`hlrcore`).
 //!
-//! They are in a crate of their own because a crate with tests is proved twice.
+//! They are in a crate of their own, which the gate runs and does not prove.
 #![tactic(auto)]
 
 #[cfg(test)]
 mod given;
-#[cfg(test)]
-mod growths;
 #[cfg(test)]
 mod plans;
 #[cfg(test)]

@@ -18,18 +18,18 @@ fn subscriber() -> Option<Imsi> {
     imsi(b"234150000000001").ok()
 }
 
-pub(crate) fn records(alloc: Global) -> Option<Records> {
+fn records(alloc: Global) -> Option<Records> {
     read_records(alloc, RECORDS).ok()?.part(1).ok()
 }
 
 /// What these octets read to.
-pub(crate) fn taken(alloc: Global, octets: &[u8]) -> Option<Indication> {
+fn taken(alloc: Global, octets: &[u8]) -> Option<Indication> {
     let from = peer(b"447700900012").ok()?;
     Round::take(alloc, &mut Bump::new(alloc), from, octets).ok()
 }
 
 /// The outcome of a Begin, none where it is out of memory.
-pub(crate) fn begun(alloc: Global, indication: &Indication, records: &Records) -> Option<Outcome> {
+fn begun(alloc: Global, indication: &Indication, records: &Records) -> Option<Outcome> {
     let Verdict::Read(message) = indication.verdict() else {
         return None;
     };
@@ -52,7 +52,7 @@ fn outcome_of(alloc: Global, octets: &[u8]) -> Option<Outcome> {
 }
 
 /// Whether this is sent.
-pub(crate) fn says(alloc: Global, sent: &Option<Addressed>, octets: &[u8]) -> Option<bool> {
+fn says(alloc: Global, sent: &Option<Addressed>, octets: &[u8]) -> Option<bool> {
     match sent {
         Some(out) => Some(octets_of(alloc, &out.message).ok()?.as_slice() == octets),
         None => Some(false),

@@ -203,21 +203,3 @@ fn a_copy_is_a_state_of_its_own(rt: HostRuntime) -> Result<(), Fail> {
     assert!(rt; is_of_its_own(rt.alloc(), &mut shard) == Some(true));
     Ok(())
 }
-
-/// Whether a cancel opens, or an allocation fails and nothing changes.
-fn opens_or_stays(alloc: Global, shard: &mut ShardParts) -> bool {
-    let before = (shard.dialogues().len(), shard.dialogues().next_id());
-    opens(alloc, shard).is_some()
-        || (shard.dialogues().len(), shard.dialogues().next_id()) == before
-}
-
-/// Each allocation fails in turn by `rt try --test --fail-alloc N`.
-#[test]
-fn refused_growths(rt: HostRuntime) {
-    let Ok(mut shard) = shard(rt.alloc(), RECORDS) else {
-        return;
-    };
-    for _number in 0..4 {
-        assert!(rt; opens_or_stays(rt.alloc(), &mut shard));
-    }
-}

@@ -25,8 +25,10 @@ use Rattle.shardlog.specs.declared.fault.ShardFault.TheVariants.{JournalFull, No
 use Rattle.shardlog.specs.Faults.{fault_of}
 use Rattle.shardlog.specs.Chains.{JoinedKeep, LeadTo}
 use Rattle.shardlog.specs.Entries.{raw_entries, raw_entry}
-use Rattle.shardlog.specs.Handling.{Handles, HandlesUnlisted, LeavesUnnamed}
-use Rattle.shardlog.specs.Log.{IsHeld, IsLog, Keeps, LogKeeps, Log, base_of, log}
+use Rattle.shardlog.specs.declared.keep.Keep.{Keep}
+use Rattle.shardlog.specs.declared.keep.Keep.TheVariants.{Entries, Nothing}
+use Rattle.shardlog.specs.Handling.{Handles, LeavesUnnamed, recorded}
+use Rattle.shardlog.specs.Log.{IsHeld, IsLog, Keeps, LogKeeps, Log, base_of, cut_log, fresh, log}
 
 pub keeps_of : (n : ℕ) (base : State) (entries : List RawEntry) (state : State) → LegalOctets n base entries state → Keeps n base entries state
 keeps_of n base entries state legal = record {
@@ -38,16 +40,21 @@ keeps_of n base entries state legal = record {
   alone = λ imsi none. isolation_of_octets n base state entries imsi legal none;
 }
 
-pub log_keeps : (l : Log) → IsLog l → LogKeeps l
-log_keeps l is = record { journal = keeps_of l.base.shard (state_of l.base) l.entries (state_of l.state) is.legal; same = is.same; few = is.few }
+pub log_keeps : (l : Log) → IsLog l → (l.keep ≡ Nothing → l ≡ cut_log l) → LogKeeps l
+log_keeps l is none = record {
+  journal = keeps_of l.base.shard (state_of l.base) l.entries (state_of l.state) is.legal;
+  same = is.same;
+  few = is.few;
+  none = none;
+}
 
 pub joined_keep : JoinedKeep
 joined_keep n epochs base state entries chain legal =
     keeps_of n (first_raw_base epochs base) (joined_raws epochs ++ entries) state (chain_joined n epochs base state entries chain legal)
 
 -- a shard begins without an entry
-pub begun : (s : ShardState) → IsSoundShard s → IsLog (log s [] s)
-begun s is = record {
+pub begun : (keep : Keep) (s : ShardState) → IsSoundShard s → IsLog (fresh keep s)
+begun keep s is = record {
   legal = record {
     journal = [];
     spelled = tt;
@@ -62,10 +69,10 @@ unfolding state_of
 directory_is s = refl
 
 -- a step appends its entry
-pub grown : (base s t : ShardState) (entries : List RawEntry) (entry : RawEntry) → IsLog (log base entries s)
+pub grown : (keep : Keep) (base s t : ShardState) (entries : List RawEntry) (entry : RawEntry) → IsLog (log keep base entries s)
     → IsRouted (directory_of s.directory) entry.event s.shard
-    → StepOctets (state_of s) entry (state_of t) → IsSameShard s t → length entries < MAX_ENTRIES → IsLog (log base (entries ++ entry ∷ []) t)
-grown base s t entries entry is routed step same lt = record {
+    → StepOctets (state_of s) entry (state_of t) → IsSameShard s t → length entries < MAX_ENTRIES → IsLog (log keep base (entries ++ entry ∷ []) t)
+grown keep base s t entries entry is routed step same lt = record {
   legal = octets_push base.shard (state_of base) (state_of s) (state_of t) entries entry is.legal
       (subst (λ n. IsRouted (state_of s).directory entry.event n) is.same.shard
       (subst (λ d. IsRouted d entry.event s.shard) (sym (directory_is s)) routed)) step;
@@ -81,9 +88,6 @@ leaves_unnamed S T entry (j, spells, step) = λ e i d is open_at not_named.
 
 -- ---- in the code
 
-pub keeps_seen : (l m : Log) → l ≡ m → IsLog l → LogKeeps m
-keeps_seen l m e is = subst LogKeeps e (log_keeps l is)
-
 pub entry_is : (raw : code.RawEvent) (event : RawEvent) (a : StepAnswer) (kept : List RawOut) → raw_event raw ≡ event → kept ≡ a.outs
     → raw_entry (record { event = raw; id = a.id; subject = a.subject; outs = kept }) ≡ entry_of event a
 entry_is raw event a kept same outs = λ i. record { event = same i; id = a.id; subject = a.subject; outs = outs i }
@@ -93,65 +97,16 @@ pub entries_after : (before after : List Entry) (entry : Entry) (made : RawEntry
 entries_after before after entry made put is =
     ap (map raw_entry) put ∙ map-append raw_entry before (entry ∷ []) ∙ ap (λ (e : RawEntry). raw_entries before ++ e ∷ []) is
 
-pub handled_log : (base s t : ShardState) (before after : List Entry) (event : RawEvent) (a : StepAnswer) → IsLog (log base (raw_entries before) s)
+-- the journal with one entry more
+pub handled_log : (keep : Keep) (base s t : ShardState) (before after : List Entry) (event : RawEvent) (a : StepAnswer)
+    → IsLog (log keep base (raw_entries before) s)
     → raw_entries after ≡ raw_entries before ++ entry_of event a ∷ [] → IsRouted (directory_of s.directory) event s.shard
     → StepOctets (state_of s) (entry_of event a) (state_of t)
-    → IsSameShard s t → length before < MAX_ENTRIES → IsLog (log base (raw_entries after) t)
-handled_log base s t before after event a is put routed step same lt =
+    → IsSameShard s t → length before < MAX_ENTRIES → IsLog (log keep base (raw_entries after) t)
+handled_log keep base s t before after event a is put routed step same lt =
     let count = length-map before raw_entry in
-    subst (λ (es : List RawEntry). IsLog (log base es t)) (sym put)
-    (grown base s t (raw_entries before) (entry_of event a) is routed step same (omega (arith, count)))
-
-pub handles : (old : Log) (base s t : ShardState) (before after : List Entry) (event : RawEvent) (a : StepAnswer) (handled : Handled)
-    → log base (raw_entries before) s ≡ old
-    → raw_entries after ≡ raw_entries before ++ entry_of event a ∷ [] → StepOctets (state_of s) (entry_of event a) (state_of t)
-    → handled.outs ≡ a.outs → handled.position ≡ length before → Handles old event handled (log base (raw_entries after) t)
-handles old base s t before after event a handled seen put step outs position =
-    subst (λ (l : Log). Handles l event handled (log base (raw_entries after) t)) seen (record {
-      entry = entry_of event a;
-      added = put;
-      base = refl;
-      event_is = refl;
-      outs_are = outs;
-      position = position ∙ sym (length-map before raw_entry);
-      step = step;
-      unnamed = leaves_unnamed (state_of s) (state_of t) (entry_of event a) step;
-    })
-
--- an event that is not handled leaves all as it is, but for more room
-pub keeps_unhandled : (base s t : ShardState) (before after : List Entry) → IsLog (log base (raw_entries before) s) → after ≡ before → t ≡ s
-    → LogKeeps (log base (raw_entries after) t)
-keeps_unhandled base s t before after is entries state =
-    subst (λ (u : ShardState). LogKeeps (log base (raw_entries after) u)) (sym state)
-    (subst (λ (es : List Entry). LogKeeps (log base (raw_entries es) s)) (sym entries) (log_keeps _ is))
-
--- ---- an event that names its shard (an expiry or a clock value), of which an entry is appended where more room was made
-
-module _ (event : ℕ → RawEvent) (old : Log) (base s t : ShardState) (before roomy after : List Entry) (n : ℕ) (a : StepAnswer)
-    (seen : log base (raw_entries before) s ≡ old) (mine : n ≡ old.state.shard) (room : roomy ≡ before)
-    (put : raw_entries after ≡ raw_entries roomy ++ entry_of (event n) a ∷ [])
-    (step : StepOctets (state_of s) (entry_of (event s.shard) a) (state_of t)) where
-  own : n ≡ s.shard
-  own = mine ∙ sym (ap (λ (l : Log). l.state.shard) seen)
-
-  put_here : raw_entries after ≡ raw_entries before ++ entry_of (event n) a ∷ []
-  put_here = subst (λ (es : List Entry). raw_entries after ≡ raw_entries es ++ entry_of (event n) a ∷ []) room put
-
-  stepped : StepOctets (state_of s) (entry_of (event n) a) (state_of t)
-  stepped = subst (λ (k : ℕ). StepOctets (state_of s) (entry_of (event k) a) (state_of t)) (sym own) step
-
-  pub named_log : IsLog (log base (raw_entries before) s) → IsRouted (directory_of s.directory) (event n) n → IsSameShard s t
-      → length old.entries < MAX_ENTRIES → IsLog (log base (raw_entries after) t)
-  named_log is routed same lt =
-      let sees = ap (λ (l : Log). length l.entries) seen in
-      let count = length-map before raw_entry in
-      handled_log base s t before after (event n) a is put_here (subst (IsRouted (directory_of s.directory) (event n)) own routed) stepped same
-      (omega (arith, count, sees, lt))
-
-  pub named_handles : (handled : Handled) → handled.outs ≡ a.outs → handled.position ≡ length roomy
-      → Handles old (event n) handled (log base (raw_entries after) t)
-  named_handles handled outs position =
-      handles old base s t before after (event n) a handled seen put_here stepped outs (position ∙ ap (λ (es : List Entry). length es) room)
+    subst (λ (es : List RawEntry). IsLog (log keep base es t)) (sym put)
+    (grown keep base s t (raw_entries before) (entry_of event a) is routed step same (omega (arith, count)))
 
 -- ---- what a shard holds
 
@@ -163,58 +118,159 @@ ends_sound l is = record {
   own = subst (λ (n : ℕ). state_of l.state ≡ part (state_of l.state) n) (sym is.same.shard) is.legal.legal.after_part;
 }
 
--- and so is the state behind one more step
-pub step_sound : (base s t : ShardState) (entries : List RawEntry) (entry : RawEntry) → IsLog (log base entries s)
+-- and so is the state after one more step
+step_sound : (keep : Keep) (base s t : ShardState) (entries : List RawEntry) (entry : RawEntry) → IsLog (log keep base entries s)
     → IsRouted (directory_of s.directory) entry.event s.shard → StepOctets (state_of s) entry (state_of t) → IsSameShard s t → IsSoundShard t
-step_sound base s t entries entry is routed step same =
-    ends_sound (log s (entry ∷ []) t) (grown s s t [] entry (begun s (ends_sound (log base entries s) is)) routed step same (omega arith))
+step_sound keep base s t entries entry is routed step same =
+    ends_sound (log keep s (entry ∷ []) t)
+    (grown keep s s t [] entry (begun keep s (ends_sound (log keep base entries s) is)) routed step same (omega arith))
 
-pub held : (b : Option ShardState) (base s : ShardState) (entries : List RawEntry) → b ≡ Some base → IsLog (log base entries s) → IsHeld b entries s
-held b base s entries is legal = record {
-  log = subst (λ (o : Option ShardState). IsLog (log (base_of o s) entries s)) (sym is) legal;
-  begins = λ none. absurd cc;
-}
+pub held_none : (keep : Keep) (b : Option ShardState) (s : ShardState) (entries : List RawEntry) → b ≡ None → entries ≡ [] → IsSoundShard s
+    → IsHeld keep b entries s
+held_none keep b s entries none empty sound =
+    subst (λ (o : Option ShardState). IsHeld keep o entries s) (sym none)
+    (subst (λ (es : List RawEntry). IsHeld keep None es s) (sym empty) (record { log_is = begun keep s sound; begins = λ _. refl; none = λ _. refl }))
 
-pub held_none : (b : Option ShardState) (s : ShardState) (entries : List RawEntry) → b ≡ None → entries ≡ [] → IsSoundShard s → IsHeld b entries s
-held_none b s entries none empty sound =
-    subst (λ (o : Option ShardState). IsHeld o entries s) (sym none)
-    (subst (λ (es : List RawEntry). IsHeld None es s) (sym empty) (record { log = begun s sound; begins = λ _. refl }))
+-- where no entries are kept, there is none
+held_empty : (keep : Keep) (b : Option ShardState) (entries : List RawEntry) (s : ShardState) → IsHeld keep b entries s → keep ≡ Nothing
+    → log keep (base_of b s) entries s ≡ fresh keep s
+held_empty keep b entries s is nothing =
+    let none : b ≡ None = is.none nothing in
+    let empty : entries ≡ [] = is.begins none in
+    λ i. log keep (base_of (none i) s) (empty i) s
 
--- what is held after an event that is not handled
-pub keeps_still : (b c : Option ShardState) (s t : ShardState) (before after : List Entry) → IsHeld b (raw_entries before) s → after ≡ before → t ≡ s
-    → base_of c t ≡ base_of b s → LogKeeps (log (base_of c t) (raw_entries after) t)
-keeps_still b c s t before after is entries state base =
-    subst (λ (u : ShardState). LogKeeps (log u (raw_entries after) t)) (sym base)
-    (keeps_unhandled (base_of b s) s t before after is.log entries state)
+pub held_keeps : (keep : Keep) (b : Option ShardState) (entries : List RawEntry) (s : ShardState) → IsHeld keep b entries s
+    → LogKeeps (log keep (base_of b s) entries s)
+held_keeps keep b entries s is = log_keeps (log keep (base_of b s) entries s) is.log_is (held_empty keep b entries s is)
 
-pub handles_held : (old : Log) (b : Option ShardState) (base t : ShardState) (entries : List RawEntry) (event : RawEvent) (handled : Handled)
-    → b ≡ Some base → Handles old event handled (log base entries t) → Handles old event handled (log (base_of b t) entries t)
-handles_held old b base t entries event handled is handles =
-    subst (λ (o : Option ShardState). Handles old event handled (log (base_of o t) entries t)) (sym is) handles
+pub seen_keeps : (keep : Keep) (b : Option ShardState) (entries : List RawEntry) (s : ShardState) (m : Log) → log keep (base_of b s) entries s ≡ m
+    → IsHeld keep b entries s → LogKeeps m
+seen_keeps keep b entries s m seen is = subst LogKeeps seen (held_keeps keep b entries s is)
 
--- an event of which no entry is kept
-pub unlisted : (old : Log) (b c : Option ShardState) (s t : ShardState) (before after : List RawEntry) (event : RawEvent) (a : StepAnswer)
-    (sent : List RawOut) → log (base_of b s) before s ≡ old → c ≡ None → after ≡ [] → IsSameShard s t
-    → StepOctets (state_of s) (entry_of event a) (state_of t) → sent ≡ a.outs → HandlesUnlisted old event sent (log (base_of c t) after t)
-unlisted old b c s t before after event a sent seen none empty same step outs =
-    subst (λ (l : Log). HandlesUnlisted l event sent (log (base_of c t) after t)) seen
-    (subst (λ (m : Log). HandlesUnlisted (log (base_of b s) before s) event sent m) (λ i. log (base_of (sym none i) t) (sym empty i) t) (record {
-      entry = entry_of event a;
-      empty = refl;
-      same = same;
-      event_is = refl;
-      outs_are = outs;
-      step = step;
-      unnamed = leaves_unnamed (state_of s) (state_of t) (entry_of event a) step;
-    }))
+-- the same is held, in lists and options that are equal
+pub held_same : (keep : Keep) (b c : Option ShardState) (before after : List Entry) (s : ShardState) → IsHeld keep b (raw_entries before) s
+    → after ≡ before → c ≡ b → IsHeld keep c (raw_entries after) s
+held_same keep b c before after s is entries base =
+    subst (λ (o : Option ShardState). IsHeld keep o (raw_entries after) s) (sym base)
+    (subst (λ (es : List Entry). IsHeld keep b (raw_entries es) s) (sym entries) is)
 
--- the same for one that names its shard
-pub named_unlisted : (event : ℕ → RawEvent) (old : Log) (b c : Option ShardState) (s t : ShardState) (before after : List RawEntry) (n : ℕ)
-    (a : StepAnswer) (sent : List RawOut) → log (base_of b s) before s ≡ old → n ≡ old.state.shard → c ≡ None → after ≡ [] → IsSameShard s t
-    → StepOctets (state_of s) (entry_of (event s.shard) a) (state_of t) → sent ≡ a.outs → HandlesUnlisted old (event n) sent (log (base_of c t) after t)
-named_unlisted event old b c s t before after n a sent seen mine none empty same step outs =
-    subst (λ (k : ℕ). HandlesUnlisted old (event k) sent (log (base_of c t) after t)) (sym (mine ∙ sym (ap (λ (l : Log). l.state.shard) seen)))
-    (unlisted old b c s t before after (event s.shard) a sent seen none empty same step outs)
+-- ---- an event that names its shard (a clock value or an expiry)
+
+pub own_step : (event : ℕ → RawEvent) (n : ℕ) (s t : ShardState) (a : StepAnswer) → n ≡ s.shard
+    → StepOctets (state_of s) (entry_of (event s.shard) a) (state_of t) → StepOctets (state_of s) (entry_of (event n) a) (state_of t)
+own_step event n s t a own step = subst (λ (k : ℕ). StepOctets (state_of s) (entry_of (event k) a) (state_of t)) (sym own) step
+
+pub own_route : (event : ℕ → RawEvent) (n : ℕ) (s : ShardState) → n ≡ s.shard → IsRouted (directory_of s.directory) (event n) n
+    → IsRouted (directory_of s.directory) (event n) s.shard
+own_route event n s own routed = subst (IsRouted (directory_of s.directory) (event n)) own routed
+
+-- ---- an event is handled
+
+-- Room was made for an entry, if one is kept: this is what the shard holds then.
+pub record IsRoomy (keep : Keep) (b c : Option ShardState) (s : ShardState) (before after : List Entry) : Type 0 where
+  pub held : IsHeld keep b (raw_entries before) s
+  pub entries : after ≡ before
+  pub kept : keep ≡ Entries → c ≡ Some (base_of b s)
+  pub left : keep ≡ Nothing → c ≡ b
+
+module _ (keep : Keep) (b c : Option ShardState) (s : ShardState) (before roomy : List Entry) (is : IsRoomy keep b c s before roomy) where
+  same_base : base_of c s ≡ base_of b s
+  same_base = by keep (λ k. k) (λ k. k) is.kept is.left
+    where
+      by : (k : Keep) → (k ≡ Entries → k ≡ Entries) → (k ≡ Nothing → k ≡ Nothing) → (k ≡ Entries → c ≡ Some (base_of b s)) → (k ≡ Nothing → c ≡ b)
+          → base_of c s ≡ base_of b s
+      by Entries _ _ kept left = ap (λ (o : Option ShardState). base_of o s) (kept refl)
+      by Nothing _ _ kept left = ap (λ (o : Option ShardState). base_of o s) (left refl)
+
+  -- nothing is handled, and nothing changes
+  pub still_held : (t : ShardState) → t ≡ s → IsHeld keep c (raw_entries roomy) t
+  still_held t same =
+      subst (λ (u : ShardState). IsHeld keep c (raw_entries roomy) u) (sym same)
+      (subst (λ (es : List Entry). IsHeld keep c (raw_entries es) s) (sym is.entries) (record {
+        log_is = subst (λ (base : ShardState). IsLog (log keep base (raw_entries before) s)) (sym same_base) is.held.log_is;
+        begins = λ none. is.held.begins (absent keep none is.kept is.left);
+        none = λ nothing. is.left nothing ∙ is.held.none nothing;
+      }))
+    where
+      absent : (k : Keep) → c ≡ None → (k ≡ Entries → c ≡ Some (base_of b s)) → (k ≡ Nothing → c ≡ b) → b ≡ None
+      absent Entries none kept left = absurd (let some : c ≡ Some (base_of b s) = kept refl in cc)
+      absent Nothing none kept left = sym (left refl) ∙ none
+
+  pub still_keeps : (t : ShardState) → t ≡ s → LogKeeps (log keep (base_of c t) (raw_entries roomy) t)
+  still_keeps t same = held_keeps keep c (raw_entries roomy) t (still_held t same)
+
+  pub still_seen : (old : Log) (t : ShardState) → log keep (base_of b s) (raw_entries before) s ≡ old → t ≡ s
+      → log keep (base_of c t) (raw_entries roomy) t ≡ old
+  still_seen old t seen same =
+      (λ i. log keep (base_of c (same i)) (raw_entries (is.entries i)) (same i))
+      ∙ (λ i. log keep (same_base i) (raw_entries before) s) ∙ seen
+
+  -- a step is taken
+  module _ (old : Log) (t : ShardState) (event : RawEvent) (a : StepAnswer) (seen : log keep (base_of b s) (raw_entries before) s ≡ old)
+      (routed : IsRouted (directory_of s.directory) event s.shard) (step : StepOctets (state_of s) (entry_of event a) (state_of t))
+      (same : IsSameShard s t) where
+    -- its entry is kept
+    pub entry_held : (after : List Entry) → keep ≡ Entries → length before < MAX_ENTRIES
+        → raw_entries after ≡ raw_entries roomy ++ entry_of event a ∷ [] → IsHeld keep c (raw_entries after) t
+    entry_held after keeps lt put =
+        let some : c ≡ Some (base_of b s) = is.kept keeps in
+        let put_here : raw_entries after ≡ raw_entries before ++ entry_of event a ∷ [] =
+        subst (λ (es : List Entry). raw_entries after ≡ raw_entries es ++ entry_of event a ∷ []) is.entries put in
+        record {
+          log_is = subst (λ (o : Option ShardState). IsLog (log keep (base_of o t) (raw_entries after) t)) (sym some)
+              (handled_log keep (base_of b s) s t before after event a is.held.log_is put_here routed step same lt);
+          begins = λ none. absurd cc;
+          none = λ nothing. absurd (let both : Entries ≡ Nothing = sym keeps ∙ nothing in cc);
+        }
+
+    pub entry_handles : (after : List Entry) (handled : Handled) → keep ≡ Entries
+        → raw_entries after ≡ raw_entries roomy ++ entry_of event a ∷ [] → handled.outs ≡ a.outs → handled.position ≡ length roomy
+        → Handles old event handled (log keep (base_of c t) (raw_entries after) t)
+    entry_handles after handled keeps put outs position =
+        subst (λ (l : Log). Handles l event handled (log keep (base_of c t) (raw_entries after) t)) seen (record {
+          entry = entry_of event a;
+          new_is = by keep keeps (is.kept keeps) (put ∙ ap (λ (es : List Entry). raw_entries es ++ entry_of event a ∷ []) is.entries);
+          same = same;
+          event_is = refl;
+          outs_are = outs;
+          position = position ∙ ap (λ (es : List Entry). length es) is.entries ∙ sym (length-map before raw_entry);
+          step = step;
+          unnamed = leaves_unnamed (state_of s) (state_of t) (entry_of event a) step;
+        })
+      where
+        by : (k : Keep) → k ≡ Entries → c ≡ Some (base_of b s) → raw_entries after ≡ raw_entries before ++ entry_of event a ∷ []
+            → log k (base_of c t) (raw_entries after) t ≡ recorded k (log k (base_of b s) (raw_entries before) s) (entry_of event a) t
+        by Entries _ some grew = λ i. log Entries (base_of (some i) t) (grew i) t
+        by Nothing other some grew = absurd cc
+
+    -- no entry is kept
+    pub nothing_held : keep ≡ Nothing → IsHeld keep c (raw_entries roomy) t
+    nothing_held nothing =
+        held_none keep c t (raw_entries roomy) (is.left nothing ∙ is.held.none nothing)
+        (ap raw_entries is.entries ∙ is.held.begins (is.held.none nothing))
+        (step_sound keep (base_of b s) s t (raw_entries before) (entry_of event a) is.held.log_is routed step same)
+
+    pub nothing_handles : (handled : Handled) → keep ≡ Nothing → handled.outs ≡ a.outs → handled.position ≡ 0
+        → Handles old event handled (log keep (base_of c t) (raw_entries roomy) t)
+    nothing_handles handled nothing outs position =
+        subst (λ (l : Log). Handles l event handled (log keep (base_of c t) (raw_entries roomy) t)) seen (record {
+          entry = entry_of event a;
+          new_is = by keep nothing (is.left nothing ∙ is.held.none nothing) (ap raw_entries is.entries ∙ empty);
+          same = same;
+          event_is = refl;
+          outs_are = outs;
+          position = position ∙ sym (ap length empty);
+          step = step;
+          unnamed = leaves_unnamed (state_of s) (state_of t) (entry_of event a) step;
+        })
+      where
+        empty : raw_entries before ≡ []
+        empty = is.held.begins (is.held.none nothing)
+
+        by : (k : Keep) → k ≡ Nothing → c ≡ None → raw_entries roomy ≡ []
+            → log k (base_of c t) (raw_entries roomy) t ≡ recorded k (log k (base_of b s) (raw_entries before) s) (entry_of event a) t
+        by Entries other gone none = absurd cc
+        by Nothing _ gone none = λ i. log Nothing (base_of (gone i) t) (none i) t
 
 -- ---- a cut
 

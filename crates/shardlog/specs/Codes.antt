@@ -1,10 +1,12 @@
--- Codes that distinguish entries.
-use Rattle.std.specs.Prelude.{◌≡◌, ◌⊎◌, ℕ, List, Option, Some, None, refl}
-use Rattle.std.specs.Coded.{Coded, code_by, coded×, coded⊎, coded_list, coded_option, coded_ℕ}
+-- Codes that distinguish entries, and whether they are kept.
+use Rattle.std.specs.Prelude.{◌≡◌, ◌⊎◌, ℕ, Bool, true, false, List, Option, Some, None, refl}
+use Rattle.std.specs.Coded.{Coded, code_by, coded×, coded⊎, coded_bool, coded_list, coded_option, coded_ℕ}
 use mathlib.Core.Logic.{inl, inr}
 use Rattle.machine.specs.Events.{Change, Codes, Withdraw}
 use Rattle.frames.specs.Octets.{RawEvent, RawFrame, RawClock, RawExpire, RawChange, RawEntry, RawOut}
 use Rattle.shard_state.specs.Frames.{raw_out_code}
+use Rattle.shardlog.specs.declared.keep.Keep.{Keep}
+use Rattle.shardlog.specs.declared.keep.Keep.TheVariants.{Entries, Nothing}
 
 abbrev pub coded_octets : Coded (List ℕ)
 coded_octets = coded_list coded_ℕ
@@ -57,3 +59,19 @@ entry_code =
     code_by (RawEvent × (Option (List ℕ) × (Option (List ℕ) × List RawOut)))
     (coded× event_code (coded× (coded_option coded_octets) (coded× (coded_option coded_octets) (coded_list raw_out_code))))
     (λ e. (e.event, (e.id, (e.subject, e.outs)))) (λ p. record { event = p.0; id = p.1.0; subject = p.1.1.0; outs = p.1.1.1 }) (λ _. refl)
+
+-- whether entries are kept
+abbrev pub are_kept : Keep → Bool
+are_kept Entries = true
+are_kept Nothing = false
+
+abbrev pub kept_if : Bool → Keep
+kept_if true = Entries
+kept_if false = Nothing
+
+pub keep_again : (keep : Keep) → kept_if (are_kept keep) ≡ keep
+keep_again Entries = refl
+keep_again Nothing = refl
+
+abbrev pub keep_code : Coded Keep
+keep_code = code_by Bool coded_bool are_kept kept_if keep_again

@@ -3,34 +3,32 @@ use Rattle.std.specs.Prelude.{◌≡◌, ℕ, List, [], ◌∷◌, ◌++◌, len
 use Rattle.machine.specs.Events.{Event}
 use Rattle.machine.specs.Holders.{IsNamed}
 use Rattle.machine.specs.State.{Dialogue, State}
-use Rattle.frames.specs.Octets.{RawEvent, RawEntry, RawOut, IsEvent, StepOctets}
-use Rattle.shard_state.specs.Shards.{IsSameShard, state_of}
+use Rattle.frames.specs.Octets.{RawEvent, RawEntry, IsEvent, StepOctets}
+use Rattle.shard_state.specs.Shards.{IsSameShard, ShardState, state_of}
 use Rattle.shardlog.specs.declared.entry.Handled.{Handled}
-use Rattle.shardlog.specs.Log.{Log, log}
+use Rattle.shardlog.specs.declared.keep.Keep.{Keep}
+use Rattle.shardlog.specs.declared.keep.Keep.TheVariants.{Entries, Nothing}
+use Rattle.shardlog.specs.Log.{Log, fresh, log}
 
 -- An open dialogue that the event does not name is unchanged.
 abbrev pub LeavesUnnamed : State → RawEvent → State → Type 0
 LeavesUnnamed S raw T =
     (e : Event) (i : List ℕ) (d : Dialogue) → IsEvent raw e → S.dialogues i ≡ Some d → (IsNamed S e i → ⊥) → T.dialogues i ≡ Some d
 
--- One entry is appended to the journal: it has the event, what is sent, and the rest of a step from the state before to the
--- state after.
+-- A shard has taken a step with this entry, to this state: where entries are kept, the journal has it; otherwise there is none, and the
+-- journal begins in the state after the step.
+abbrev pub recorded : Keep → Log → RawEntry → ShardState → Log
+recorded Entries l entry state = log Entries l.base (l.entries ++ entry ∷ []) state
+recorded Nothing l entry state = fresh Nothing state
+
+-- An event is handled. Its entry has the event, what is sent, and the rest of a step from the state before to the state after; where
+-- entries are kept, it is appended to the journal, whose base stays.
 pub record Handles (old : Log) (raw : RawEvent) (handled : Handled) (new : Log) : Type 0 where
   pub entry : RawEntry
-  pub added : new.entries ≡ old.entries ++ entry ∷ []
-  pub base : new.base ≡ old.base
+  pub new_is : new ≡ recorded old.keep old entry new.state
+  pub same : IsSameShard old.state new.state
   pub event_is : entry.event ≡ raw
   pub outs_are : handled.outs ≡ entry.outs
   pub position : handled.position ≡ length old.entries
-  pub step : StepOctets (state_of old.state) entry (state_of new.state)
-  pub unnamed : LeavesUnnamed (state_of old.state) raw (state_of new.state)
-
--- The same, and no entry is kept: the journal is empty, and begins in the state behind the event.
-pub record HandlesUnlisted (old : Log) (raw : RawEvent) (sent : List RawOut) (new : Log) : Type 0 where
-  pub entry : RawEntry
-  pub empty : new ≡ log new.state [] new.state
-  pub same : IsSameShard old.state new.state
-  pub event_is : entry.event ≡ raw
-  pub outs_are : sent ≡ entry.outs
   pub step : StepOctets (state_of old.state) entry (state_of new.state)
   pub unnamed : LeavesUnnamed (state_of old.state) raw (state_of new.state)

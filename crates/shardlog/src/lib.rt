@@ -4,11 +4,13 @@
 
 mod entry;
 mod fault;
+mod keep;
 mod laws;
 mod shard;
 
 pub use entry::{Entry, Epoch, Handled};
 pub use fault::ShardFault;
 pub use hlrcore::RawEvent;
+pub use keep::Keep;
 pub use laws::joined_journals_keep;
 pub use shard::Shard;

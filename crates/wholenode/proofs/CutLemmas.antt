@@ -13,11 +13,11 @@ use Rattle.shardlog.specs.declared.fault.ShardFault.{ShardFault}
 use Rattle.shardlog.specs.Chains.{LeadTo, raw_epoch}
 use Rattle.shardlog.specs.Entries.{raw_entries}
 use Rattle.shardlog.specs.Handling.{Handles}
-use Rattle.shardlog.specs.Log.{Log, LogKeeps, log}
+use Rattle.shardlog.specs.Log.{Log, LogKeeps, cut_log}
 use Rattle.wholenode.specs.Handling.{Cuts, Drops}
 use Rattle.wholenode.specs.Keeping.{AreShards}
 use Rattle.wholenode.specs.Nodes.{NodeState, node}
-use Rattle.wholenode.proofs.WholeLemmas.{not_took, replaced, same_whole, took}
+use Rattle.wholenode.proofs.WholeLemmas.{not_took, replaced, same_whole}
 
 -- a shard in its old state takes its place
 pub kept : (directory : DirectoryMap) (shards : List Log) (i : ℕ) (l m : Log) → AreShards directory shards → slice_get shards i ≡ Some l
@@ -31,7 +31,7 @@ kept directory shards i l m are at is same = replaced directory shards i l m are
 
 pub cuts : (before : NodeState) (directory : DirectoryMap) (shards : List Log) (n : ℕ) (epoch : Epoch) (l m : Log)
     → node directory shards ≡ before → slice_get shards n ≡ Some l
-    → m ≡ log l.state [] l.state → epoch.base ≡ l.base → raw_entries epoch.entries.items ≡ l.entries
+    → m ≡ cut_log l → epoch.base ≡ l.base → raw_entries epoch.entries.items ≡ l.entries
     → ((epochs : List RawEpoch) → LeadTo epochs l → LeadTo (epochs ++ raw_epoch epoch ∷ []) m)
     → Cuts before n epoch (node directory (set shards n m))
 cuts before directory shards n epoch l m seen at next base entries leads = subst
@@ -58,18 +58,18 @@ pub took_or_not : (directory : DirectoryMap) (shards : List Log) (i : ℕ) (l m 
     → AreShards directory shards
     → slice_get shards i ≡ Some l → LogKeeps m → IfOk answer (λ handled. Handles l raw handled m) → OnErr answer (m ≡ l)
     → AreShards directory (set shards i m)
-took_or_not directory shards i l m raw (Ok handled) are at is handles same = took directory shards i l m are at is handles.base
+took_or_not directory shards i l m raw (Ok handled) are at is handles same = replaced directory shards i l m are at is handles.same
 took_or_not directory shards i l m raw (Err fault) are at is handles same = not_took directory shards i l m are at is same
 
 pub cut_or_not : {A F : Type 0} (directory : DirectoryMap) (shards : List Log) (i : ℕ) (l m : Log) (answer : Result A F)
     → AreShards directory shards → slice_get shards i ≡ Some l
-    → LogKeeps m → OnOk answer (m ≡ log l.state [] l.state) → OnErr answer (m ≡ l) → AreShards directory (set shards i m)
+    → LogKeeps m → OnOk answer (m ≡ cut_log l) → OnErr answer (m ≡ l) → AreShards directory (set shards i m)
 cut_or_not directory shards i l m (Ok epoch) are at is next same = kept directory shards i l m are at is (ap (λ (k : Log). k.state) next)
 cut_or_not directory shards i l m (Err refused) are at is next same = kept directory shards i l m are at is (ap (λ (k : Log). k.state) same)
 
 pub cuts_if_ok : {F : Type 0} (before : NodeState) (directory : DirectoryMap) (shards : List Log) (n : ℕ) (answer : Result Epoch F)
     (l m : Log) → node directory shards ≡ before
-    → slice_get shards n ≡ Some l → OnOk answer (m ≡ log l.state [] l.state)
+    → slice_get shards n ≡ Some l → OnOk answer (m ≡ cut_log l)
     → IfOk answer (λ epoch. (epoch.base ≡ l.base) × (raw_entries epoch.entries.items ≡ l.entries))
     → IfOk answer (λ epoch. (epochs : List RawEpoch) → LeadTo epochs l → LeadTo (epochs ++ raw_epoch epoch ∷ []) m)
     → IfOk answer (λ epoch. Cuts before n epoch (node directory (set shards n m)))
@@ -78,7 +78,7 @@ cuts_if_ok before directory shards n (Ok epoch) l m seen at next was leads = cut
 cuts_if_ok before directory shards n (Err refused) l m seen at next was leads = tt
 
 pub drops : (before : NodeState) (directory : DirectoryMap) (shards : List Log) (n : ℕ) (l m : Log) → node directory shards ≡ before
-    → slice_get shards n ≡ Some l → m ≡ log l.state [] l.state → Drops before n (node directory (set shards n m))
+    → slice_get shards n ≡ Some l → m ≡ cut_log l → Drops before n (node directory (set shards n m))
 drops before directory shards n l m seen at next =
     subst (λ (b : NodeState). Drops b n (node directory (set shards n m))) seen (record {
       shard = l;

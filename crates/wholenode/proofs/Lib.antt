@@ -5,5 +5,4 @@ pub mod OpeningLemmas
 pub mod RunLemmas
 pub mod CutLemmas
 pub mod NamedLemmas
-pub mod UnlistedLemmas
 pub mod RoomLemmas

@@ -42,14 +42,6 @@ pub asked_its_own : {A : Type 0} (directory : DirectoryMap) (shards : List Log) 
 asked_its_own directory shards number place l answer is why answered not_mine e =
     not_mine (answered ∙ ap (λ (f : ShardFault). Err f) e) (is.number_is ∙ sym (is.are.each place l is.stands).shard_is)
 
--- an answer that none of the causes can have
-pub nothing_refuses : {A : Type 0} (answer : Result A ShardFault) (why : ShardFault) → answer ≡ Err why → (why ≡ shard.NotMine → ⊥)
-    → (answer ≡ Err shard.JournalFull → ⊥) → (answer ≡ Err shard.NoRoom → ⊥) → (answer ≡ Err shard.Memory → ⊥) → ⊥
-nothing_refuses answer shard.NotMine is mine full room enough = mine refl
-nothing_refuses answer shard.JournalFull is mine full room enough = full is
-nothing_refuses answer shard.NoRoom is mine full room enough = room is
-nothing_refuses answer shard.Memory is mine full room enough = enough is
-
 pub named_refuses : {A : Type 0} (directory : DirectoryMap) (shards : List Log) (number place : ℕ) (l : Log) (answer : Result A ShardFault)
     → IsNamed directory shards number place l → (before : NodeState) (raw : RawEvent) (e : Event) (why : ShardFault) (cause : Cause)
     → node directory shards ≡ before → IsEvent raw e → route (directory_of directory) e ≡ number → answer ≡ Err why → cause ≡ unhandled why

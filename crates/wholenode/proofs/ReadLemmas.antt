@@ -1,6 +1,6 @@
 -- Events that are all read before the first is handled.
-use Rattle.std.proofs.Common.{◌≡◌, ℕ, ◌+◌, ◌<◌, List, [], ◌∷◌, ◌++◌, drop, get_or, length, map, refl, sym, ap, subst, ◌∙◌, append_assoc}
-use Rattle.std.proofs.lemmas.List.{append-nil, drop_more, map-append}
+use Rattle.std.proofs.Common.{◌≡◌, List, [], ◌∷◌, ◌++◌, map, refl, sym, ap, subst, ◌∙◌, append_assoc}
+use Rattle.std.proofs.lemmas.List.{append-nil, map-append}
 use Rattle.frames.specs.Octets.{IsEvent, RawEvent}
 use Rattle.hlrcore.specs.declared.event.Event.{Event}
 use Rattle.hlrcore.specs.declared.event.EventFault.{EventFault}
@@ -10,11 +10,11 @@ use Rattle.hlrcore.specs.Events.{event_of, raw_event, raw_of}
 use Rattle.shardlog.specs.declared.entry.Handled.{Handled}
 use Rattle.wholenode.specs.declared.fault.Cause.{Cause}
 use Rattle.wholenode.specs.Causes.{unread}
-use Rattle.wholenode.specs.Handling.{Each, Refuses, Stops, Takes}
+use Rattle.wholenode.specs.Handling.{Refuses, Runs, Stops, Takes}
 use Rattle.wholenode.specs.Keeping.{NodeKeeps}
 use Rattle.wholenode.specs.Nodes.{NodeState}
 use Rattle.wholenode.specs.Reading.{AreRead}
-use Rattle.wholenode.proofs.RunLemmas.{each_more, is_run, stops_at}
+use Rattle.wholenode.proofs.RunLemmas.{each_more, stops_at}
 
 -- ---- events are read
 
@@ -46,25 +46,14 @@ unread_refuses node (fault.ResetRefused event) raw = tt
 
 -- ---- those that were read are handled one after another
 
--- each of them so
-pub record Reading (A : Type 0) (T : NodeState → RawEvent → A → NodeState → Type 0) (before : NodeState) (raws : List RawEvent) (done : List A)
-    (left : List Event) (here : NodeState) : Type 0 where
+-- The first of them are handled, and the others are still to come.
+pub record Reading (before : NodeState) (raws : List RawEvent) (done : List Handled) (left : List Event) (here : NodeState) : Type 0 where
   pub front : List RawEvent
   pub back : List RawEvent
   pub split : front ++ back ≡ raws
   pub read : AreRead back left
-  pub runs : Each T before front done here
+  pub runs : Runs before front done here
   pub keeps : NodeKeeps here
-
-pub reading_begins : (before : NodeState) (raws : List RawEvent) (left : List Event) → AreRead raws left → NodeKeeps before
-    → Reading Handled Takes before raws [] left before
-reading_begins before raws left read keeps = record { front = []; back = raws; split = refl; read = read; runs = refl; keeps = keeps }
-
--- those from a place on are the one there and those behind it
-pub reading_at : (before : NodeState) (raws : List RawEvent) (done : List Handled) (all : List Event) (i : ℕ) (event : Event) (here : NodeState) → i < length all
-    → Reading Handled Takes before raws done (drop i all) here → Reading Handled Takes before raws done (get_or all i event ∷ drop (i + 1) all) here
-reading_at before raws done all i event here within h =
-    subst (λ (left : List Event). Reading Handled Takes before raws done left here) (drop_more all i event within) h
 
 -- the next of them
 pub record Next (back : List RawEvent) (event : Event) (left : List Event) : Type 0 where
@@ -82,48 +71,34 @@ next_of (raw ∷ rest) event left (same, is, read) = record {
   read = read;
 }
 
-module _ (A : Type 0) (T : NodeState → RawEvent → A → NodeState → Type 0) (before : NodeState) (raws : List RawEvent) (done : List A) (event : Event)
-    (left : List Event) (here : NodeState) (h : Reading A T before raws done (event ∷ left) here) where
+module _ (before : NodeState) (raws : List RawEvent) (done : List Handled) (event : Event) (left : List Event) (here : NodeState)
+    (h : Reading before raws done (event ∷ left) here) where
   pub reading_next : Next h.back event left
   reading_next = next_of h.back event left h.read
 
   pub reading_event : IsEvent (raw_of event) (event_of event)
   reading_event = reading_next.is_event
 
-  pub reading_goes_on : (handled : A) (after : NodeState) → T here (raw_of event) handled after → NodeKeeps after
-      → Reading A T before raws (done ++ handled ∷ []) left after
+  pub reading_goes_on : (handled : Handled) (after : NodeState) → Takes here (raw_of event) handled after → NodeKeeps after
+      → Reading before raws (done ++ handled ∷ []) left after
   reading_goes_on handled after takes keeps = record {
     front = h.front ++ raw_of event ∷ [];
     back = reading_next.rest;
     split = append_assoc h.front (raw_of event ∷ []) reading_next.rest ∙ ap (λ (l : List RawEvent). h.front ++ l) (sym reading_next.back_is) ∙ h.split;
     read = reading_next.read;
-    runs = each_more T before here after h.front done (raw_of event) handled h.runs takes;
+    runs = each_more Takes before here after h.front done (raw_of event) handled h.runs takes;
     keeps = keeps;
   }
 
-pub reading_stops : (before : NodeState) (raws : List RawEvent) (done : List Handled) (event : Event) (left : List Event) (here : NodeState)
-    → Reading Handled Takes before raws done (event ∷ left) here → (cause : Cause) → Refuses here (raw_of event) cause → Stops before raws done cause here
-reading_stops before raws done event left here h cause refused =
-    let next = reading_next Handled Takes before raws done event left here h in
-    record {
-      handled = h.front;
-      next = raw_of event;
-      rest = next.rest;
-      raws_are = sym h.split ∙ ap (λ (l : List RawEvent). h.front ++ l) next.back_is;
-      runs = h.runs;
-      run = is_run before here h.front done h.runs;
-      refuses = refused;
-    }
+none_left : (back : List RawEvent) → AreRead back [] → back ≡ []
+none_left [] read = refl
+none_left (raw ∷ rest) read = absurd read
 
-none_behind : (back : List RawEvent) → AreRead back [] → back ≡ []
-none_behind [] read = refl
-none_behind (raw ∷ rest) read = absurd read
-
-pub reading_ends : (A : Type 0) (T : NodeState → RawEvent → A → NodeState → Type 0) (before : NodeState) (raws : List RawEvent) (done : List A)
-    (left : List Event) (here : NodeState) → Reading A T before raws done left here → left ≡ [] → Each T before raws done here
-reading_ends A T before raws done left here h none =
-    let nothing : h.back ≡ [] = none_behind h.back (subst (λ (es : List Event). AreRead h.back es) none h.read) in
-    subst (λ (rs : List RawEvent). Each T before rs done here)
+pub reading_ends : (before : NodeState) (raws : List RawEvent) (done : List Handled) (left : List Event) (here : NodeState)
+    → Reading before raws done left here → left ≡ [] → Runs before raws done here
+reading_ends before raws done left here h none =
+    let nothing : h.back ≡ [] = none_left h.back (subst (λ (es : List Event). AreRead h.back es) none h.read) in
+    subst (λ (rs : List RawEvent). Runs before rs done here)
     (sym (append-nil h.front) ∙ ap (λ (l : List RawEvent). h.front ++ l) (sym nothing) ∙ h.split) h.runs
 
 -- events that were read are as the machine has them, each by itself

@@ -184,14 +184,6 @@ whole_step directory shards raw n l m entry are at (e, is_event, routed) event_i
         (union_step (states shards) n (state_of m.state) j.event j.answer (sound_at directory shards are)
         (one_directory directory shards are) (one_hlr directory shards are) small to_it here)
 
--- journals that begin in one state are of one shard
-pub same_shard : (l m : Log) → LogKeeps l → LogKeeps m → m.base ≡ l.base → IsSameShard l.state m.state
-same_shard l m was is based = record {
-  shard = is.same.shard ∙ ap (λ (s : ShardState). s.shard) based ∙ sym was.same.shard;
-  directory = is.same.directory ∙ ap (λ (s : ShardState). s.directory) based ∙ sym was.same.directory;
-  hlr = is.same.hlr ∙ ap (λ (s : ShardState). s.hlr) based ∙ sym was.same.hlr;
-}
-
 -- a shard takes the place of one with the same number, directory and HLR number
 pub replaced : (directory : DirectoryMap) (shards : List Log) (i : ℕ) (l m : Log) → AreShards directory shards → slice_get shards i ≡ Some l
     → LogKeeps m
@@ -269,14 +261,11 @@ pub keeps_seen : (directory : DirectoryMap) (shards : List Log) (n : NodeState) 
     → NodeKeeps n
 keeps_seen directory shards n seen are = subst NodeKeeps seen (node_keeps directory shards are)
 
--- a shard that handled an event takes its place
-pub took : (directory : DirectoryMap) (shards : List Log) (i : ℕ) (l m : Log) → AreShards directory shards → slice_get shards i ≡ Some l
-    → LogKeeps m → m.base ≡ l.base
-    → AreShards directory (set shards i m)
-took directory shards i l m are at is based = replaced directory shards i l m are at is (same_shard l m (are.each i l at).keeps is based)
-
--- one that did not is unchanged
+-- a shard that is as before
 pub not_took : (directory : DirectoryMap) (shards : List Log) (i : ℕ) (l m : Log) → AreShards directory shards → slice_get shards i ≡ Some l
-    → LogKeeps m → m ≡ l
-    → AreShards directory (set shards i m)
-not_took directory shards i l m are at is same = took directory shards i l m are at is (ap (λ (k : Log). k.base) same)
+    → LogKeeps m → m ≡ l → AreShards directory (set shards i m)
+not_took directory shards i l m are at is same = replaced directory shards i l m are at is (record {
+  shard = ap (λ (k : Log). k.state.shard) same;
+  directory = ap (λ (k : Log). k.state.directory) same;
+  hlr = ap (λ (k : Log). k.state.hlr) same;
+})

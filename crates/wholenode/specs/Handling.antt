@@ -12,7 +12,7 @@ use Rattle.shardlog.specs.declared.entry.Handled.{Handled}
 use Rattle.shardlog.specs.Chains.{LeadTo, raw_epoch}
 use Rattle.shardlog.specs.Entries.{raw_entries}
 use Rattle.shardlog.specs.Handling.{Handles, LeavesUnnamed}
-use Rattle.shardlog.specs.Log.{Log, log}
+use Rattle.shardlog.specs.Log.{Log, cut_log}
 use Rattle.wholenode.specs.declared.fault.Cause.{Cause}
 use Rattle.wholenode.specs.declared.fault.Cause.TheVariants.{Memory, JournalFull, ResetRefused, NoRoom}
 use Rattle.wholenode.specs.Nodes.{NodeState, whole}
@@ -76,7 +76,7 @@ pub record Stops (before : NodeState) (raws : List RawEvent) (done : List Handle
 pub record Drops (before : NodeState) (n : ℕ) (after : NodeState) : Type 0 where
   pub shard : Log
   pub stands : slice_get before.shards n ≡ Some shard
-  pub changed : after ≡ record before { shards = slice_set before.shards n (log shard.state [] shard.state) }
+  pub changed : after ≡ record before { shards = slice_set before.shards n (cut_log shard) }
   pub same : whole after.shards ≡ whole before.shards
 
 -- The journal of the shard with this number is cut off, and nothing else changes. If epochs lead to the shard, they also do with
@@ -86,6 +86,6 @@ pub record Cuts (before : NodeState) (n : ℕ) (epoch : Epoch) (after : NodeStat
   pub stands : slice_get before.shards n ≡ Some shard
   pub base : epoch.base ≡ shard.base
   pub entries : raw_entries epoch.entries.items ≡ shard.entries
-  pub changed : after ≡ record before { shards = slice_set before.shards n (log shard.state [] shard.state) }
-  pub leads : (epochs : List RawEpoch) → LeadTo epochs shard → LeadTo (epochs ++ raw_epoch epoch ∷ []) (log shard.state [] shard.state)
+  pub changed : after ≡ record before { shards = slice_set before.shards n (cut_log shard) }
+  pub leads : (epochs : List RawEpoch) → LeadTo epochs shard → LeadTo (epochs ++ raw_epoch epoch ∷ []) (cut_log shard)
   pub same : whole after.shards ≡ whole before.shards

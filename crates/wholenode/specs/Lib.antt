@@ -4,5 +4,4 @@ pub mod Keeping
 pub mod Opening
 pub mod Reading
 pub mod Handling
-pub mod Unlisted
 pub mod Room

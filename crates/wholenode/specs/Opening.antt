@@ -1,35 +1,36 @@
 -- The shards at the beginning.
-use Rattle.std.specs.Prelude.{◌≡◌, ℕ, List, [], length, Some, slice_get}
+use Rattle.std.specs.Prelude.{◌≡◌, ℕ, List, length, Some, slice_get}
 use Rattle.machine.specs.declared.numbers.TheConstants.{SHARDS}
 use Rattle.machine.specs.Opening.{opening}
 use Rattle.machine.specs.Parts.{part}
 use Rattle.records.specs.Loaded.{Subscribers}
 use Rattle.records.specs.Maps.{DirectoryMap, RecordMap, part_of}
 use Rattle.shard_state.specs.Shards.{IsOpening, ShardState, directory_of, records_of, state_of}
-use Rattle.shardlog.specs.Log.{Log, LogKeeps, log}
+use Rattle.shardlog.specs.declared.keep.Keep.{Keep}
+use Rattle.shardlog.specs.Log.{Log, LogKeeps, fresh}
 use Rattle.wholenode.specs.Nodes.{NodeState, whole}
 
--- A shard begins with these records, no open dialogue, its clock at 0, and no entry. If the records are its part of all
--- records, its state is its part of the state with which the register begins.
-pub record Opens (n : ℕ) (records : RecordMap) (directory : DirectoryMap) (hlr : List ℕ) (l : Log) : Type 0 where
+-- A shard begins with these records, no open dialogue, its clock at 0, and no entry, and keeps entries or none. If the records are its
+-- part of all records, its state is its part of the state with which the register begins.
+pub record Opens (n : ℕ) (records : RecordMap) (directory : DirectoryMap) (hlr : List ℕ) (keep : Keep) (l : Log) : Type 0 where
   pub state : ShardState
-  pub begins : l ≡ log state [] state
+  pub begins : l ≡ fresh keep state
   pub opens_as : IsOpening n records directory hlr state
   pub part_is : (all : RecordMap) → records ≡ part_of all n
       → state_of state ≡ part (opening (records_of all) (directory_of directory) hlr) n
   pub keeps : LogKeeps l
 
 -- The shard with this number, when the records are loaded.
-abbrev pub OpensWith : Subscribers → ℕ → Log → Type 0
-OpensWith loaded n l = Opens n (part_of loaded.records n) loaded.directory loaded.hlr l
+abbrev pub OpensWith : Subscribers → Keep → ℕ → Log → Type 0
+OpensWith loaded keep n l = Opens n (part_of loaded.records n) loaded.directory loaded.hlr keep l
 
 -- The first `count` shards, indexed by their numbers.
-pub record AreOpening (loaded : Subscribers) (count : ℕ) (shards : List Log) : Type 0 where
+pub record AreOpening (loaded : Subscribers) (keep : Keep) (count : ℕ) (shards : List Log) : Type 0 where
   pub length_is : length shards ≡ count
-  pub each : (n : ℕ) (l : Log) → slice_get shards n ≡ Some l → OpensWith loaded n l
+  pub each : (n : ℕ) (l : Log) → slice_get shards n ≡ Some l → OpensWith loaded keep n l
 
 -- Together the shards are the state with which the register begins: the loaded records, no dialogue, and each clock at 0.
-pub record BeginsWith (loaded : Subscribers) (node : NodeState) : Type 0 where
+pub record BeginsWith (loaded : Subscribers) (keep : Keep) (node : NodeState) : Type 0 where
   pub directory_is : node.directory ≡ loaded.directory
-  pub shards_are : AreOpening loaded SHARDS node.shards
+  pub shards_are : AreOpening loaded keep SHARDS node.shards
   pub whole_is : whole node.shards ≡ opening (records_of loaded.records) (directory_of loaded.directory) loaded.hlr

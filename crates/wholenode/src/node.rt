@@ -1,21 +1,19 @@
 //! The sixteen shards of a register, in one thread.
 
-ghost use Rattle.std.specs.Prelude.{◌≡◌, ◌≢◌, ◌<◌, [], map, Err, IfOk, IfErr, OnOk, OnErr};
+ghost use Rattle.std.specs.Prelude.{◌≡◌, ◌≢◌, ◌<◌, [], map, Err, IfOk, IfErr, OnErr};
 ghost use Rattle.frames.specs.Octets.{IsEvent, RawClock, RawExpire};
 ghost use Rattle.hlrcore.specs.Events.{event_of, raw_event, raw_of};
-ghost use Rattle.wholenode.specs.Nodes.{NodeState, whole};
+ghost use Rattle.wholenode.specs.Nodes.{whole};
 ghost use Rattle.wholenode.specs.Opening.{BeginsWith};
 ghost use Rattle.wholenode.specs.Handling.{Cuts, Drops, IsRun, Refuses, Runs, Stops, Takes, sent_of};
 ghost use Rattle.wholenode.specs.Keeping.{NodeKeeps};
-ghost use Rattle.wholenode.specs.Reading.{AreRead};
-ghost use Rattle.wholenode.specs.Unlisted.{TakesUnlisted};
 
 use crate::fault::{Cause, NodeFault, refusal, unread};
 use crate::opening::opening_shards;
 use bumpalo::Bump;
-use hlrcore::{Event, OutList, RawEvent, ShardNumber, addressee_of};
+use hlrcore::{Event, RawEvent, ShardNumber, addressee_of};
 use records::{Directory, Loaded};
-use shardlog::{Epoch, Handled, Shard};
+use shardlog::{Epoch, Handled, Keep, Shard};
 use std::alloc::{AllocError, Global};
 use std::marker::Model;
 use std::sync::Arc;
@@ -44,14 +42,14 @@ impl Model for Node {
 }
 
 impl Node {
-    /// The register of a records file: its records, no open dialogue, each clock at 0, and empty journals. On error the loaded
-    /// value is dropped.
-    pub fn new(alloc: Global, loaded: Loaded) -> Result<Node, AllocError>
-        ensures begins { IfOk result (BeginsWith loaded) }
+    /// The register of a records file: its records, no open dialogue, each clock at 0, and empty journals, which get an entry of each
+    /// event, or none. On error the loaded value is dropped.
+    pub fn new(alloc: Global, loaded: Loaded, keep: Keep) -> Result<Node, AllocError>
+        ensures begins { IfOk result (BeginsWith loaded keep) }
         ensures keeps { IfOk result NodeKeeps }
     {
         let directory = loaded.shared_directory()?;
-        let shards = opening_shards(alloc, loaded)?;
+        let shards = opening_shards(alloc, loaded, keep)?;
         Ok(Node {
             alloc,
             directory,
@@ -105,7 +103,7 @@ impl Node {
                 let cause = Cause::Memory;
                 return Err(NodeFault { done, cause });
             }
-            match self.handle(bump, event) {
+            match self.take_copy(bump, event) {
                 Ok(handled) => done.push_reserved(handled),
                 Err(cause) => return Err(NodeFault { done, cause }),
             }
@@ -113,47 +111,8 @@ impl Node {
         Ok(done)
     }
 
-    /// The same for events that are handed over, so that their octets are not copied. All of them are read before the first is handled,
-    /// which takes less time where they are frames. Where memory runs out as they are read, none is handled. Those that are not handled
-    /// are dropped.
-    ///
-    /// Limitation: an event that was read takes some 180 octets until all are handled. Hand over some 64 frames at a time. Clock values
-    /// and expiries need no reading, and take longer this way than by `handle_owned`.
-    pub fn run_owned(
-        &mut self,
-        bump: &mut Bump,
-        events: Vec<RawEvent>,
-    ) -> Result<Vec<Handled>, NodeFault>
-        ensures handled { IfOk result (λ done. Runs self.old
-            (map raw_event events.items) done.items self.new) }
-        ensures run { IfOk result (λ done. IsRun (whole self.old.shards)
-            (map raw_event events.items) (map sent_of done.items) (whole self.new.shards)) }
-        ensures stops { IfErr result (λ fault. Stops self.old
-            (map raw_event events.items) fault.done.items fault.cause self.new) }
-        ensures keeps { NodeKeeps self.new }
-    {
-        let mut done = room_for(self.alloc, events.len());
-        let mut read = match read_all(self.alloc, bump, events) {
-            Ok(read) => read,
-            Err(cause) => return Err(NodeFault { done, cause }),
-        };
-        for event in read.iter_mut() {
-            if done.reserve(1).is_err() {
-                return Err(NodeFault {
-                    done,
-                    cause: Cause::Memory,
-                });
-            }
-            match self.handle_read(event) {
-                Ok(handled) => done.push_reserved(handled),
-                Err(why) => return Err(NodeFault { done, cause: why }),
-            }
-        }
-        Ok(done)
-    }
-
-    /// Handles one event. On error nothing changes.
-    pub fn handle(&mut self, bump: &mut Bump, raw: &RawEvent) -> Result<Handled, Cause>
+    /// Handles one event as received. On error nothing changes.
+    fn take_copy(&mut self, bump: &mut Bump, raw: &RawEvent) -> Result<Handled, Cause>
         ensures takes { IfOk result (λ handled. Takes self.old
             (raw_event raw.now) handled self.new) }
         ensures refused { IfErr result (λ cause. Refuses self.old (raw_event raw.now) cause) }
@@ -161,11 +120,18 @@ impl Node {
         ensures keeps { NodeKeeps self.new }
     {
         let event = raw.try_copy(self.alloc)?;
-        self.handle_owned(bump, event)
+        self.take(bump, event)
     }
 
-    /// The same for an event that is handed over, so that its octets are not copied. On error it is dropped.
-    pub fn handle_owned(&mut self, bump: &mut Bump, raw: RawEvent) -> Result<Handled, Cause>
+    /// Handles one event as received, which is handed over, so that its octets are not copied. A frame is decoded in the arena. On error
+    /// nothing changes, and the event is dropped.
+    ///
+    /// - `JournalFull`: the journal of its shard has 65,536 entries, until `cut`.
+    /// - `NoRoom`: it is an operator's change for which the machine has no step: it would open a dialogue beside 4,096.
+    /// - `Memory` and `ResetRefused`: out of memory.
+    ///
+    /// Limitation: after a fault the arena's contents are unspecified. Use a new one then.
+    pub fn take(&mut self, bump: &mut Bump, raw: RawEvent) -> Result<Handled, Cause>
         ensures takes { IfOk result (λ handled. Takes self.old (raw_event raw) handled self.new) }
         ensures refused { IfErr result (λ cause. Refuses self.old (raw_event raw) cause) }
         ensures err { OnErr result (self.new ≡ self.old) }
@@ -178,8 +144,8 @@ impl Node {
         }
     }
 
-    /// Handles the expiry of a shard, which names its shard and needs no reading. On error nothing changes.
-    fn expire(&mut self, number: ShardNumber) -> Result<Handled, Cause>
+    /// Handles the expiry of a shard's least timer that is due, if any. It needs no reading. On error nothing changes.
+    pub fn expire(&mut self, number: ShardNumber) -> Result<Handled, Cause>
         ensures takes { IfOk result (λ handled. Takes self.old
             (RawExpire number) handled self.new) }
         ensures refused { IfErr result (λ cause. Refuses self.old (RawExpire number) cause) }
@@ -194,8 +160,8 @@ impl Node {
         }
     }
 
-    /// Handles a clock value, which names its shard and needs no reading. On error nothing changes.
-    fn tick(&mut self, number: ShardNumber, now: u64) -> Result<Handled, Cause>
+    /// Handles a clock value of a shard. It needs no reading. On error nothing changes.
+    pub fn tick(&mut self, number: ShardNumber, now: u64) -> Result<Handled, Cause>
         ensures takes { IfOk result (λ handled. Takes self.old
             (RawClock number now) handled self.new) }
         ensures refused { IfErr result (λ cause. Refuses self.old (RawClock number now) cause) }
@@ -220,13 +186,13 @@ impl Node {
         // What is read stays where it is made, since it has room for whatever a frame may hold.
         let mut read = Event::of_owned(self.alloc, bump, raw);
         match &mut read {
-            Ok(event) => self.handle_read(event),
+            Ok(event) => self.handle(event),
             Err(fault) => Err(unread(fault)),
         }
     }
 
-    /// Handles an event that was read, and takes its octets. On error nothing changes.
-    fn handle_read(&mut self, event: &mut Event) -> Result<Handled, Cause>
+    /// Handles an event that was read, as by `read_lot`. If entries are kept, its entry takes its octets. On error nothing changes.
+    pub fn handle(&mut self, event: &mut Event) -> Result<Handled, Cause>
         requires { IsEvent (raw_of event.old) (event_of event.old) }
         ensures takes { IfOk result (λ handled. Takes self.old
             (raw_of event.old) handled self.new) }
@@ -237,7 +203,7 @@ impl Node {
         let found = addressee_of(&self.directory, event);
         let place = usize::from(found.shard);
         let shard = &mut self.shards[place];
-        match shard.handle_for(event, found) {
+        match shard.handle(event, found) {
             Ok(handled) => Ok(handled),
             Err(fault) => Err(refusal(fault)),
         }
@@ -264,156 +230,6 @@ impl Node {
         let place = usize::from(shard);
         self.shards[place].drop_journal();
     }
-
-    /// Reads events, which are taken out of their list, for `handle_read_unlisted`: each frame is decoded in the arena. They stand in
-    /// `read` then, in place of what was there. Where memory runs out, the events are dropped, and the register stops at the first of them.
-    ///
-    /// Both lists keep their room, so that the next events need none of their own.
-    ///
-    /// Limitation: an event that was read takes some 180 octets. Hand over some 64 frames at a time. Clock values and expiries need no
-    /// reading, and take longer this way than by `tick_unlisted` and `expire_unlisted`.
-    pub fn read_lot(
-        &self,
-        bump: &mut Bump,
-        events: &mut Vec<RawEvent>,
-        read: &mut Vec<Event>,
-    ) -> Result<(), Cause>
-        ensures read { OnOk result (AreRead (map raw_event events.old.items) read.new.items) }
-        ensures stops { IfErr result (λ cause. Stops self.now
-            (map raw_event events.old.items) [] cause self.now) }
-        ensures never_full { result ≢ Err Cause.JournalFull }
-        ensures emptied { events.new.items ≡ [] }
-        ensures keeps { NodeKeeps self.now }
-    {
-        read.clear();
-        read_taken(self.alloc, bump, events, read)
-    }
-
-    /// Handles an event as `handle_owned` does, but keeps no entry of it: the journal of its shard is dropped, and is empty behind it. A
-    /// full journal refuses nothing. On error nothing changes.
-    pub fn handle_unlisted(&mut self, bump: &mut Bump, raw: RawEvent) -> Result<OutList, Cause>
-        ensures takes { IfOk result (λ sent. TakesUnlisted self.old (raw_event raw) sent self.new) }
-        ensures refused { IfErr result (λ cause. Refuses self.old (raw_event raw) cause) }
-        ensures never_full { result ≢ Err Cause.JournalFull }
-        ensures err { OnErr result (self.new ≡ self.old) }
-        ensures keeps { NodeKeeps self.new }
-    {
-        match raw {
-            RawEvent::Clock { shard, now } => Ok(self.tick_unlisted(shard, now)),
-            RawEvent::Expire { shard } => self.expire_unlisted(shard),
-            read => self.read_unlisted(bump, read),
-        }
-    }
-
-    /// The same for the expiry of a shard.
-    pub fn expire_unlisted(&mut self, number: ShardNumber) -> Result<OutList, Cause>
-        ensures takes { IfOk result (λ sent. TakesUnlisted self.old (RawExpire number) sent self.new) }
-        ensures refused { IfErr result (λ cause. Refuses self.old (RawExpire number) cause) }
-        ensures memory { OnErr result (result ≡ Err Cause.Memory) }
-        ensures err { OnErr result (self.new ≡ self.old) }
-        ensures keeps { NodeKeeps self.new }
-    {
-        let place = usize::from(number.number());
-        let shard = &mut self.shards[place];
-        match shard.expire_unlisted(number) {
-            Ok(sent) => Ok(sent),
-            Err(why) => Err(refusal(why)),
-        }
-    }
-
-    /// The same for a clock value of a shard, which is never refused.
-    pub fn tick_unlisted(&mut self, number: ShardNumber, now: u64) -> OutList
-        ensures takes { TakesUnlisted self.old (RawClock number now) result self.new }
-        ensures keeps { NodeKeeps self.new }
-    {
-        let place = usize::from(number.number());
-        let shard = &mut self.shards[place];
-        match shard.tick_unlisted(number, now) {
-            Ok(sent) => sent,
-            Err(_) => unreachable!(),
-        }
-    }
-
-    /// The same for an event whose frame is decoded in the arena.
-    fn read_unlisted(&mut self, bump: &mut Bump, raw: RawEvent) -> Result<OutList, Cause>
-        ensures takes { IfOk result (λ sent. TakesUnlisted self.old (raw_event raw) sent self.new) }
-        ensures refused { IfErr result (λ cause. Refuses self.old (raw_event raw) cause) }
-        ensures never_full { result ≢ Err Cause.JournalFull }
-        ensures err { OnErr result (self.new ≡ self.old) }
-        ensures keeps { NodeKeeps self.new }
-    {
-        // What is read stays where it is made, since it has room for whatever a frame may hold.
-        let read = Event::of_owned(self.alloc, bump, raw);
-        match &read {
-            Ok(event) => self.handle_read_unlisted(event),
-            Err(fault) => Err(unread(fault)),
-        }
-    }
-
-    /// The same for an event that was read, as by `read_lot`.
-    pub fn handle_read_unlisted(&mut self, event: &Event) -> Result<OutList, Cause>
-        requires { IsEvent (raw_of event.now) (event_of event.now) }
-        ensures takes { IfOk result (λ sent. TakesUnlisted self.old (raw_of event.now) sent self.new) }
-        ensures refused { IfErr result (λ cause. Refuses self.old (raw_of event.now) cause) }
-        ensures never_full { result ≢ Err Cause.JournalFull }
-        ensures err { OnErr result (self.new ≡ self.old) }
-        ensures keeps { NodeKeeps self.new }
-    {
-        let found = addressee_of(&self.directory, event);
-        let own = usize::from(found.shard);
-        let shard = &mut self.shards[own];
-        match shard.handle_unlisted(event, found) {
-            Ok(sent) => Ok(sent),
-            Err(fault) => Err(refusal(fault)),
-        }
-    }
-}
-
-/// Reads events that are taken out of their list, each frame decoded in the arena.
-fn read_taken(
-    alloc: Global,
-    bump: &mut Bump,
-    events: &mut Vec<RawEvent>,
-    read: &mut Vec<Event>,
-) -> Result<(), Cause>
-    requires { read.old.items ≡ [] }
-    ensures read { OnOk result (AreRead (map raw_event events.old.items) read.new.items) }
-    // Whatever the register is, it stops at the first of them.
-    ensures stops { IfErr result (λ cause. (node : NodeState)
-        → Stops node (map raw_event events.old.items) [] cause node) }
-    ensures never_full { result ≢ Err Cause.JournalFull }
-    ensures emptied { events.new.items ≡ [] }
-{
-    for raw in events.drain(..) {
-        if read.reserve(1).is_err() {
-            return Err(Cause::Memory);
-        }
-        match Event::of_owned(alloc, bump, raw) {
-            Ok(event) => read.push_reserved(event),
-            Err(fault) => return Err(unread(&fault)),
-        }
-    }
-    Ok(())
-}
-
-/// Reads events, each frame decoded in the arena. On error the events are dropped.
-fn read_all(alloc: Global, bump: &mut Bump, events: Vec<RawEvent>) -> Result<Vec<Event>, Cause>
-    ensures read { IfOk result (λ read. AreRead (map raw_event events.items) read.items) }
-    // Whatever the register is, it stops at the first of them.
-    ensures stops { IfErr result (λ cause. (node : NodeState)
-        → Stops node (map raw_event events.items) [] cause node) }
-{
-    let mut all = room_for(alloc, events.len());
-    for raw in events {
-        if all.reserve(1).is_err() {
-            return Err(Cause::Memory);
-        }
-        match Event::of_owned(alloc, bump, raw) {
-            Ok(event) => all.push_reserved(event),
-            Err(fault) => return Err(unread(&fault)),
-        }
-    }
-    Ok(all)
 }
 
 /// An empty list, with room for so many values where memory suffices. Room for each is made again before it is there, so that nothing

@@ -9,13 +9,17 @@ ghost use Rattle.wholenode.specs.Opening.{AreOpening, Opens};
 use hlr_types::IsdnAddress;
 use hlrcore::State;
 use records::{Directory, Loaded, Records};
-use shardlog::Shard;
+use shardlog::{Keep, Shard};
 use std::alloc::{AllocError, Global};
 use std::sync::Arc;
 
 /// The shards when the records are loaded. No record is copied.
-pub(crate) fn opening_shards(alloc: Global, loaded: Loaded) -> Result<Vec<Shard>, AllocError>
-    ensures { IfOk result (λ shards. AreOpening loaded 16 shards.items) }
+pub(crate) fn opening_shards(
+    alloc: Global,
+    loaded: Loaded,
+    keep: Keep,
+) -> Result<Vec<Shard>, AllocError>
+    ensures { IfOk result (λ shards. AreOpening loaded keep 16 shards.items) }
 {
     let directory = loaded.shared_directory()?;
     let hlr = *loaded.hlr();
@@ -24,7 +28,7 @@ pub(crate) fn opening_shards(alloc: Global, loaded: Loaded) -> Result<Vec<Shard>
     let mut number = 0;
     for records in parts {
         let directory = Arc::try_clone(&directory)?;
-        shards.push(opening_shard(alloc, number, records, directory, hlr)?)?;
+        shards.push(opening_shard(alloc, number, records, directory, hlr, keep)?)?;
         number += 1;
     }
     Ok(shards)
@@ -37,14 +41,15 @@ fn opening_shard(
     records: Records,
     directory: Arc<Directory>,
     hlr: IsdnAddress,
+    keep: Keep,
 ) -> Result<Shard, AllocError>
     requires shard { number < 16 }
     requires own { (all : RecordMap) × (records ≡ part_of all number) }
     requires fresh { AreFresh records }
-    ensures { IfOk result (Opens number records (arc_value directory) hlr) }
+    ensures { IfOk result (Opens number records (arc_value directory) hlr keep) }
 {
     let state = State::of_part(alloc, number, records, directory, hlr)?;
-    match Shard::new(alloc, state) {
+    match Shard::new(alloc, state, keep) {
         Ok(shard) => Ok(shard),
         Err(refused) => Err(refused.1),
     }

@@ -24,7 +24,7 @@ pub(crate) fn clock(shard: u8, now: u64) -> Result<RawEvent, Fail> {
     Ok(RawEvent::Clock { shard, now })
 }
 
-/// Runs a batch. A failure is a text here, since a `Fail` must not be dropped when an allocation fails on purpose.
+/// Runs a batch.
 pub(crate) fn run<R: Threads + Wait + Sync, G: Gate + Sync>(
     rt: &R,
     alloc: Global,

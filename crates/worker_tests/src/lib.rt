@@ -1,7 +1,7 @@
 //! Tests of the workers: batches of jobs that threads share, over sixteen locked shards, and whether jobs and receipts account for
 //! the journals.
 //!
-//! They are in a crate of their own because a crate with tests is proved twice.
+//! They are in a crate of their own, which the gate runs and does not prove.
 #![tactic(auto)]
 
 #[cfg(test)]
@@ -10,8 +10,6 @@ mod batches;
 mod gates;
 #[cfg(test)]
 mod given;
-#[cfg(test)]
-mod growths;
 #[cfg(test)]
 mod places;
 #[cfg(test)]

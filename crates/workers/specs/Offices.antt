@@ -4,6 +4,7 @@ use Rattle.machine.specs.declared.numbers.TheConstants.{SHARDS}
 use Rattle.records.specs.Loaded.{Subscribers}
 use Rattle.records.specs.Maps.{DirectoryMap}
 use Rattle.shard_state.specs.Shards.{ShardState}
+use Rattle.shardlog.specs.declared.keep.Keep.TheVariants.{Entries}
 use Rattle.shardlog.specs.Log.{Log}
 use Rattle.wholenode.specs.Opening.{AreOpening}
 
@@ -11,10 +12,10 @@ use Rattle.wholenode.specs.Opening.{AreOpening}
 abbrev pub bases_of : List Log → List ShardState
 bases_of shards = map (λ l. l.base) shards
 
--- These are the bases of the shards when the records are loaded.
+-- These are the bases of the shards when the records are loaded; entries are kept.
 pub record AreOpeningBases (loaded : Subscribers) (bases : List ShardState) : Type 0 where
   pub shards : List Log
-  pub opening : AreOpening loaded SHARDS shards
+  pub opening : AreOpening loaded Entries SHARDS shards
   pub bases_are : bases ≡ bases_of shards
 
 -- A base of the shard with this number, with this directory and this HLR number.

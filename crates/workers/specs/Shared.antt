@@ -10,7 +10,7 @@ use Rattle.frames.specs.Octets.{RawEntry, RawEvent, RawOut, RunOctets}
 use Rattle.frames.specs.OctetJournals.{MergesOctets}
 use Rattle.records.specs.Maps.{DirectoryMap}
 use Rattle.shard_state.specs.Shards.{ShardState, shard_state_code, state_of}
-use Rattle.shardlog.specs.Log.{Log, log}
+use Rattle.shardlog.specs.Log.{Log, cut_log}
 use Rattle.wholenode.specs.Keeping.{AreShards}
 use Rattle.wholenode.specs.Nodes.{journals, nothing, whole, whole_base}
 use Rattle.workers.specs.Jobs.{job_code, receipt_code}
@@ -121,10 +121,6 @@ pub record AreSettled (bases : List ShardState) (jobs : List Job) (receipts : Li
   pub same : bases_of shards ≡ bases
   pub account : Reconciles (journal_list shards) jobs receipts
   pub one_register : (directory : DirectoryMap) → AreBases directory bases → AreShards directory shards
-
--- a shard whose journal was cut: the journal is empty and begins in the current state
-abbrev pub cut_log : Log → Log
-cut_log l = log l.state [] l.state
 
 -- ---- numbers
 

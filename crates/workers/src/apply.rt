@@ -8,7 +8,7 @@ ghost use Rattle.workers.specs.Receipts.{IsPlaced};
 use crate::placed::Placed;
 use crate::refusal::Refusal;
 use bumpalo::Bump;
-use hlrcore::{Event, RawEvent, ShardNumber};
+use hlrcore::{Event, RawEvent, ShardNumber, addressee_of};
 use shardlog::Shard;
 use std::alloc::Global;
 
@@ -26,7 +26,7 @@ pub(crate) fn read(alloc: Global, bump: &mut Bump, raw: &RawEvent) -> Result<Eve
     }
 }
 
-/// Handles an event in its locked shard, whose journal takes its octets. The receipt says where its entry stands.
+/// Handles an event in its locked shard. Its entry takes its octets, and the receipt says where the entry stands.
 pub(crate) fn apply(
     shard: &mut Shard,
     number: ShardNumber,
@@ -36,7 +36,8 @@ pub(crate) fn apply(
         (raw_of event.old) placed shard.new) }
     ensures err { OnErr result (shard.new ≡ shard.old) }
 {
-    let handled = shard.handle_owned(event)?;
+    let found = addressee_of(shard.state().directory(), event);
+    let handled = shard.handle(event, found)?;
     Ok(Placed {
         shard: number,
         position: handled.position,

@@ -15,7 +15,7 @@ use std::alloc::{AllocError, AllocFailed, Global};
 use std::marker::Model;
 use std::sync::{Mutex, Wait};
 use thiserror::Error;
-use wholenode::Node;
+use wholenode::{Keep, Node};
 
 /// Why an office does not return its shards.
 #[derive(Clone, Copy, Debug, PartialEq, Eq, Drop, Error)]
@@ -85,7 +85,8 @@ impl Office {
         ensures begins { IfOk result (AreOpeningBases loaded) }
         ensures one_register { IfOk result (AreBases loaded.directory) }
     {
-        Office::from_shards(alloc, Node::new(alloc, loaded)?.into_shards())
+        let node = Node::new(alloc, loaded, Keep::Entries)?;
+        Office::from_shards(alloc, node.into_shards())
     }
 
     /// Puts sixteen shards behind locks, and keeps a copy of each base outside them. On error the shards are dropped.

@@ -1,8 +1,8 @@
 //! The shards of an office whose journals are accounted for by jobs and receipts.
 
 ghost use Rattle.std.specs.Prelude.{◌≡◌, map, vec_len, All, IfOk, OnOk};
-ghost use Rattle.shardlog.specs.Log.{LogKeeps};
-ghost use Rattle.workers.specs.Shared.{AreSettled, cut_log};
+ghost use Rattle.shardlog.specs.Log.{LogKeeps, cut_log};
+ghost use Rattle.workers.specs.Shared.{AreSettled};
 
 use crate::account::reconcile;
 use crate::job::Job;

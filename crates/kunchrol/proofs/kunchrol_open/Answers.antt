@@ -1,5 +1,7 @@
-use Rattle.std.proofs.Common.{◌≡◌, rules, refl, inl, inr}
+use Rattle.std.proofs.Common.{◌≡◌, rules, refl, subst, inl, inr}
 use Rattle.std.specs.Prelude.{None, Some}
+use Rattle.shardlog.specs.declared.keep.Keep.{Keep}
+use Rattle.embed.specs.Registers.{Opens}
 use Rattle.kunchrol.proofs.kunchrol_open.Goals as goal
 
 pub returns-in-Ok-new-clause-opened : goal.returns-in-Ok-new-clause-opened
@@ -7,7 +9,14 @@ returns-in-Ok-new-clause-opened c = λ is.
     let closed : c.args.handle.now.value ≡ None = search rules in
     let after : c.put-in-Ok-new.new.self.value ≡ Some c.in-Ok.register = search rules in
     let found = c.in-Ok.ensures.found in
-    record { was_closed = closed; contents = found.0; file = found.1; is = c.in-Ok.register; after_is = after; opens = found.2 }
+    record {
+      was_closed = closed;
+      contents = found.0;
+      file = found.1;
+      is = c.in-Ok.register;
+      after_is = after;
+      opens = subst (λ (k : Keep). Opens found.0 k c.in-Ok.register) c.keep_of.ensures found.2;
+    }
 
 pub returns-in-Some-clause-why : goal.returns-in-Some-clause-why
 returns-in-Some-clause-why c = λ _.

@@ -2,7 +2,7 @@ use Rattle.std.proofs.Common.{List, subst}
 use Rattle.shardlog.specs.Log.{Log}
 use Rattle.hlr_program.specs.declared.fault.Fault.TheVariants.{Memory}
 use Rattle.hlr_program.specs.Closing.{Closes}
-use Rattle.hlr_program.proofs.EndLemmas.{listing_broken, listing_printed, listing_stopped, script_stopped}
+use Rattle.hlr_program.proofs.EndLemmas.{listing_broken, listing_printed, listing_stopped, opens_empty, script_stopped}
 use Rattle.hlr_program.proofs.GatherLemmas.{passed_on}
 use Rattle.hlr_program.proofs.ListLemmas.{else_on, then_on}
 use Rattle.hlr_program.proofs.serve.run_and_list.Goals as goal
@@ -53,3 +53,6 @@ returns-clause-stops g c =
     (g.W.Write.contents c.run.new.out)
     (g.W.Write.contents c.print-printed.new.out) ran.0 c.run.new.register c.in_ok-shards.shards.items c.in_ok-text.text.items c.deref-2.result.now ran.1 ran.2
     c.in_ok-shards.ensures.hands_over closes c.deref-2.ensures.value output c.print-printed.ensures.front)
+
+pub run-requires-clause-none : goal.run-requires-clause-none
+run-requires-clause-none g c = λ lifetimes lives. opens_empty c.args.options.now.list c.args.loaded c.in_ok-register.register c.in_ok-register.ensures.opens

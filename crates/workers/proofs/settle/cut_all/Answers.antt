@@ -1,6 +1,6 @@
 use Rattle.std.proofs.Common.{◌≡◌, ◌++◌, ◌∷◌, [], rules}
 use Rattle.std.specs.Vec.Iter.{into_iter_items}
-use Rattle.workers.specs.Shared.{cut_log}
+use Rattle.shardlog.specs.Log.{cut_log}
 use Rattle.workers.proofs.Standing.{cut_more, keeps_more}
 use Rattle.workers.proofs.settle.cut_all.Goals as goal
 

@@ -1,8 +1,7 @@
 use Rattle.std.proofs.Common.{◌≡◌, ◌+◌, ◌++◌, map, vec_len}
 use Rattle.std.specs.Prelude.{All}
 use Rattle.std.specs.Vec.Iter.{into_iter_items, into_iter_len}
-use Rattle.shardlog.specs.Log.{LogKeeps}
-use Rattle.workers.specs.Shared.{cut_log}
+use Rattle.shardlog.specs.Log.{LogKeeps, cut_log}
 use Rattle.workers.proofs.settle.cut_all.Given as goal
 
 abbrev pub invariant-loop-shard : goal.invariant-loop-shard

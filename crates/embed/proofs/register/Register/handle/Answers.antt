@@ -8,10 +8,10 @@ use Rattle.embed.proofs.register.Register.handle.Goals as goal
 
 pub returns-in-Ok-clause-answers : goal.returns-in-Ok-clause-answers
 returns-in-Ok-clause-answers c =
-    answers c.args.self.now c.self.inside.node c.handle.new.self (raw_event c.args.raw.now) c.in-Ok.handled.outs
-    c.in-Ok.handled (ap (λ (r : RegisterState). r.node) c.self.view_is) c.in-Ok.ensures.takes c.handle.ensures.keeps refl
+    answers c.args.self.now c.self.inside.node c.take.new.self (raw_event c.args.raw) c.in-Ok.handled.outs
+    c.in-Ok.handled (ap (λ (r : RegisterState). r.node) c.self.view_is) c.in-Ok.ensures.takes c.take.ensures.keeps refl
 
 pub returns-in-Err-clause-refused : goal.returns-in-Err-clause-refused
 returns-in-Err-clause-refused c =
-    subst (λ (n : NodeState). Refuses n (raw_event c.args.raw.now) c.in-Err.cause)
+    subst (λ (n : NodeState). Refuses n (raw_event c.args.raw) c.in-Err.cause)
     (ap (λ (r : RegisterState). r.node) c.self.view_is) c.in-Err.ensures.refused

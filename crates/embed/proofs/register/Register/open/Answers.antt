@@ -7,9 +7,9 @@ use Rattle.embed.proofs.register.Register.open.Goals as goal
 pub returns-in_err-loaded-clause-only : goal.returns-in_err-loaded-clause-only
 returns-in_err-loaded-clause-only c = λ contents file.
     let is : c.from_residual.result ≡ Err c.in_err-loaded.field-0.0 = search rules in
-    only_memory c.from_residual.result c.in_err-loaded.field-0.0 (Opens contents) is (c.in_err-loaded.ensures.only contents file)
+    only_memory c.from_residual.result c.in_err-loaded.field-0.0 (Opens contents c.args.keep) is (c.in_err-loaded.ensures.only contents file)
 
 pub returns-clause-only : goal.returns-clause-only
 returns-clause-only c = λ contents file.
-    opens contents c.in_ok-loaded.loaded c.in_ok-node.node c.none.result
+    opens contents c.in_ok-loaded.loaded c.args.keep c.in_ok-node.node c.none.result
     (c.in_ok-loaded.ensures.only contents file) c.in_ok-node.ensures.begins c.in_ok-node.ensures.keeps c.none.ensures

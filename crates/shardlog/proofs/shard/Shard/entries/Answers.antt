@@ -1,5 +1,5 @@
-use Rattle.shardlog.proofs.LogLemmas.{keeps_seen}
+use Rattle.shardlog.proofs.LogLemmas.{seen_keeps}
 use Rattle.shardlog.proofs.shard.Shard.entries.Goals as goal
 
 pub returns-clause-keeps : goal.returns-clause-keeps
-returns-clause-keeps c = keeps_seen _ _ c.self.view_is c.self.invariant.log
+returns-clause-keeps c = seen_keeps _ _ _ _ _ c.self.view_is c.self.invariant

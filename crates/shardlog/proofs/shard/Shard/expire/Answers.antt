@@ -1,49 +1,105 @@
-use Rattle.std.proofs.Common.{refl, ap}
-use Rattle.std.specs.Prelude.{Option}
+use Rattle.std.proofs.Common.{◌≡◌, ◌++◌, ◌∷◌, [], ◌∙◌, refl, sym, ap, subst, rules}
 use Rattle.machine.specs.Events.{Expire}
 use Rattle.frames.specs.Octets.{RawExpire}
-use Rattle.shard_state.specs.Shards.{ShardState}
-use Rattle.shardlog.specs.Entries.{raw_entries}
-use Rattle.shardlog.specs.Log.{base_of}
-use Rattle.shardlog.proofs.LogLemmas.{handles_held, held, keeps_seen, keeps_still, log_keeps, named_handles, named_log}
+use Rattle.shardlog.proofs.LogLemmas.{IsRoomy, entry_handles, entry_held, held_keeps, held_same, nothing_handles, nothing_held, own_route, own_step, seen_keeps, still_keeps}
 use Rattle.shardlog.proofs.shard.Shard.expire.Goals as goal
 
-pub returns-in_err-admit-clause-keeps : goal.returns-in_err-admit-clause-keeps
-returns-in_err-admit-clause-keeps c = keeps_seen _ _ c.self.view_is c.self.invariant.log
+pub returns-in_err-own-clause-keeps : goal.returns-in_err-own-clause-keeps
+returns-in_err-own-clause-keeps c = seen_keeps _ _ _ _ _ c.self.view_is c.self.invariant
 
-pub returns-in_err-reserve-clause-keeps : goal.returns-in_err-reserve-clause-keeps
-returns-in_err-reserve-clause-keeps c =
-    keeps_still c.self.inside.base c.self.inside.base c.self.inside.state c.self.inside.state c.self.inside.entries.items c.reserve.new.self.items
-    c.self.invariant c.in_err-reserve.ensures.items refl refl
+pub invariant_of-self : goal.invariant_of-self
+invariant_of-self c = held_same _ _ _ _ _ _ c.self.invariant c.in_err-make_room.ensures.entries c.in_err-make_room.ensures.err
 
-pub returns-in_err-keep_base-clause-keeps : goal.returns-in_err-keep_base-clause-keeps
-returns-in_err-keep_base-clause-keeps c =
-    keeps_still c.self.inside.base c.keep_base.new.base c.self.inside.state c.self.inside.state c.self.inside.entries.items c.reserve.new.self.items
-    c.self.invariant c.in_ok-reserve.ensures.items refl
-    (ap (λ (o : Option ShardState). base_of o c.self.inside.state) c.in_err-keep_base.ensures.err)
+pub returns-in_err-make_room-clause-keeps : goal.returns-in_err-make_room-clause-keeps
+returns-in_err-make_room-clause-keeps c = held_keeps _ _ _ _ (invariant_of-self c)
 
 pub returns-in_err-answer-clause-keeps : goal.returns-in_err-answer-clause-keeps
 returns-in_err-answer-clause-keeps c =
-    keeps_still c.self.inside.base c.keep_base.new.base c.self.inside.state c.expire.new.self c.self.inside.entries.items c.reserve.new.self.items
-    c.self.invariant c.in_ok-reserve.ensures.items c.in_err-answer.ensures.err
-    (ap (λ (o : Option ShardState). base_of o c.expire.new.self) c.in_ok-keep_base.ensures.kept)
+    let roomy : IsRoomy c.self.inside.keep c.self.inside.base c.make_room.new.base c.self.inside.state c.self.inside.entries.items
+    c.make_room.new.entries.items = record {
+      held = c.self.invariant;
+      entries = c.in_ok-make_room.ensures.entries;
+      kept = c.in_ok-make_room.ensures.kept;
+      left = c.in_ok-make_room.ensures.base;
+    } in
+    still_keeps c.self.inside.keep c.self.inside.base c.make_room.new.base c.self.inside.state c.self.inside.entries.items
+    c.make_room.new.entries.items roomy
+    c.expire.new.self c.in_err-answer.ensures.err
 
-pub invariant_of-self-2 : goal.invariant_of-self-2
-invariant_of-self-2 c =
-    held c.keep_base.new.base (base_of c.self.inside.base c.self.inside.state) c.expire.new.self _ c.in_ok-keep_base.ensures.kept
-    (named_log RawExpire c.args.self.now (base_of c.self.inside.base c.self.inside.state) c.self.inside.state c.expire.new.self
-    c.self.inside.entries.items c.reserve.new.self.items c.append.new.entries.items c.args.shard c.in_ok-answer.answer
-    c.self.view_is c.in_ok-admit.ensures.mine c.in_ok-reserve.ensures.items c.append.ensures.put c.in_ok-answer.ensures.stepped
-    c.self.invariant.log (Expire c.args.shard, refl, refl) c.in_ok-answer.ensures.same_shard c.in_ok-admit.ensures.few)
+pub invariant_of-self-in-Entries : goal.invariant_of-self-in-Entries
+invariant_of-self-in-Entries c =
+    let roomy : IsRoomy c.self.inside.keep c.self.inside.base c.make_room.new.base c.self.inside.state c.self.inside.entries.items
+    c.make_room.new.entries.items = record {
+      held = c.self.invariant;
+      entries = c.in_ok-make_room.ensures.entries;
+      kept = c.in_ok-make_room.ensures.kept;
+      left = c.in_ok-make_room.ensures.base;
+    } in
+    let own : c.args.shard ≡ c.self.inside.state.shard = search rules in
+    entry_held c.self.inside.keep c.self.inside.base c.make_room.new.base c.self.inside.state c.self.inside.entries.items
+    c.make_room.new.entries.items roomy
+    c.args.self.now c.expire.new.self (RawExpire c.args.shard) c.in_ok-answer.answer c.self.view_is
+    (own_route RawExpire c.args.shard c.self.inside.state own (Expire c.args.shard, refl, refl))
+    (own_step RawExpire c.args.shard c.self.inside.state c.expire.new.self c.in_ok-answer.answer own c.in_ok-answer.ensures.stepped)
+    c.in_ok-answer.ensures.same_shard
+    c.append.new.entries.items c.in-Entries.is (c.in_ok-make_room.ensures.few c.in-Entries.is) c.append.ensures.put
 
-pub returns-clause-handles : goal.returns-clause-handles
-returns-clause-handles c =
-    handles_held c.args.self.now c.keep_base.new.base (base_of c.self.inside.base c.self.inside.state) c.expire.new.self
-    (raw_entries c.append.new.entries.items) (RawExpire c.args.shard) c.append.result c.in_ok-keep_base.ensures.kept
-    (named_handles RawExpire c.args.self.now (base_of c.self.inside.base c.self.inside.state) c.self.inside.state c.expire.new.self
-    c.self.inside.entries.items c.reserve.new.self.items c.append.new.entries.items c.args.shard c.in_ok-answer.answer
-    c.self.view_is c.in_ok-admit.ensures.mine c.in_ok-reserve.ensures.items c.append.ensures.put c.in_ok-answer.ensures.stepped
-    c.append.result c.append.ensures.outs c.append.ensures.position)
+pub invariant_of-self-in-Nothing : goal.invariant_of-self-in-Nothing
+invariant_of-self-in-Nothing c =
+    let roomy : IsRoomy c.self.inside.keep c.self.inside.base c.make_room.new.base c.self.inside.state c.self.inside.entries.items
+    c.make_room.new.entries.items = record {
+      held = c.self.invariant;
+      entries = c.in_ok-make_room.ensures.entries;
+      kept = c.in_ok-make_room.ensures.kept;
+      left = c.in_ok-make_room.ensures.base;
+    } in
+    let own : c.args.shard ≡ c.self.inside.state.shard = search rules in
+    nothing_held c.self.inside.keep c.self.inside.base c.make_room.new.base c.self.inside.state c.self.inside.entries.items
+    c.make_room.new.entries.items roomy
+    c.args.self.now c.expire.new.self (RawExpire c.args.shard) c.in_ok-answer.answer c.self.view_is
+    (own_route RawExpire c.args.shard c.self.inside.state own (Expire c.args.shard, refl, refl))
+    (own_step RawExpire c.args.shard c.self.inside.state c.expire.new.self c.in_ok-answer.answer own c.in_ok-answer.ensures.stepped)
+    c.in_ok-answer.ensures.same_shard
+    c.in-Nothing.is
 
-pub returns-clause-keeps : goal.returns-clause-keeps
-returns-clause-keeps c = log_keeps _ (invariant_of-self-2 c).log
+pub returns-in-Entries-clause-handles : goal.returns-in-Entries-clause-handles
+returns-in-Entries-clause-handles c =
+    let roomy : IsRoomy c.self.inside.keep c.self.inside.base c.make_room.new.base c.self.inside.state c.self.inside.entries.items
+    c.make_room.new.entries.items = record {
+      held = c.self.invariant;
+      entries = c.in_ok-make_room.ensures.entries;
+      kept = c.in_ok-make_room.ensures.kept;
+      left = c.in_ok-make_room.ensures.base;
+    } in
+    let own : c.args.shard ≡ c.self.inside.state.shard = search rules in
+    entry_handles c.self.inside.keep c.self.inside.base c.make_room.new.base c.self.inside.state c.self.inside.entries.items
+    c.make_room.new.entries.items roomy
+    c.args.self.now c.expire.new.self (RawExpire c.args.shard) c.in_ok-answer.answer c.self.view_is
+    (own_route RawExpire c.args.shard c.self.inside.state own (Expire c.args.shard, refl, refl))
+    (own_step RawExpire c.args.shard c.self.inside.state c.expire.new.self c.in_ok-answer.answer own c.in_ok-answer.ensures.stepped)
+    c.in_ok-answer.ensures.same_shard
+    c.append.new.entries.items c.append.result c.in-Entries.is c.append.ensures.put c.append.ensures.outs c.append.ensures.position
+
+pub returns-in-Entries-clause-keeps : goal.returns-in-Entries-clause-keeps
+returns-in-Entries-clause-keeps c = held_keeps _ _ _ _ (invariant_of-self-in-Entries c)
+
+pub returns-in-Nothing-clause-handles : goal.returns-in-Nothing-clause-handles
+returns-in-Nothing-clause-handles c =
+    let roomy : IsRoomy c.self.inside.keep c.self.inside.base c.make_room.new.base c.self.inside.state c.self.inside.entries.items
+    c.make_room.new.entries.items = record {
+      held = c.self.invariant;
+      entries = c.in_ok-make_room.ensures.entries;
+      kept = c.in_ok-make_room.ensures.kept;
+      left = c.in_ok-make_room.ensures.base;
+    } in
+    let own : c.args.shard ≡ c.self.inside.state.shard = search rules in
+    nothing_handles c.self.inside.keep c.self.inside.base c.make_room.new.base c.self.inside.state c.self.inside.entries.items
+    c.make_room.new.entries.items roomy
+    c.args.self.now c.expire.new.self (RawExpire c.args.shard) c.in_ok-answer.answer c.self.view_is
+    (own_route RawExpire c.args.shard c.self.inside.state own (Expire c.args.shard, refl, refl))
+    (own_step RawExpire c.args.shard c.self.inside.state c.expire.new.self c.in_ok-answer.answer own c.in_ok-answer.ensures.stepped)
+    c.in_ok-answer.ensures.same_shard
+    c.sent.result c.in-Nothing.is c.sent.ensures.outs c.sent.ensures.position
+
+pub returns-in-Nothing-clause-keeps : goal.returns-in-Nothing-clause-keeps
+returns-in-Nothing-clause-keeps c = held_keeps _ _ _ _ (invariant_of-self-in-Nothing c)

@@ -1,23 +1,108 @@
-use Rattle.shardlog.proofs.LogLemmas.{keeps_seen}
+use Rattle.std.proofs.Common.{◌≡◌, ◌++◌, ◌∷◌, [], ◌∙◌, refl, sym, ap, subst, rules}
+use Rattle.frames.specs.Octets.{RawEvent}
+use Rattle.hlrcore.specs.Events.{raw_event, raw_of}
+use Rattle.shard_state.specs.Answers.{entry_of}
+use Rattle.shardlog.specs.Entries.{raw_entries}
+use Rattle.shardlog.proofs.LogLemmas.{IsRoomy, entry_handles, entry_held, held_keeps, held_same, nothing_handles, nothing_held, seen_keeps, still_keeps}
 use Rattle.shardlog.proofs.shard.Shard.handle.Goals as goal
 
-pub returns-in_err-event-clause-keeps : goal.returns-in_err-event-clause-keeps
-returns-in_err-event-clause-keeps c = keeps_seen _ _ c.self.view_is c.self.invariant.log
+pub returns-in_err-own-clause-keeps : goal.returns-in_err-own-clause-keeps
+returns-in_err-own-clause-keeps c = seen_keeps _ _ _ _ _ c.self.view_is c.self.invariant
 
-pub returns-clause-handles : goal.returns-clause-handles
-returns-clause-handles c = rw c.in_ok-event.ensures.same at c.handle_owned.ensures.handles
+pub invariant_of-self : goal.invariant_of-self
+invariant_of-self c = held_same _ _ _ _ _ _ c.self.invariant c.in_err-make_room.ensures.entries c.in_err-make_room.ensures.err
 
-pub returns-clause-not_mine : goal.returns-clause-not_mine
-returns-clause-not_mine c = rw c.in_ok-event.ensures.read at c.handle_owned.ensures.not_mine
+pub returns-in_err-make_room-clause-keeps : goal.returns-in_err-make_room-clause-keeps
+returns-in_err-make_room-clause-keeps c = held_keeps _ _ _ _ (invariant_of-self c)
 
-pub returns-clause-mine : goal.returns-clause-mine
-returns-clause-mine c = rw c.in_ok-event.ensures.read at c.handle_owned.ensures.mine
+pub returns-in_err-answer-clause-keeps : goal.returns-in_err-answer-clause-keeps
+returns-in_err-answer-clause-keeps c =
+    let roomy : IsRoomy c.self.inside.keep c.self.inside.base c.make_room.new.base c.self.inside.state c.self.inside.entries.items
+    c.make_room.new.entries.items = record {
+      held = c.self.invariant;
+      entries = c.in_ok-make_room.ensures.entries;
+      kept = c.in_ok-make_room.ensures.kept;
+      left = c.in_ok-make_room.ensures.base;
+    } in
+    still_keeps c.self.inside.keep c.self.inside.base c.make_room.new.base c.self.inside.state c.self.inside.entries.items
+    c.make_room.new.entries.items roomy
+    c.step_for.new.self c.in_err-answer.ensures.err
 
-pub returns-clause-full : goal.returns-clause-full
-returns-clause-full c = rw c.in_ok-event.ensures.read at c.handle_owned.ensures.full
+put : (c : goal.After-append)
+    → raw_entries c.append.new.entries.items ≡ raw_entries c.make_room.new.entries.items ++ entry_of (raw_of c.args.event.now) c.in_ok-answer.answer ∷ []
+put c = subst (λ (raw : RawEvent). raw_entries c.append.new.entries.items
+    ≡ raw_entries c.make_room.new.entries.items ++ entry_of raw c.in_ok-answer.answer ∷ []) c.take_raw.ensures.taken c.append.ensures.put
 
-pub returns-clause-no_room : goal.returns-clause-no_room
-returns-clause-no_room c = rw c.in_ok-event.ensures.read at c.handle_owned.ensures.no_room
+pub invariant_of-self-in-Entries : goal.invariant_of-self-in-Entries
+invariant_of-self-in-Entries c =
+    let roomy : IsRoomy c.self.inside.keep c.self.inside.base c.make_room.new.base c.self.inside.state c.self.inside.entries.items
+    c.make_room.new.entries.items = record {
+      held = c.self.invariant;
+      entries = c.in_ok-make_room.ensures.entries;
+      kept = c.in_ok-make_room.ensures.kept;
+      left = c.in_ok-make_room.ensures.base;
+    } in
+    entry_held c.self.inside.keep c.self.inside.base c.make_room.new.base c.self.inside.state c.self.inside.entries.items
+    c.make_room.new.entries.items roomy
+    c.args.self.now c.step_for.new.self (raw_of c.args.event.now) c.in_ok-answer.answer c.self.view_is
+    c.in_ok-answer.ensures.routed
+    c.in_ok-answer.ensures.stepped
+    c.in_ok-answer.ensures.same_shard
+    c.append.new.entries.items c.in-Entries.is (c.in_ok-make_room.ensures.few c.in-Entries.is) (put c)
 
-pub returns-clause-no_step : goal.returns-clause-no_step
-returns-clause-no_step c = rw c.in_ok-event.ensures.read at c.handle_owned.ensures.no_step
+pub invariant_of-self-in-Nothing : goal.invariant_of-self-in-Nothing
+invariant_of-self-in-Nothing c =
+    let roomy : IsRoomy c.self.inside.keep c.self.inside.base c.make_room.new.base c.self.inside.state c.self.inside.entries.items
+    c.make_room.new.entries.items = record {
+      held = c.self.invariant;
+      entries = c.in_ok-make_room.ensures.entries;
+      kept = c.in_ok-make_room.ensures.kept;
+      left = c.in_ok-make_room.ensures.base;
+    } in
+    nothing_held c.self.inside.keep c.self.inside.base c.make_room.new.base c.self.inside.state c.self.inside.entries.items
+    c.make_room.new.entries.items roomy
+    c.args.self.now c.step_for.new.self (raw_of c.args.event.now) c.in_ok-answer.answer c.self.view_is
+    c.in_ok-answer.ensures.routed
+    c.in_ok-answer.ensures.stepped
+    c.in_ok-answer.ensures.same_shard
+    c.in-Nothing.is
+
+pub returns-in-Entries-clause-handles : goal.returns-in-Entries-clause-handles
+returns-in-Entries-clause-handles c =
+    let roomy : IsRoomy c.self.inside.keep c.self.inside.base c.make_room.new.base c.self.inside.state c.self.inside.entries.items
+    c.make_room.new.entries.items = record {
+      held = c.self.invariant;
+      entries = c.in_ok-make_room.ensures.entries;
+      kept = c.in_ok-make_room.ensures.kept;
+      left = c.in_ok-make_room.ensures.base;
+    } in
+    entry_handles c.self.inside.keep c.self.inside.base c.make_room.new.base c.self.inside.state c.self.inside.entries.items
+    c.make_room.new.entries.items roomy
+    c.args.self.now c.step_for.new.self (raw_of c.args.event.now) c.in_ok-answer.answer c.self.view_is
+    c.in_ok-answer.ensures.routed
+    c.in_ok-answer.ensures.stepped
+    c.in_ok-answer.ensures.same_shard
+    c.append.new.entries.items c.append.result c.in-Entries.is (put c) c.append.ensures.outs c.append.ensures.position
+
+pub returns-in-Entries-clause-keeps : goal.returns-in-Entries-clause-keeps
+returns-in-Entries-clause-keeps c = held_keeps _ _ _ _ (invariant_of-self-in-Entries c)
+
+pub returns-in-Nothing-clause-handles : goal.returns-in-Nothing-clause-handles
+returns-in-Nothing-clause-handles c =
+    let roomy : IsRoomy c.self.inside.keep c.self.inside.base c.make_room.new.base c.self.inside.state c.self.inside.entries.items
+    c.make_room.new.entries.items = record {
+      held = c.self.invariant;
+      entries = c.in_ok-make_room.ensures.entries;
+      kept = c.in_ok-make_room.ensures.kept;
+      left = c.in_ok-make_room.ensures.base;
+    } in
+    nothing_handles c.self.inside.keep c.self.inside.base c.make_room.new.base c.self.inside.state c.self.inside.entries.items
+    c.make_room.new.entries.items roomy
+    c.args.self.now c.step_for.new.self (raw_of c.args.event.now) c.in_ok-answer.answer c.self.view_is
+    c.in_ok-answer.ensures.routed
+    c.in_ok-answer.ensures.stepped
+    c.in_ok-answer.ensures.same_shard
+    c.sent.result c.in-Nothing.is c.sent.ensures.outs c.sent.ensures.position
+
+pub returns-in-Nothing-clause-keeps : goal.returns-in-Nothing-clause-keeps
+returns-in-Nothing-clause-keeps c = held_keeps _ _ _ _ (invariant_of-self-in-Nothing c)

@@ -21,11 +21,11 @@ loop-event-preserved c =
     let is : c.event-item.result ≡ get_or c.args.events.now c.loop-event.event-index c.event-item.result = search rules in
     let put : c.push_reserved.new.self.items ≡ c.loop-event.done.items ++ c.in-Ok.handled ∷ [] = search rules in (
       subst (λ (d : List Handled). Runs c.args.self.now (map raw_event (take (c.loop-event.event-index + 1) c.args.events.now)) d
-          c.handle.new.self) (sym put)
-          (handled_more c.args.self.now c.loop-event.self c.handle.new.self c.args.events.now c.loop-event.event-index c.event-item.result
+          c.take_copy.new.self) (sym put)
+          (handled_more c.args.self.now c.loop-event.self c.take_copy.new.self c.args.events.now c.loop-event.event-index c.event-item.result
           c.loop-event.done.items c.in-Ok.handled lt is
           c.loop-event.invariant.0 c.in-Ok.ensures.takes),
-      c.handle.ensures.keeps,
+      c.take_copy.ensures.keeps,
     )
 
 pub returns-then-is_err-clause-stops : goal.returns-then-is_err-clause-stops

@@ -1,0 +1,36 @@
+use Rattle.std.proofs.Common.{◌≡◌, ◌++◌, ◌∷◌, [], List, map, rules, sym, ap, subst, ◌∙◌, append_assoc}
+use Rattle.std.specs.Vec.Iter.{drain_items}
+use Rattle.hlrcore.specs.declared.event.Event.{Event}
+use Rattle.hlrcore.specs.declared.event.RawEvent.{RawEvent}
+use Rattle.hlrcore.specs.Events.{raw_event}
+use Rattle.wholenode.specs.declared.fault.Cause.{Cause}
+use Rattle.wholenode.specs.declared.fault.Cause.TheVariants.{Memory}
+use Rattle.wholenode.specs.Handling.{Refuses}
+use Rattle.wholenode.specs.Reading.{AreRead}
+use Rattle.wholenode.proofs.ReadLemmas.{read_next, stops_unread, unread_refuses}
+use Rattle.wholenode.proofs.reading.read_taken.Goals as goal
+
+pub loop-raw-preserved : goal.loop-raw-preserved
+loop-raw-preserved c =
+    let at = c.loop-raw.invariant in
+    let left : drain_items c.loop-raw.raw-iterator ≡ c.in-Some.raw ∷ drain_items c.next.new.self = search rules in
+    let put : c.push_reserved.new.self.items ≡ c.loop-raw.read.items ++ c.in-Ok.event ∷ [] = search rules in
+    record {
+      whole = append_assoc c.loop-raw.yielded (c.in-Some.raw ∷ []) (drain_items c.next.new.self)
+          ∙ ap (λ (l : List RawEvent). c.loop-raw.yielded ++ l) (sym left) ∙ at.whole;
+      read = subst (λ (es : List Event). AreRead (map raw_event (c.loop-raw.yielded ++ c.in-Some.raw ∷ [])) es) (sym put)
+          (read_next c.loop-raw.yielded c.loop-raw.read.items c.in-Some.raw c.in-Ok.event at.read c.in-Ok.ensures.same c.in-Ok.ensures.read);
+    }
+
+pub returns-then-is_err-clause-stops : goal.returns-then-is_err-clause-stops
+returns-then-is_err-clause-stops c = λ node.
+    let left : drain_items c.loop-raw.raw-iterator ≡ c.in-Some.raw ∷ drain_items c.next.new.self = search rules in
+    stops_unread node c.args.events.now.items c.loop-raw.yielded (drain_items c.next.new.self) c.in-Some.raw Memory
+    (ap (λ (l : List RawEvent). c.loop-raw.yielded ++ l) (sym left) ∙ c.loop-raw.invariant.whole) (λ r. tt)
+
+pub returns-in-Err-clause-stops : goal.returns-in-Err-clause-stops
+returns-in-Err-clause-stops c = λ node.
+    let left : drain_items c.loop-raw.raw-iterator ≡ c.in-Some.raw ∷ drain_items c.next.new.self = search rules in
+    stops_unread node c.args.events.now.items c.loop-raw.yielded (drain_items c.next.new.self) c.in-Some.raw c.unread.result
+    (ap (λ (l : List RawEvent). c.loop-raw.yielded ++ l) (sym left) ∙ c.loop-raw.invariant.whole)
+    (λ r. subst (λ (cause : Cause). Refuses node r cause) (sym c.unread.ensures) (unread_refuses node c.in-Err.fault r))
