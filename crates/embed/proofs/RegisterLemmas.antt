@@ -9,8 +9,8 @@ use Rattle.records.specs.File.{Contents}
 use Rattle.records.specs.Loaded.{Subscribers, loaded_from}
 use Rattle.records.specs.declared.fault.RecordsFault.{RecordsFault}
 use Rattle.records.specs.declared.fault.RecordsFault.TheVariants.{Memory}
-use Rattle.shard_state.specs.declared.answer.Out.{Out}
-use Rattle.shard_state.specs.Frames.{raw_out}
+use Rattle.hlrcore.specs.declared.answer.Out.{Out}
+use Rattle.hlrcore.specs.Frames.{raw_out}
 use Rattle.shardlog.specs.declared.entry.Epoch.{Epoch}
 use Rattle.shardlog.specs.declared.entry.Handled.{Handled}
 use Rattle.shardlog.specs.declared.keep.Keep.{Keep}

@@ -4,7 +4,7 @@ use Rattle.std.specs.Coded.{Coded, code_by, coded×, coded_list}
 use Rattle.frames.specs.Octets.{RawEvent, RawOut}
 use Rattle.records.specs.File.{Contents}
 use Rattle.records.specs.Loaded.{loaded_from}
-use Rattle.shard_state.specs.Frames.{raw_out_code}
+use Rattle.hlrcore.specs.Frames.{raw_out_code}
 use Rattle.shardlog.specs.declared.entry.Handled.{Handled}
 use Rattle.shardlog.specs.declared.keep.Keep.{Keep}
 use Rattle.wholenode.specs.Handling.{Takes, sent_of}

@@ -3,7 +3,7 @@
 ghost use Rattle.std.specs.Prelude.{◌≡◌, ◌⊎◌, ◌<◌, ℕ, List, Err, IfOk, IfErr, OnOk, OnErr, MatchResult, drop, length, option_map, slice_get, string_bytes};
 ghost use Rattle.records.specs.File.{Contents, File, IsBadLine, IsTwice};
 ghost use Rattle.hlrcore.specs.Events.{raw_event};
-ghost use Rattle.shard_state.specs.Frames.{raw_out};
+ghost use Rattle.hlrcore.specs.Frames.{raw_out};
 ghost use Rattle.wholenode.specs.Handling.{Refuses};
 ghost use Rattle.audit.specs.Saving.{Saves};
 ghost use Rattle.embed.specs.Registers.{Answers, Opens};

@@ -1,5 +1,5 @@
-//! Tests of what a refused allocation leaves: in a procedure (`location`), in a plan that is carried out (`shard_state`), in a step of
-//! a state, in a shard with its journal, in the whole register, and in batches that workers share.
+//! Tests of what a refused allocation leaves: in a procedure (`location`), in a plan that is carried out, in a step of a state (`hlrcore`),
+//! in a shard with its journal, in the whole register, and in batches that workers share.
 //!
 //! `failing/run` runs each of them with the Nth allocation refused, for each N, as `rt try growth_tests --test --fail-alloc N` does
 //! for one. Wherever that allocation is, in whatever thread, the test has to pass, so it checks of each call what holds in either

@@ -6,11 +6,11 @@ use crate::given::{FIRST, peer, subscriber};
 use crate::samples::RECORDS;
 use dialogues::{Dialogue, Kind};
 use hlr_types::{Peer, RemoteId, ShortList};
+use hlrcore::{Named, Plan, ShardParts};
 use location::{After, CancelBegin, DialogueChange, Opening, Outcome};
 use mapargs_loc::CancellationType;
 use outgoing::{Addressed, Components, SentMessage};
 use records::read_records;
-use shard_state::{Named, Plan, ShardParts};
 use std::alloc::Global;
 use tsl::Transaction;
 

@@ -12,7 +12,7 @@ use Rattle.machine.specs.State.{State}
 use Rattle.machine_laws.proofs.Transfer.{put_at_same, put_at_other}
 use Rattle.frames.specs.Octets.{RawEntry, RawEvent, RawOut, RunOctets}
 use Rattle.frames.specs.OctetJournals.{MergesOctets}
-use Rattle.shard_state.specs.Shards.{state_of}
+use Rattle.hlrcore.specs.Shards.{state_of}
 use Rattle.shardlog.specs.declared.entry.Handled.{Handled}
 use Rattle.shardlog.specs.declared.keep.Keep.{Keep}
 use Rattle.shardlog.specs.declared.keep.Keep.TheVariants.{Entries, Nothing}

@@ -173,11 +173,11 @@ pub not_full : (keep : Keep) (node : NodeState) (raw : RawEvent) (c : Cause) (co
 not_full keep node raw c count h refused full = by keep h (subst (λ (k : Cause). Refuses node raw k) full refused)
   where
     by : (k : Keep) → IsReady k node (suc count) → Refuses node raw cause.JournalFull → ⊥
-    by Entries h (n, l, for, all) = let at = h.room refl n l for.stands in omega (arith, all, at)
-    by Nothing h (n, l, for, all) =
+    by Entries h (n, l, for, full) = let at = h.room refl n l for.stands in omega (arith, full.1, at)
+    by Nothing h (n, l, for, full) =
         let none : l ≡ cut_log l = (h.sound.shards.each n l for.stands).keeps.none (h.keeps n l for.stands) in
         let empty : length l.entries ≡ 0 = ap (λ (k : Log). length k.entries) none in
-        omega (arith, all, empty)
+        omega (arith, full.1, empty)
 
 -- the first events are a run, and the next one is refused
 pub refused_stops : (before here : NodeState) (raws handled : List RawEvent) (next : RawEvent) (rest : List RawEvent) (sent : List (List RawOut)) (c : Cause)
@@ -194,9 +194,9 @@ refused_stops before here raws handled next rest sent cause.NoRoom split run ref
   sent = sent;
   met = whole here.shards;
   run = run;
-  event = refused.0;
-  is_event = refused.1;
-  no_room = refused.2;
+  event = refused.event;
+  is_event = refused.is_event;
+  no_room = refused.no_room;
 }
 
 -- events that were not read

@@ -4,8 +4,8 @@ use Rattle.std.specs.List.{flat_map}
 use Rattle.std.proofs.lemmas.Grind.{flat_map-append}
 use Rattle.std.proofs.lemmas.List.{append-nil, take_more, map-append}
 use Rattle.frames.specs.Octets.{RawOut}
-use Rattle.shard_state.specs.declared.answer.Out.{Out}
-use Rattle.shard_state.specs.Frames.{raw_out}
+use Rattle.hlrcore.specs.declared.answer.Out.{Out}
+use Rattle.hlrcore.specs.Frames.{raw_out}
 use Rattle.hlr_input.specs.Letters.{noted, originating_id}
 use Rattle.hlr_program.specs.Printed.{Prints, SoFar, noted_in, sent_line, sent_lines}
 

@@ -14,7 +14,7 @@ use Rattle.records.specs.Loaded.{Subscribers, by_imsi}
 use Rattle.records.specs.Spelling.{Each, IsRecordLine, IsRegister, MayBeWithdrawn}
 use Rattle.records.specs.Subscriber.{Subscriber}
 use Rattle.records.proofs.FreshLemmas.{fresh_empty, fresh_insert}
-use Rattle.shard_state.specs.Shards.{directory_of, records_of}
+use Rattle.hlrcore.specs.Shards.{directory_of, records_of}
 use Rattle.smroute.specs.Seen.{machine_register, machine_subscriber}
 use Rattle.hlr_program.specs.Runs.{IsLoadedFrom, opening_of}
 

@@ -11,7 +11,7 @@ use Rattle.hlr_input.specs.Octets.{IsOctets, octets_of}
 use Rattle.hlr_input.specs.Script.{Line, Frame, Clock, Expire, Batch, Codes, Withdraw, IsLine}
 use Rattle.records.specs.File.{Contents, File}
 use Rattle.records.specs.Loaded.{Subscribers, loaded_from}
-use Rattle.shard_state.specs.Shards.{records_of, directory_of}
+use Rattle.hlrcore.specs.Shards.{records_of, directory_of}
 use Rattle.wholenode.specs.Handling.{IsRun}
 use Rattle.hlr_program.specs.Printed.{sent_lines, noted_in}
 

@@ -2,7 +2,7 @@
 
 ghost use Rattle.std.specs.Prelude.{◌≡◌, ◌∷◌, [], OnOk, map};
 ghost use Rattle.std.specs.List.{flat_map};
-ghost use Rattle.shard_state.specs.Frames.{raw_out};
+ghost use Rattle.hlrcore.specs.Frames.{raw_out};
 ghost use Rattle.hlr_program.specs.Printed.{Prints};
 ghost use Rattle.hlr_program.specs.Answered.{so_far};
 

@@ -1,3 +1,14 @@
+pub mod OpeningLemmas
+pub mod RecordLemmas
+pub mod SettleLemmas
+pub mod RoomLemmas
+pub mod SeenLemmas
+pub mod LookLemmas
+pub mod OpenedLemmas
+pub mod ClosingLemmas
+pub mod ContinuingLemmas
+pub mod ExpiryLemmas
+pub mod PlanLemmas
 pub mod ShardLemmas
 pub mod TakenLemmas
 pub mod SettledLemmas
@@ -5,3 +16,4 @@ pub mod TurnLemmas
 pub mod ReceivingLemmas
 pub mod SoundLemmas
 pub mod RunningLemmas
+pub mod SteppingLemmas

@@ -16,12 +16,12 @@ use Rattle.msgarena.specs.Seen.{parameter}
 use Rattle.msgarena.specs.JudgedFrame.{JudgedFrame}
 use Rattle.dialogues.specs.Dialogues.{dialogues_of}
 use Rattle.location.specs.Asking.{IsBeginOf}
-use Rattle.shard_state.specs.declared.answer.StepAnswer.{StepAnswer}
-use Rattle.shard_state.specs.declared.plan.Plan.{Plan}
-use Rattle.shard_state.specs.Answers.{Says}
-use Rattle.shard_state.specs.Plans.{CanSettle, HasRoom, Overflows, plan_outcome, state_after_plan}
-use Rattle.shard_state.specs.Shards.{ShardState, state_of}
-use Rattle.turns.specs.Planning.{IsExpiry, IsPlan, IsPlanOr}
+use Rattle.hlrcore.specs.declared.answer.StepAnswer.{StepAnswer}
+use Rattle.hlrcore.specs.declared.plan.Plan.{Plan}
+use Rattle.hlrcore.specs.Answers.{Says}
+use Rattle.hlrcore.specs.Plans.{CanSettle, HasRoom, Overflows, plan_outcome, state_after_plan}
+use Rattle.hlrcore.specs.Shards.{ShardState, state_of}
+use Rattle.hlrcore.specs.Planning.{IsExpiry, IsPlan, IsPlanOr}
 use Rattle.hlrcore.specs.Receiving.{Receives, IsClosing, IsContinueOf, IsForMe}
 use Rattle.hlrcore.specs.Leading.{IsMine, Leads}
 use Rattle.hlrcore.proofs.TakenLemmas.{dismissed_step}

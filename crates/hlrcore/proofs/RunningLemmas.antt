@@ -9,9 +9,9 @@ use Rattle.machine.specs.Routing.{route}
 use Rattle.machine.specs.State.{State}
 use Rattle.machine.specs.Step.{HasNoRoom}
 use Rattle.frames.specs.Octets.{RawEvent, RunOctets, StepOctets}
-use Rattle.shard_state.specs.declared.answer.StepAnswer.{StepAnswer}
-use Rattle.shard_state.specs.Answers.{entry_of}
-use Rattle.shard_state.specs.Shards.{IsSameShard, ShardState, directory_of, state_of}
+use Rattle.hlrcore.specs.declared.answer.StepAnswer.{StepAnswer}
+use Rattle.hlrcore.specs.Answers.{entry_of}
+use Rattle.hlrcore.specs.Shards.{IsSameShard, ShardState, directory_of, state_of}
 use Rattle.hlrcore.specs.declared.fault.StepFault.{StepFault}
 use Rattle.hlrcore.specs.declared.fault.StepFault.TheVariants.{NotMine, NoRoom, Memory}
 use Rattle.hlrcore.specs.declared.event.Event.{Event}

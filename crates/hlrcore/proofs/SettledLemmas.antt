@@ -17,14 +17,14 @@ use Rattle.dialogues.specs.Dialogues.{IsNew}
 use Rattle.location.specs.declared.outcome.DialogueChange.{DialogueChange}
 use Rattle.location.specs.declared.outcome.DialogueChange.TheVariants.{Closes, Opens, GoesOn, Forgets}
 use Rattle.location.specs.Seen.{opens_of}
-use Rattle.shard_state.specs.declared.answer.StepAnswer.{StepAnswer}
-use Rattle.shard_state.specs.declared.plan.Plan.{Plan}
-use Rattle.shard_state.specs.declared.plan.Named.{Named}
-use Rattle.shard_state.specs.declared.plan.Named.TheVariants.{Nothing, Open, Continued}
-use Rattle.shard_state.specs.Answers.{Says}
-use Rattle.shard_state.specs.Plans.{HasRoom, IsNextId, IsOpening, Overflows, id_of, plan_outcome, state_after_plan}
-use Rattle.shard_state.specs.Shards.{ShardState, directory_of, state_of}
-use Rattle.turns.specs.Planning.{IsPlan}
+use Rattle.hlrcore.specs.declared.answer.StepAnswer.{StepAnswer}
+use Rattle.hlrcore.specs.declared.plan.Plan.{Plan}
+use Rattle.hlrcore.specs.declared.plan.Named.{Named}
+use Rattle.hlrcore.specs.declared.plan.Named.TheVariants.{Nothing, Open, Continued}
+use Rattle.hlrcore.specs.Answers.{Says}
+use Rattle.hlrcore.specs.Plans.{HasRoom, IsNextId, IsOpening, Overflows, id_of, plan_outcome, state_after_plan}
+use Rattle.hlrcore.specs.Shards.{ShardState, directory_of, state_of}
+use Rattle.hlrcore.specs.Planning.{IsPlan}
 use Rattle.hlrcore.specs.Leading.{IsMine, Leads}
 use Rattle.hlrcore.proofs.TakenLemmas.{routed_here, taken_step}
 use Rattle.hlrcore.proofs.TurnLemmas.{IsForOpen}

@@ -1,7 +1,8 @@
 -- A shard begins in a sound state, and every step leaves it in one.
 use Rattle.std.proofs.Common.{◌≡◌, ◌<◌, ℕ, List, [], Bool, true, false, cond, ◌==◌, Option, Some, None, refl, sym, ap, ◌∙◌, subst}
-use Rattle.std.specs.Prelude.{option_map, Result, Ok, Err, IfOk, OnOk, OnErr}
+use Rattle.std.specs.Prelude.{option_map, Result, Ok, Err, IfOk, OnOk, OnErr, min, max}
 use Rattle.std.specs.FinMap as map
+use Rattle.machine.specs.declared.numbers.TheConstants.{MAX_CLOCK}
 use Rattle.machine.specs.Opening.{opening}
 use Rattle.machine.specs.Parts.{part}
 use Rattle.machine.specs.State.{State, Subscriber as MachineSubscriber}
@@ -18,9 +19,9 @@ use Rattle.machine.specs.Events.{Clock, Expire}
 use Rattle.frames.specs.Octets.{RawEvent, RawClock, RawExpire, IsRouted}
 use Rattle.frames.specs.OctetJournals.{LegalOctets}
 use Rattle.frames_laws.proofs.OctetLaws.{octets_push}
-use Rattle.shard_state.specs.declared.answer.StepAnswer.{StepAnswer}
-use Rattle.shard_state.specs.Answers.{entry_of}
-use Rattle.shard_state.specs.Shards.{ShardState, IsOpening, IsSameShard, directory_of, records_of, state_of}
+use Rattle.hlrcore.specs.declared.answer.StepAnswer.{StepAnswer}
+use Rattle.hlrcore.specs.Answers.{entry_of}
+use Rattle.hlrcore.specs.Shards.{ShardState, IsOpening, IsSameShard, directory_of, records_of, state_of}
 use Rattle.hlrcore.specs.Leading.{Leads}
 use Rattle.hlrcore.specs.Sound.{IsSoundShard}
 
@@ -98,6 +99,14 @@ step_keeps s t raw a is routed leads same =
 -- a clock value names its shard, and so does an expiry
 pub clock_is_routed : (s : ShardState) (now : ℕ) → IsRouted (directory_of s.directory) (RawClock s.shard now) s.shard
 clock_is_routed s now = (Clock s.shard now, (refl, refl), refl)
+
+-- which moves no more than the clock
+pub tick_keeps_shard : (s t : ShardState) (now : ℕ) → t ≡ record s { clock = max s.clock (min now MAX_CLOCK) } → IsSameShard s t
+tick_keeps_shard s t now is = record {
+  shard = ap (λ (u : ShardState). u.shard) is;
+  directory = ap (λ (u : ShardState). u.directory) is;
+  hlr = ap (λ (u : ShardState). u.hlr) is;
+}
 
 pub expiry_is_routed : {E : Type 0} (s : ShardState) (r : Result StepAnswer E) → OnOk r (IsRouted (directory_of s.directory) (RawExpire s.shard) s.shard)
 expiry_is_routed s (Ok a) = (Expire s.shard, refl, refl)

@@ -14,9 +14,9 @@ use Rattle.machine.specs.Turns.{Turn, Dismissed, Ticks, TurnsTo, concern, named}
 use Rattle.machine.specs.Routing.{route}
 use Rattle.machine.specs.Step.{Answer, IsNewId, Moves, Taken, WouldOverflow, moved, outcome_in, subject_of, taken, ticked}
 use Rattle.frames.specs.Octets.{RawEvent, RawClock, IsEvent, StepOctets}
-use Rattle.shard_state.specs.declared.answer.StepAnswer.{StepAnswer}
-use Rattle.shard_state.specs.Answers.{Says, entry_of}
-use Rattle.shard_state.specs.Shards.{ShardState, state_of, records_of, directory_of}
+use Rattle.hlrcore.specs.declared.answer.StepAnswer.{StepAnswer}
+use Rattle.hlrcore.specs.Answers.{Says, entry_of}
+use Rattle.hlrcore.specs.Shards.{ShardState, state_of, records_of, directory_of}
 use Rattle.dialogues.specs.Dialogues.{dialogues_of}
 use Rattle.hlrcore.specs.Leading.{IsMine, Leads}
 
@@ -83,10 +83,14 @@ ticks_here s now = λ i. record {
 }
 
 -- a clock value for this shard
-pub tick_step : (s : ShardState) (now : ℕ) (a : StepAnswer) → Says a None None []
+tick_step : (s : ShardState) (now : ℕ) (a : StepAnswer) → Says a None None []
     → Leads s (RawClock s.shard now) a (record s { clock = max s.clock (min now MAX_CLOCK) })
 tick_step s now a says =
     taken_step (state_of s) (state_of (record s { clock = max s.clock (min now MAX_CLOCK) })) s.shard
     (RawClock s.shard now) (Clock s.shard now) (Ticks s.shard now) []
     (unchanged (local_of_nobody (state_of s) s.shard) []) a (refl, refl) refl refl refl
     (λ some. absurd (nothing_opens None refl some)) (λ over. nothing_opens None refl over.opens) (ticks_here s now) says
+
+pub ticked_step : (s t : ShardState) (now : ℕ) (a : StepAnswer) → t ≡ record s { clock = max s.clock (min now MAX_CLOCK) } → Says a None None []
+    → Leads s (RawClock s.shard now) a t
+ticked_step s t now a is says = subst (Leads s (RawClock s.shard now) a) (sym is) (tick_step s now a says)

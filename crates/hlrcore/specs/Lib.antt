@@ -1,3 +1,12 @@
+pub mod Shards
+pub mod Plans
+pub mod Frames
+pub mod Answers
+pub mod Changing
+pub mod Held
+pub mod Planning
+pub mod OpenOnes
+pub mod Unnamed
 pub mod Events
 pub mod Spent
 pub mod Taken

@@ -8,8 +8,8 @@ use Rattle.machine.specs.Routing.{route}
 use Rattle.frames.specs.Frames.{IsVerdict}
 use Rattle.frames.specs.Octets.{RawFrame}
 use Rattle.msgarena.specs.JudgedFrame.{JudgedFrame}
-use Rattle.shard_state.specs.declared.answer.StepAnswer.{StepAnswer}
-use Rattle.shard_state.specs.Shards.{ShardState, directory_of}
+use Rattle.hlrcore.specs.declared.answer.StepAnswer.{StepAnswer}
+use Rattle.hlrcore.specs.Shards.{ShardState, directory_of}
 use Rattle.hlrcore.specs.Leading.{Leads}
 
 -- The frame is for this shard, and its verdict is that of its octets.

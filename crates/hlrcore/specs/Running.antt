@@ -3,9 +3,9 @@ use Rattle.std.specs.Prelude.{◌≡◌, List, [], ◌∷◌, ◌++◌, length, 
 use Rattle.machine.specs.Routing.{route}
 use Rattle.machine.specs.Step.{HasNoRoom}
 use Rattle.frames.specs.Octets.{RawEntry, RawEvent, RunOctets}
-use Rattle.shard_state.specs.declared.answer.StepAnswer.{StepAnswer}
-use Rattle.shard_state.specs.Answers.{entry_of}
-use Rattle.shard_state.specs.Shards.{ShardState, directory_of, state_of}
+use Rattle.hlrcore.specs.declared.answer.StepAnswer.{StepAnswer}
+use Rattle.hlrcore.specs.Answers.{entry_of}
+use Rattle.hlrcore.specs.Shards.{ShardState, directory_of, state_of}
 use Rattle.hlrcore.specs.declared.fault.StepFault.{StepFault}
 use Rattle.hlrcore.specs.declared.fault.StepFault.TheVariants.{NotMine, NoRoom, Memory}
 use Rattle.hlrcore.specs.declared.event.Event.{Event}

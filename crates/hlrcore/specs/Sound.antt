@@ -3,7 +3,7 @@ use Rattle.std.specs.Prelude.{◌≡◌, ◌<◌}
 use Rattle.machine.specs.declared.numbers.TheConstants.{SHARDS}
 use Rattle.machine.specs.Parts.{part}
 use Rattle.machine.specs.Sound.{Sound}
-use Rattle.shard_state.specs.Shards.{ShardState, state_of}
+use Rattle.hlrcore.specs.Shards.{ShardState, state_of}
 
 -- It is a sound state of the machine, with nothing of another shard in it.
 pub record IsSoundShard (s : ShardState) : Type 0 where

@@ -126,27 +126,6 @@ impl Event {
         }
     }
 
-    /// The event as received.
-    pub fn try_raw(&self, alloc: Global) -> Result<RawEvent, AllocError>
-        ensures { IfOk result (λ raw. raw_event raw ≡ raw_of self.now) }
-    {
-        match self {
-            Event::Frame(indication) => Ok(RawEvent::Frame {
-                from: indication.from(),
-                octets: indication.octets().to_vec(alloc)?,
-            }),
-            Event::Clock { shard, now } => Ok(RawEvent::Clock {
-                shard: *shard,
-                now: *now,
-            }),
-            Event::Expire { shard } => Ok(RawEvent::Expire { shard: *shard }),
-            Event::Change { imsi, change } => Ok(RawEvent::Change {
-                imsi: *imsi,
-                change: change.try_copy(alloc)?,
-            }),
-        }
-    }
-
     /// An equal copy.
     pub fn try_copy(&self, alloc: Global) -> Result<Event, AllocError>
         ensures same { IfOk result (λ copy. raw_of copy ≡ raw_of self.now) }

@@ -8,21 +8,23 @@ ghost use Rattle.machine.specs.Routing.{route, subject_of_begin};
 ghost use Rattle.msgarena.specs.Seen.{message as message_of, parameter};
 ghost use Rattle.q773_comp.specs.Seen.{component};
 ghost use Rattle.location.specs.Asking.{IsBeginOf};
-ghost use Rattle.shard_state.specs.Shards.{IsSameShard, directory_of};
+ghost use Rattle.hlrcore.specs.Shards.{IsSameShard, directory_of};
 ghost use Rattle.hlrcore.specs.Addressees.{subject_of_message, subject_of_verdict};
 ghost use Rattle.hlrcore.specs.Receiving.{Receives, IsForMe, IsClosing, IsContinueOf};
 
-use crate::sending::{aborted, silent};
-use crate::stepper::Stepper;
+use crate::answer::StepAnswer;
+use crate::begin::plan_begin;
+use crate::closing::plan_close;
+use crate::continuing::plan_continue;
+use crate::parts::ShardParts;
+use crate::unchanged::{aborted, silent};
 use hlr_types::{Imsi, RemoteId};
 use machine::numbers::{RESOURCE_LIMITATION, UNRECOGNIZED_TRANSACTION_ID};
 use msgarena::{Indication, Parameter, ReadMessage, Verdict};
 use q773_comp::Component;
-use shard_state::StepAnswer;
 use std::alloc::AllocError;
-use turns::{plan_begin, plan_close, plan_continue};
 
-impl Stepper {
+impl ShardParts {
     /// Handles a received frame. `subject` is the subscriber that a Begin is about.
     pub(crate) fn receive(
         &mut self,
@@ -98,19 +100,12 @@ impl Stepper {
         ensures err { OnErr result (self.new ≡ self.old) }
         ensures same_shard { IsSameShard self.old self.new }
     {
-        let plan = plan_begin(
-            self.alloc,
-            &self.shard,
-            indication,
-            origin,
-            components,
-            subject,
-        )?;
-        if !self.shard.has_room(&plan) {
+        let plan = plan_begin(self.alloc, self, indication, origin, components, subject)?;
+        if !self.has_room(&plan) {
             let from = indication.from();
             return aborted(self.alloc, from, origin, RESOURCE_LIMITATION, plan.subject);
         }
-        self.shard.settle(plan, &[])
+        self.settle(plan, &[])
     }
 
     /// Handles a Continue. One for no open dialogue is answered with an Abort, cause unrecognizedTransactionID (Q.774).
@@ -129,16 +124,9 @@ impl Stepper {
         ensures same_shard { IsSameShard self.old self.new }
     {
         let from = indication.from();
-        let found = plan_continue(
-            self.alloc,
-            &self.shard,
-            from,
-            origin,
-            destination,
-            components,
-        )?;
+        let found = plan_continue(self.alloc, self, from, origin, destination, components)?;
         match found {
-            Some(plan) => self.shard.settle(plan, components),
+            Some(plan) => self.settle(plan, components),
             None => {
                 let cause = UNRECOGNIZED_TRANSACTION_ID;
                 aborted(self.alloc, from, origin, cause, None)
@@ -158,8 +146,8 @@ impl Stepper {
         ensures err { OnErr result (self.new ≡ self.old) }
         ensures same_shard { IsSameShard self.old self.new }
     {
-        match plan_close(&self.shard, destination) {
-            Some(plan) => self.shard.settle(plan, &[]),
+        match plan_close(self, destination) {
+            Some(plan) => self.settle(plan, &[]),
             None => Ok(silent()),
         }
     }

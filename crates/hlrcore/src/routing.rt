@@ -5,14 +5,14 @@ ghost use Rattle.machine.specs.Routing.{shard_named, shard_of_subject, route_mes
 ghost use Rattle.msgarena.specs.Seen.{message, seen};
 ghost use Rattle.hlrcore.specs.Addressees.{subject_of_message, subject_of_verdict, IsAddressee};
 ghost use Rattle.hlrcore.specs.Events.{event_of};
-ghost use Rattle.shard_state.specs.Shards.{directory_of};
+ghost use Rattle.hlrcore.specs.Shards.{directory_of};
 
 use crate::event::Event;
+use crate::subject::subject_of_begin;
 use hlr_types::{Imsi, RemoteId};
 use machine::numbers::SHARDS;
 use msgarena::{ReadMessage, Verdict};
 use records::{Directory, shard_of};
-use turns::subject_of_begin;
 
 /// The shard of a destination id, which may not have the form of a local id.
 #[tactic(auto, unfolding(machine::specs::Keys::shard_of_id))]

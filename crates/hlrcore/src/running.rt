@@ -1,13 +1,13 @@
 //! Several events of a shard, one after the other.
 
 ghost use Rattle.std.specs.Prelude.{IfOk, IfErr};
-ghost use Rattle.shard_state.specs.Shards.{IsSameShard};
+ghost use Rattle.hlrcore.specs.Shards.{IsSameShard};
 ghost use Rattle.hlrcore.specs.Running.{BreaksOff, RunsTo};
 
+use crate::answer::StepAnswer;
 use crate::event::Event;
 use crate::fault::StepFault;
 use crate::state::State;
-use shard_state::StepAnswer;
 
 /// A run that stops early: the answers to the events handled, in order, and why the next event was not handled.
 #[derive(Drop)]

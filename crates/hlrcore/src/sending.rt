@@ -1,56 +1,61 @@
-//! Answers that go with no change of state.
+//! The frames that a procedure sends.
 
-ghost use Rattle.std.specs.Prelude.{◌≡◌, [], None, IfOk, map};
-ghost use Rattle.machine.specs.Sent.{SentAbort, Cause};
-ghost use Rattle.machine.specs.Outcome.{send};
+ghost use Rattle.std.specs.Prelude.{◌≡◌, IfOk, map};
+ghost use Rattle.std.specs.Option.{option_to_list};
 ghost use Rattle.frames.specs.Octets.{spelled_out};
-ghost use Rattle.location.specs.Seen.{said};
-ghost use Rattle.shard_state.specs.Answers.{Says};
+ghost use Rattle.location.specs.Seen.{one, one_cancel, out, sent_of};
+ghost use Rattle.hlrcore.specs.Frames.{raw_out};
 
-use hlr_types::{Imsi, Peer, RemoteId};
-use location::{SentMessage, Why, octets_of};
-use shard_state::{Frames, Out, OutList, StepAnswer};
+use crate::answer::Out;
+use crate::out_list::OutList;
+use crate::sent_frames::Frames;
+use location::{Addressed, CancelBegin, octets_of};
 use std::alloc::{AllocError, Global};
 
-/// Nothing is sent.
-pub(crate) fn silent() -> StepAnswer
-    ensures { Says result None None [] }
+/// A message as a frame.
+fn spelled(alloc: Global, sent: &Addressed) -> Result<Out, AllocError>
+    ensures { IfOk result (λ frame. raw_out frame ≡ spelled_out (out sent.now)) }
 {
-    StepAnswer {
-        outs: Frames::none(),
-        id: None,
-        subject: None,
-    }
-}
-
-/// A single Abort with this P-Abort cause (Q.773).
-pub(crate) fn aborted(
-    alloc: Global,
-    to: Peer,
-    destination: RemoteId,
-    cause: u8,
-    subject: Option<Imsi>,
-) -> Result<StepAnswer, AllocError>
-    ensures { IfOk result (λ a. Says a None subject
-        (send to (SentAbort destination (Cause cause)))) }
-{
-    let message = SentMessage::Abort {
-        destination,
-        why: Why::Cause(cause),
+    let Ok(octets) = octets_of(alloc, &sent.message) else {
+        return Err(AllocError);
     };
-    Ok(StepAnswer {
-        outs: one_out(alloc, to, &message)?,
-        id: None,
-        subject,
+    Ok(Out {
+        to: sent.to,
+        octets,
     })
 }
 
-/// One message to one address.
-fn one_out(alloc: Global, to: Peer, message: &SentMessage) -> Result<Frames, AllocError>
-    ensures { IfOk result (λ outs. outs ≡ map spelled_out (send to (said message.now))) }
+/// The frame of a message, if there is one.
+fn spelled_message(alloc: Global, message: &Option<Addressed>) -> Result<Option<Out>, AllocError>
+    ensures { IfOk result (λ frame. map raw_out (option_to_list frame)
+        ≡ map spelled_out (one message.now)) }
 {
-    let Ok(octets) = octets_of(alloc, message) else {
-        return Err(AllocError);
-    };
-    Frames::of(OutList::one(alloc, Out { to, octets })?)
+    match message {
+        Some(message) => Ok(Some(spelled(alloc, message)?)),
+        None => Ok(None),
+    }
+}
+
+/// The frame of a cancel's Begin, if there is one.
+fn spelled_cancel(alloc: Global, cancel: &Option<CancelBegin>) -> Result<Option<Out>, AllocError>
+    ensures { IfOk result (λ frame. map raw_out (option_to_list frame)
+        ≡ map spelled_out (one_cancel cancel.now)) }
+{
+    match cancel {
+        Some(cancel) => Ok(Some(spelled(alloc, &cancel.message())?)),
+        None => Ok(None),
+    }
+}
+
+/// The messages as frames, in order.
+pub(crate) fn outs_of(
+    alloc: Global,
+    message: &Option<Addressed>,
+    cancel: &Option<CancelBegin>,
+) -> Result<Frames, AllocError>
+    ensures { IfOk result (λ outs. outs ≡ map spelled_out (sent_of message.now cancel.now)) }
+{
+    let first = spelled_message(alloc, message)?;
+    let second = spelled_cancel(alloc, cancel)?;
+    Frames::of(OutList::of(alloc, first, second)?)
 }

@@ -9,20 +9,21 @@ ghost use Rattle.machine.specs.Routing.{route as shard_for};
 ghost use Rattle.machine.specs.Step.{HasNoRoom};
 ghost use Rattle.records.specs.Fresh.{AreFresh};
 ghost use Rattle.records.specs.Maps.{RecordMap, part_of};
-ghost use Rattle.shard_state.specs.Shards.{IsOpening, IsSameShard, state_of, records_of, directory_of};
+ghost use Rattle.hlrcore.specs.Shards.{IsOpening, IsSameShard, state_of, records_of, directory_of};
 ghost use Rattle.hlrcore.specs.Addressees.{IsAddressee};
 ghost use Rattle.hlrcore.specs.Events.{event_of, raw_of};
-ghost use Rattle.hlrcore.specs.Leading.{Leads};
+ghost use Rattle.hlrcore.specs.Leading.{Leads, Steps};
 ghost use Rattle.hlrcore.specs.Sound.{IsSoundShard};
 
+use crate::answer::StepAnswer;
 use crate::event::Event;
 use crate::fault::StepFault;
+use crate::parts::ShardParts;
 use crate::routing::{Addressee, addressee_of};
-use crate::stepper::Stepper;
+use crate::unchanged::silent;
 use dialogues::Dialogues;
 use hlr_types::IsdnAddress;
 use records::{Directory, Loaded, Records};
-use shard_state::{ShardParts, StepAnswer};
 use std::alloc::{AllocError, Global};
 use std::marker::Model;
 use std::sync::Arc;
@@ -30,20 +31,20 @@ use std::sync::Arc;
 /// The state of one shard, which handles events. It is always a sound state of its shard.
 #[derive(Drop)]
 pub struct State {
-    stepper: Stepper,
+    parts: ShardParts,
 }
 
 impl Model for State {
-    ghost use Rattle.shard_state.specs.Shards.{ShardState, shard_state_code};
+    ghost use Rattle.hlrcore.specs.Shards.{ShardState, shard_state_code};
     ghost use Rattle.hlrcore.specs.Sound.{IsSoundShard};
 
     ghost Value = { ShardState };
 
     ghost coded = { shard_state_code };
 
-    ghost view = { λ s. s.stepper };
+    ghost view = { λ s. s.parts };
 
-    ghost invariant = { λ s. IsSoundShard s.stepper };
+    ghost invariant = { λ s. IsSoundShard s.parts };
 }
 
 impl State {
@@ -78,9 +79,8 @@ impl State {
             → state_of state ≡ part (opening (records_of all)
             (directory_of (arc_value directory)) hlr) shard) }
     {
-        let shard = ShardParts::of_part(alloc, shard, records, directory, hlr)?;
         Ok(State {
-            stepper: Stepper { alloc, shard },
+            parts: ShardParts::of_part(alloc, shard, records, directory, hlr)?,
         })
     }
 
@@ -88,21 +88,21 @@ impl State {
     pub fn number(&self) -> u8
         ensures { result ≡ self.now.shard }
     {
-        self.stepper.shard.number()
+        self.parts.number()
     }
 
     /// The HLR number.
     pub fn hlr(&self) -> IsdnAddress
         ensures { result ≡ self.now.hlr }
     {
-        self.stepper.shard.hlr()
+        self.parts.hlr()
     }
 
     /// The records of the shard.
     pub fn records(&self) -> &Records
         ensures { result.now ≡ self.now.records }
     {
-        self.stepper.shard.records()
+        self.parts.records()
     }
 
     /// The open dialogues of the shard.
@@ -110,43 +110,32 @@ impl State {
         ensures value { result.now ≡ self.now.dialogues }
         ensures own { self.now.dialogues.shard ≡ self.now.shard }
     {
-        self.stepper.shard.dialogues()
+        self.parts.dialogues()
     }
 
     /// The directory, which all shards share.
     pub fn directory(&self) -> &Directory
         ensures { result.now ≡ self.now.directory }
     {
-        self.stepper.shard.directory()
+        self.parts.directory()
     }
 
     /// The allocator of the state.
     pub(crate) fn alloc(&self) -> Global {
-        self.stepper.alloc
+        self.parts.alloc
     }
 
     /// Whether the states are equal, the number of the shard included.
     pub fn same(&self, other: &State) -> Result<bool, AllocError>
         ensures { IfOk result (λ same. IsTrue same ↔ (self.now ≡ other.now)) }
     {
-        self.stepper.shard.same(&other.stepper.shard)
+        self.parts.same(&other.parts)
     }
 
     /// Handles one event. `NotMine` if it is for another shard; `NoRoom` if it is an operator's change that would open a dialogue
     /// in a full shard; `Memory` if an allocation fails. On error nothing changes.
     pub fn step(&mut self, event: &Event) -> Result<StepAnswer, StepFault>
-        // It is a step of the machine over octets, for an event of this shard.
-        ensures stepped { IfOk result (λ a. Leads self.old (raw_of event.now) a self.new) }
-        ensures routed { OnOk result (IsRouted (directory_of self.old.directory)
-            (raw_of event.now) self.old.shard) }
-        ensures not_mine { (result ≡ Err StepFault.NotMine)
-            ↔ (shard_for (directory_of self.old.directory) (event_of event.now) ≢ self.old.shard) }
-        // The machine has no step for such an event, so it is never handled.
-        ensures no_room { result ≡ Err StepFault.NoRoom
-            → HasNoRoom (state_of self.old) (event_of event.now) }
-        ensures room { HasNoRoom (state_of self.old) (event_of event.now) → OnOk result ⊥ }
-        ensures err { OnErr result (self.new ≡ self.old) }
-        ensures same_shard { IsSameShard self.old self.new }
+        ensures { Steps self.old (raw_of event.now) (event_of event.now) result self.new }
     {
         let found = addressee_of(self.directory(), event);
         self.step_for(event, found)
@@ -155,20 +144,9 @@ impl State {
     /// The same for an event of which it is known whom it is for, so that this is not found twice.
     pub fn step_for(&mut self, event: &Event, found: Addressee) -> Result<StepAnswer, StepFault>
         requires { IsAddressee (directory_of self.old.directory) (event_of event.now) found }
-        // It is a step of the machine over octets, for an event of this shard.
-        ensures stepped { IfOk result (λ a. Leads self.old (raw_of event.now) a self.new) }
-        ensures routed { OnOk result (IsRouted (directory_of self.old.directory)
-            (raw_of event.now) self.old.shard) }
-        ensures not_mine { (result ≡ Err StepFault.NotMine)
-            ↔ (shard_for (directory_of self.old.directory) (event_of event.now) ≢ self.old.shard) }
-        // The machine has no step for such an event, so it is never handled.
-        ensures no_room { result ≡ Err StepFault.NoRoom
-            → HasNoRoom (state_of self.old) (event_of event.now) }
-        ensures room { HasNoRoom (state_of self.old) (event_of event.now) → OnOk result ⊥ }
-        ensures err { OnErr result (self.new ≡ self.old) }
-        ensures same_shard { IsSameShard self.old self.new }
+        ensures { Steps self.old (raw_of event.now) (event_of event.now) result self.new }
     {
-        self.stepper.step_for(event, found)
+        self.parts.step_for(event, found)
     }
 
     /// Handles the expiry of the least timer that is due, if any, as `step` does for such an event of this shard. On error nothing
@@ -180,7 +158,7 @@ impl State {
         ensures err { OnErr result (self.new ≡ self.old) }
         ensures same_shard { IsSameShard self.old self.new }
     {
-        self.stepper.expire()
+        self.parts.expire()
     }
 
     /// Handles a clock value, as `step` does for such an event of this shard: sets the clock to `now`, which counts as at most 2^62, if
@@ -190,14 +168,15 @@ impl State {
         ensures stepped { Leads self.old (RawClock self.old.shard now) result self.new }
         ensures same_shard { IsSameShard self.old self.new }
     {
-        self.stepper.tick(now)
+        self.parts.tick(now);
+        silent()
     }
 
     /// Law: the state is a sound state of its shard, which is its invariant.
     pub fn law_sound(&self)
         ensures { IsSoundShard self.now }
     {
-        let _stepper = &self.stepper;
+        let _parts = &self.parts;
     }
 
     /// An equal copy.
@@ -207,7 +186,7 @@ impl State {
         ensures sound { IsSoundShard self.now }
     {
         Ok(State {
-            stepper: self.stepper.try_copy()?,
+            parts: self.parts.try_copy()?,
         })
     }
 }

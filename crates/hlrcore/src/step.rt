@@ -1,29 +1,31 @@
 //! One event of a shard.
 
 ghost use Rattle.std.specs.Prelude.{◌≡◌, ◌≢◌, ◌↔◌, [], IfOk, OnOk, OnErr, Err};
-ghost use Rattle.frames.specs.Octets.{IsRouted, RawChange, RawClock, RawExpire};
+ghost use Rattle.frames.specs.Octets.{IsRouted, RawChange, RawExpire};
 ghost use Rattle.machine.specs.Events as machine;
 ghost use Rattle.machine.specs.Routing.{route};
 ghost use Rattle.machine.specs.Step.{HasNoRoom};
 ghost use Rattle.machine.specs.Turns.{Changes};
-ghost use Rattle.shard_state.specs.Shards.{IsSameShard, directory_of, state_of};
+ghost use Rattle.hlrcore.specs.Shards.{IsSameShard, directory_of, state_of};
 ghost use Rattle.hlrcore.specs.Addressees.{IsAddressee};
 ghost use Rattle.hlrcore.specs.Events.{change as said, event_of, raw_of};
-ghost use Rattle.hlrcore.specs.Leading.{IsMine, Leads};
-ghost use Rattle.turns.specs.Planning.{IsPlan};
+ghost use Rattle.hlrcore.specs.Leading.{IsMine, Leads, Steps};
+ghost use Rattle.hlrcore.specs.Planning.{IsPlan};
 
+use crate::answer::StepAnswer;
 use crate::change::Change;
+use crate::change_plan::{plan_codes, plan_withdrawal};
 use crate::event::Event;
+use crate::expiry::{nothing_is_due, plan_expiry};
 use crate::fault::StepFault;
+use crate::parts::ShardParts;
+use crate::plan::Plan;
 use crate::routing::Addressee;
-use crate::sending::silent;
-use crate::stepper::Stepper;
+use crate::unchanged::silent;
 use hlr_types::Imsi;
-use shard_state::{Plan, StepAnswer};
 use std::alloc::AllocError;
-use turns::{nothing_is_due, plan_codes, plan_expiry, plan_withdrawal};
 
-impl Stepper {
+impl ShardParts {
     /// Handles one event, as `State::step_for` says.
     pub(crate) fn step_for(
         &mut self,
@@ -31,35 +33,20 @@ impl Stepper {
         found: Addressee,
     ) -> Result<StepAnswer, StepFault>
         requires { IsAddressee (directory_of self.old.directory) (event_of event.now) found }
-        ensures stepped { IfOk result (λ a. Leads self.old (raw_of event.now) a self.new) }
-        ensures routed { OnOk result (IsRouted (directory_of self.old.directory)
-            (raw_of event.now) self.old.shard) }
-        ensures not_mine { (result ≡ Err StepFault.NotMine)
-            ↔ (route (directory_of self.old.directory) (event_of event.now) ≢ self.old.shard) }
-        ensures no_room { result ≡ Err StepFault.NoRoom
-            → HasNoRoom (state_of self.old) (event_of event.now) }
-        ensures room { HasNoRoom (state_of self.old) (event_of event.now) → OnOk result ⊥ }
-        ensures err { OnErr result (self.new ≡ self.old) }
-        ensures same_shard { IsSameShard self.old self.new }
+        ensures { Steps self.old (raw_of event.now) (event_of event.now) result self.new }
     {
-        if found.shard != self.shard.number() {
+        if found.shard != self.number() {
             return Err(StepFault::NotMine);
         }
         match event {
             Event::Frame(indication) => Ok(self.receive(indication, found.subject)?),
-            Event::Clock { now, .. } => Ok(self.tick(*now)),
+            Event::Clock { now, .. } => {
+                self.tick(*now);
+                Ok(silent())
+            }
             Event::Expire { .. } => Ok(self.expire()?),
             Event::Change { imsi, change } => self.change(*imsi, change),
         }
-    }
-
-    /// Handles a clock value.
-    pub(crate) fn tick(&mut self, now: u64) -> StepAnswer
-        ensures ticked { Leads self.old (RawClock self.old.shard now) result self.new }
-        ensures same_shard { IsSameShard self.old self.new }
-    {
-        self.shard.tick(now);
-        silent()
     }
 
     /// Handles the expiry of the least timer that is due, if any.
@@ -68,7 +55,7 @@ impl Stepper {
         ensures err { OnErr result (self.new ≡ self.old) }
         ensures same_shard { IsSameShard self.old self.new }
     {
-        if nothing_is_due(&self.shard) {
+        if nothing_is_due(self) {
             return Ok(silent());
         }
         self.expire_due()
@@ -82,8 +69,8 @@ impl Stepper {
         ensures err { OnErr result (self.new ≡ self.old) }
         ensures same_shard { IsSameShard self.old self.new }
     {
-        match plan_expiry(self.alloc, &self.shard) {
-            Some(plan) => self.shard.settle(plan, &[]),
+        match plan_expiry(self.alloc, self) {
+            Some(plan) => self.settle(plan, &[]),
             None => Ok(silent()),
         }
     }
@@ -101,10 +88,10 @@ impl Stepper {
         ensures same_shard { IsSameShard self.old self.new }
     {
         let plan = self.plan_change(imsi, change);
-        if !self.shard.has_room(&plan) {
+        if !self.has_room(&plan) {
             return Err(StepFault::NoRoom);
         }
-        Ok(self.shard.settle(plan, &[])?)
+        Ok(self.settle(plan, &[])?)
     }
 
     /// The plan of an operator's change.
@@ -112,8 +99,8 @@ impl Stepper {
         ensures { IsPlan self.now (Changes imsi (said change.now)) [] result }
     {
         match change {
-            Change::Codes(codes) => plan_codes(&self.shard, imsi, codes.list()),
-            Change::Withdraw => plan_withdrawal(&self.shard, imsi),
+            Change::Codes(codes) => plan_codes(self, imsi, codes.list()),
+            Change::Withdraw => plan_withdrawal(self, imsi),
         }
     }
 }

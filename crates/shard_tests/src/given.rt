@@ -1,8 +1,8 @@
 //! Inputs of the tests.
 
 use hlr_types::{Digits, Imsi, Peer, Tid};
+use hlrcore::{Out, ShardParts};
 use records::read_records;
-use shard_state::{Out, ShardParts};
 use std::alloc::Global;
 
 /// The id that the first dialogue of shard 1 takes.

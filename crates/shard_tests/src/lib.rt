@@ -1,5 +1,5 @@
-//! Tests of the layers of one shard: the procedures (`location`), the plan of an event (`turns`), carrying out a plan
-//! (`shard_state`), and steps and runs (`hlrcore`).
+//! Tests of the layers of one shard: the procedures (`location`), and of `hlrcore` the plan of an event, carrying out a
+//! plan, steps and runs.
 //!
 //! They are in a crate of their own, which the gate runs and does not prove.
 #![tactic(auto)]

@@ -4,12 +4,11 @@ use crate::given::{FIRST, imsi, peer, shard};
 use crate::samples::{ROUTE, UNKNOWN, UPDATE};
 use bumpalo::Bump;
 use hlr_types::Imsi;
+use hlrcore::{Plan, ShardParts, plan_begin, plan_codes, plan_withdrawal, subject_of_begin};
 use location::{After, DialogueChange};
 use msgarena::{ReadMessage, Round, Verdict};
 use records::read_codes;
-use shard_state::{Plan, ShardParts};
 use std::alloc::Global;
-use turns::{plan_begin, plan_codes, plan_withdrawal, subject_of_begin};
 
 /// Two subscribers of shard 1: one with a register, one without.
 const RECORDS_OF_TWO: &[u8] = b"HLR1 447700900100

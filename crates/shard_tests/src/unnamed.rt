@@ -3,10 +3,9 @@
 use crate::given::{peer, shard};
 use crate::samples::RECORDS;
 use hlr_types::RemoteId;
-use shard_state::ShardParts;
+use hlrcore::{ShardParts, plan_close, plan_continue, plan_expiry};
 use std::alloc::Global;
 use std::test::Fail;
-use turns::{plan_close, plan_continue, plan_expiry};
 
 /// A destination id of no open dialogue, in four octets and in one.
 const DESTINATIONS: [&[u8]; 2] = [&[1, 0, 0x10, 0], &[1]];

@@ -10,10 +10,10 @@ use Rattle.machine_laws.proofs.Naming.{unnamed_stays}
 use Rattle.frames.specs.Octets.{RawEvent, RawEntry, RawOut, IsRouted, StepOctets}
 use Rattle.frames.specs.OctetJournals.{ChainOctets, LegalOctets, RawEpoch, first_raw_base, joined_raws}
 use Rattle.frames_laws.proofs.OctetLaws.{chain_cut, chain_joined, event_one, holders_of_octets, isolation_of_octets, octets_push}
-use Rattle.shard_state.specs.Shards.{ShardState, IsSameShard, directory_of, state_of}
+use Rattle.hlrcore.specs.Shards.{ShardState, IsSameShard, directory_of, state_of}
 use Rattle.hlrcore.specs.Sound.{IsSoundShard}
-use Rattle.shard_state.specs.declared.answer.StepAnswer.{StepAnswer}
-use Rattle.shard_state.specs.Answers.{entry_of}
+use Rattle.hlrcore.specs.declared.answer.StepAnswer.{StepAnswer}
+use Rattle.hlrcore.specs.Answers.{entry_of}
 use Rattle.hlrcore.specs.declared.event.RawEvent as code
 use Rattle.hlrcore.specs.Events.{raw_event}
 use Rattle.shardlog.specs.declared.entry.Entry.{Entry}

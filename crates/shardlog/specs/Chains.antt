@@ -3,7 +3,7 @@ use Rattle.std.specs.Prelude.{List, ◌++◌, ℕ}
 use Rattle.machine.specs.State.{State}
 use Rattle.frames.specs.Octets.{RawEntry}
 use Rattle.frames.specs.OctetJournals.{ChainOctets, LegalOctets, RawEpoch, first_raw_base, joined_raws}
-use Rattle.shard_state.specs.Shards.{state_of}
+use Rattle.hlrcore.specs.Shards.{state_of}
 use Rattle.shardlog.specs.declared.entry.Epoch.{Epoch}
 use Rattle.shardlog.specs.Entries.{raw_entries}
 use Rattle.shardlog.specs.Log.{Keeps, Log}

@@ -4,7 +4,7 @@ use Rattle.std.specs.Coded.{Coded, code_by, coded×, coded⊎, coded_bool, coded
 use mathlib.Core.Logic.{inl, inr}
 use Rattle.machine.specs.Events.{Change, Codes, Withdraw}
 use Rattle.frames.specs.Octets.{RawEvent, RawFrame, RawClock, RawExpire, RawChange, RawEntry, RawOut}
-use Rattle.shard_state.specs.Frames.{raw_out_code}
+use Rattle.hlrcore.specs.Frames.{raw_out_code}
 use Rattle.shardlog.specs.declared.keep.Keep.{Keep}
 use Rattle.shardlog.specs.declared.keep.Keep.TheVariants.{Entries, Nothing}
 

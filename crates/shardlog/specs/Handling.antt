@@ -4,7 +4,7 @@ use Rattle.machine.specs.Events.{Event}
 use Rattle.machine.specs.Holders.{IsNamed}
 use Rattle.machine.specs.State.{Dialogue, State}
 use Rattle.frames.specs.Octets.{RawEvent, RawEntry, IsEvent, StepOctets}
-use Rattle.shard_state.specs.Shards.{IsSameShard, ShardState, state_of}
+use Rattle.hlrcore.specs.Shards.{IsSameShard, ShardState, state_of}
 use Rattle.shardlog.specs.declared.entry.Handled.{Handled}
 use Rattle.shardlog.specs.declared.keep.Keep.{Keep}
 use Rattle.shardlog.specs.declared.keep.Keep.TheVariants.{Entries, Nothing}

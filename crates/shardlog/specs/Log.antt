@@ -7,7 +7,7 @@ use Rattle.machine.specs.Isolation.{SameOf, own}
 use Rattle.machine.specs.State.{State}
 use Rattle.frames.specs.Octets.{RawEntry}
 use Rattle.frames.specs.OctetJournals.{AreHolders, LegalOctets, NoRawTurnedAway, only_raw_of}
-use Rattle.shard_state.specs.Shards.{ShardState, shard_state_code, IsSameShard, state_of}
+use Rattle.hlrcore.specs.Shards.{ShardState, shard_state_code, IsSameShard, state_of}
 use Rattle.shardlog.specs.declared.keep.Keep.{Keep}
 use Rattle.shardlog.specs.declared.keep.Keep.TheVariants.{Nothing}
 use Rattle.shardlog.specs.Codes.{entry_code, keep_code}

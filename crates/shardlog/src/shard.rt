@@ -6,8 +6,8 @@ ghost use Rattle.frames.specs.Octets.{RawClock, RawExpire};
 ghost use Rattle.machine.specs.declared.numbers.TheConstants.{MAX_ENTRIES};
 ghost use Rattle.machine.specs.Routing.{route};
 ghost use Rattle.machine.specs.Step.{HasNoRoom};
-ghost use Rattle.shard_state.specs.Answers.{entry_of};
-ghost use Rattle.shard_state.specs.Shards.{directory_of, state_of};
+ghost use Rattle.hlrcore.specs.Answers.{entry_of};
+ghost use Rattle.hlrcore.specs.Shards.{directory_of, state_of};
 ghost use Rattle.hlrcore.specs.Addressees.{IsAddressee};
 ghost use Rattle.hlrcore.specs.Events.{event_of, raw_event, raw_of};
 ghost use Rattle.hlrcore.specs.Spent.{spent};
@@ -19,9 +19,8 @@ ghost use Rattle.shardlog.specs.Chains.{LeadTo, raw_epoch};
 use crate::entry::{Entry, Epoch, Handled};
 use crate::fault::ShardFault;
 use crate::keep::Keep;
-use hlrcore::{Addressee, Event, RawEvent, ShardNumber, State};
+use hlrcore::{Addressee, Event, RawEvent, ShardNumber, State, StepAnswer};
 use machine::numbers::MAX_ENTRIES;
-use shard_state::StepAnswer;
 use std::alloc::{AllocError, Global};
 use std::marker::Model;
 use std::mem;
@@ -92,10 +91,11 @@ impl Shard {
         ensures mine { route (directory_of self.old.state.directory)
             (event_of event.old) ≢ self.old.state.shard
             → result ≡ Err ShardFault.NotMine }
-        ensures full { result ≡ Err ShardFault.JournalFull
-            → (route (directory_of self.old.state.directory) (event_of event.old)
+        // A full journal comes before what memory or the state would refuse.
+        ensures full { (result ≡ Err ShardFault.JournalFull)
+            ↔ ((route (directory_of self.old.state.directory) (event_of event.old)
             ≡ self.old.state.shard)
-            × (self.old.keep ≡ Keep.Entries) × (length self.old.entries ≡ MAX_ENTRIES) }
+            × (self.old.keep ≡ Keep.Entries) × (length self.old.entries ≡ MAX_ENTRIES)) }
         ensures room { length self.old.entries ≡ MAX_ENTRIES → OnOk result ⊥ }
         ensures no_room { result ≡ Err ShardFault.NoRoom
             → HasNoRoom (state_of self.old.state) (event_of event.old) }
@@ -125,8 +125,8 @@ impl Shard {
         // The invariant of every journal.
         ensures keeps { LogKeeps self.new }
         ensures not_mine { (result ≡ Err ShardFault.NotMine) ↔ (shard ≢ self.old.state.shard) }
-        ensures full { result ≡ Err ShardFault.JournalFull
-            → (self.old.keep ≡ Keep.Entries) × (length self.old.entries ≡ MAX_ENTRIES) }
+        ensures full { (result ≡ Err ShardFault.JournalFull) ↔ ((shard ≡ self.old.state.shard)
+            × (self.old.keep ≡ Keep.Entries) × (length self.old.entries ≡ MAX_ENTRIES)) }
         ensures room { length self.old.entries ≡ MAX_ENTRIES → OnOk result ⊥ }
         ensures has_room { result ≢ Err ShardFault.NoRoom }
         ensures err { OnErr result (self.new ≡ self.old) }
@@ -150,8 +150,8 @@ impl Shard {
         // The invariant of every journal.
         ensures keeps { LogKeeps self.new }
         ensures not_mine { (result ≡ Err ShardFault.NotMine) ↔ (shard ≢ self.old.state.shard) }
-        ensures full { result ≡ Err ShardFault.JournalFull
-            → (self.old.keep ≡ Keep.Entries) × (length self.old.entries ≡ MAX_ENTRIES) }
+        ensures full { (result ≡ Err ShardFault.JournalFull) ↔ ((shard ≡ self.old.state.shard)
+            × (self.old.keep ≡ Keep.Entries) × (length self.old.entries ≡ MAX_ENTRIES)) }
         ensures room { length self.old.entries ≡ MAX_ENTRIES → OnOk result ⊥ }
         ensures has_room { result ≢ Err ShardFault.NoRoom }
         ensures enough { result ≡ Err ShardFault.Memory → self.old.keep ≡ Keep.Entries }
@@ -268,8 +268,8 @@ fn make_room(
     ensures base { keep ≡ Keep.Nothing → base.new ≡ base.old }
     ensures entries { entries.new.items ≡ entries.old.items }
     ensures same { base_of base.new state.now ≡ base_of base.old state.now }
-    ensures full { result ≡ Err ShardFault.JournalFull
-        → (keep ≡ Keep.Entries) × (length entries.old.items ≡ MAX_ENTRIES) }
+    ensures full { (result ≡ Err ShardFault.JournalFull)
+        ↔ ((keep ≡ Keep.Entries) × (length entries.old.items ≡ MAX_ENTRIES)) }
     ensures only { IfErr result
         (λ fault. (fault ≡ ShardFault.JournalFull) ⊎ (fault ≡ ShardFault.Memory)) }
     ensures err { OnErr result (base.new ≡ base.old) }

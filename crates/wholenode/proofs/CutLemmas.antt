@@ -6,7 +6,7 @@ use Rattle.machine.specs.Routing.{route}
 use Rattle.frames.specs.Octets.{RawEvent}
 use Rattle.frames.specs.OctetJournals.{RawEpoch}
 use Rattle.records.specs.Maps.{DirectoryMap}
-use Rattle.shard_state.specs.Shards.{directory_of}
+use Rattle.hlrcore.specs.Shards.{directory_of}
 use Rattle.shardlog.specs.declared.entry.Epoch.{Epoch}
 use Rattle.shardlog.specs.declared.entry.Handled.{Handled}
 use Rattle.shardlog.specs.declared.fault.ShardFault.{ShardFault}

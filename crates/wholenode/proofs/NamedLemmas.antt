@@ -1,13 +1,12 @@
 -- An event that names its shard: a clock value or an expiry.
-use Rattle.std.proofs.Common.{◌≡◌, ℕ, ◌<◌, List, length, get_or, set, refl, sym, ap, subst, ◌∙◌}
+use Rattle.std.proofs.Common.{◌≡◌, ℕ, ◌<◌, List, get_or, set, sym, ap, subst, ◌∙◌}
 use Rattle.std.specs.Prelude.{Result, Err, IfOk, OnErr, Some, slice_get}
 use Rattle.std.proofs.lemmas.Option.{slice_get_read}
-use Rattle.machine.specs.declared.numbers.TheConstants.{MAX_ENTRIES}
 use Rattle.machine.specs.Events.{Event}
 use Rattle.machine.specs.Routing.{route}
 use Rattle.frames.specs.Octets.{IsEvent, RawEvent}
 use Rattle.records.specs.Maps.{DirectoryMap}
-use Rattle.shard_state.specs.Shards.{directory_of}
+use Rattle.hlrcore.specs.Shards.{directory_of}
 use Rattle.shardlog.specs.declared.entry.Handled.{Handled}
 use Rattle.shardlog.specs.declared.fault.ShardFault.{ShardFault}
 use Rattle.shardlog.specs.declared.fault.ShardFault.TheVariants as shard
@@ -15,7 +14,7 @@ use Rattle.shardlog.specs.Handling.{Handles}
 use Rattle.shardlog.specs.Log.{Log, LogKeeps}
 use Rattle.wholenode.specs.declared.fault.Cause.{Cause}
 use Rattle.wholenode.specs.Causes.{unhandled}
-use Rattle.wholenode.specs.Handling.{Refuses, Takes}
+use Rattle.wholenode.specs.Handling.{IsFullJournal, Refuses, Takes}
 use Rattle.wholenode.specs.Keeping.{AreShards}
 use Rattle.wholenode.specs.Nodes.{NodeState, node}
 use Rattle.wholenode.proofs.CutLemmas.{took_or_not}
@@ -45,7 +44,7 @@ asked_its_own directory shards number place l answer is why answered not_mine e 
 pub named_refuses : {A : Type 0} (directory : DirectoryMap) (shards : List Log) (number place : ℕ) (l : Log) (answer : Result A ShardFault)
     → IsNamed directory shards number place l → (before : NodeState) (raw : RawEvent) (e : Event) (why : ShardFault) (cause : Cause)
     → node directory shards ≡ before → IsEvent raw e → route (directory_of directory) e ≡ number → answer ≡ Err why → cause ≡ unhandled why
-    → (answer ≡ Err shard.JournalFull → length l.entries ≡ MAX_ENTRIES) → (answer ≡ Err shard.NoRoom → ⊥) → Refuses before raw cause
+    → (answer ≡ Err shard.JournalFull → IsFullJournal l) → (answer ≡ Err shard.NoRoom → ⊥) → Refuses before raw cause
 named_refuses directory shards number place l answer is before raw e why cause seen is_event routed answered cause_is full has_room =
     subst (λ (c : Cause). Refuses before raw c) (sym cause_is)
     (refuses before directory shards raw e why place l seen is.are is.stands is_event (routed ∙ is.number_is)

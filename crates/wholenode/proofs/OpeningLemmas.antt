@@ -12,7 +12,7 @@ use Rattle.machine_laws.proofs.Steps.{shard_small}
 use Rattle.records.specs.Loaded.{Subscribers}
 use Rattle.records.specs.Maps.{DirectoryMap, RecordMap, part_of}
 use Rattle.records.specs.Parts.{AreParts}
-use Rattle.shard_state.specs.Shards.{directory_of, records_of, state_of}
+use Rattle.hlrcore.specs.Shards.{directory_of, records_of, state_of}
 use Rattle.shardlog.specs.declared.keep.Keep.{Keep}
 use Rattle.shardlog.specs.Log.{Log}
 use Rattle.wholenode.specs.Keeping.{AreShards}

@@ -1,9 +1,8 @@
 -- Events that are handled one after another, and those that are not.
 use Rattle.std.proofs.Common.{◌≡◌, ℕ, suc, ◌+◌, ◌<◌, List, [], ◌∷◌, ◌++◌, map, length, take, drop, get_or, set, refl, sym, ap, subst, ◌∙◌}
-use Rattle.std.specs.Prelude.{Some, slice_get}
+use Rattle.std.specs.Prelude.{Result, Err, Some, slice_get}
 use Rattle.std.proofs.lemmas.List.{map-append, take_more}
 use Rattle.std.proofs.Math.Seq.{split_at, take-length}
-use Rattle.machine.specs.declared.numbers.TheConstants.{MAX_ENTRIES}
 use Rattle.machine.specs.Events.{Event}
 use Rattle.machine.specs.Routing.{route}
 use Rattle.machine.specs.Step.{HasNoRoom}
@@ -11,7 +10,7 @@ use Rattle.frames.specs.Octets.{IsEvent, IsRouted, RawEvent, StepOctets}
 use Rattle.hlrcore.specs.declared.event.RawEvent as code
 use Rattle.hlrcore.specs.Events.{raw_event}
 use Rattle.records.specs.Maps.{DirectoryMap}
-use Rattle.shard_state.specs.Shards.{directory_of, state_of}
+use Rattle.hlrcore.specs.Shards.{directory_of, state_of}
 use Rattle.shardlog.specs.declared.entry.Handled.{Handled}
 use Rattle.shardlog.specs.declared.fault.ShardFault.{ShardFault}
 use Rattle.shardlog.specs.declared.fault.ShardFault.TheVariants as shard
@@ -20,7 +19,7 @@ use Rattle.shardlog.specs.Log.{Log}
 use Rattle.shardlog.proofs.LogLemmas.{leaves_unnamed}
 use Rattle.wholenode.specs.declared.fault.Cause.{Cause}
 use Rattle.wholenode.specs.Causes.{unhandled}
-use Rattle.wholenode.specs.Handling.{Each, IsRun, Refuses, Runs, Stops, Takes, sent_of}
+use Rattle.wholenode.specs.Handling.{Each, IsFor, IsFullJournal, IsRun, Refuses, Runs, Stops, Takes, sent_of}
 use Rattle.wholenode.specs.Keeping.{AreShards}
 use Rattle.wholenode.specs.Nodes.{NodeState, node, whole}
 use Rattle.wholenode.proofs.WholeLemmas.{no_room, whole_step}
@@ -69,20 +68,37 @@ is_run a b (r ∷ rs) (h ∷ hs) (m, first, rest) =
 
 -- ---- why an event is refused
 
+-- a shard has one answer
+pub full_first : {A : Type 0} {answer : Result A ShardFault} → answer ≡ Err shard.NoRoom → answer ≡ Err shard.JournalFull → ⊥
+full_first none full = cc
+
 pub refuses : (before : NodeState) (directory : DirectoryMap) (shards : List Log) (raw : RawEvent) (e : Event) (fault : ShardFault) (n : ℕ)
     (l : Log)
     → node directory shards ≡ before → AreShards directory shards → slice_get shards n ≡ Some l → IsEvent raw e
     → route (directory_of directory) e ≡ n
-    → (fault ≡ shard.JournalFull → length l.entries ≡ MAX_ENTRIES) → (fault ≡ shard.NoRoom → HasNoRoom (state_of l.state) e)
+    → (fault ≡ shard.JournalFull → IsFullJournal l)
+    → (fault ≡ shard.NoRoom → HasNoRoom (state_of l.state) e × (IsFullJournal l → ⊥))
     → Refuses before raw (unhandled fault)
 refuses before directory shards raw e fault n l seen are at is routed full none = subst (λ (b : NodeState). Refuses b raw (unhandled fault))
     seen (by fault full none)
   where
-    by : (f : ShardFault) → (f ≡ shard.JournalFull → length l.entries ≡ MAX_ENTRIES) → (f ≡ shard.NoRoom → HasNoRoom (state_of l.state) e)
+    here : IsFor (node directory shards) raw n l
+    here = record { routed = (e, is, routed); stands = at }
+
+    by : (f : ShardFault) → (f ≡ shard.JournalFull → IsFullJournal l)
+        → (f ≡ shard.NoRoom → HasNoRoom (state_of l.state) e × (IsFullJournal l → ⊥))
         → Refuses (node directory shards) raw (unhandled f)
     by shard.NotMine full none = tt
-    by shard.JournalFull full none = (n, l, record { routed = (e, is, routed); stands = at }, full refl)
-    by shard.NoRoom full none = (e, is, no_room directory shards n l e are at routed (none refl))
+    by shard.JournalFull full none = (n, l, here, full refl)
+    by shard.NoRoom full none = record {
+      place = n;
+      shard = l;
+      is_for = here;
+      not_full = (none refl).1;
+      event = e;
+      is_event = is;
+      no_room = no_room directory shards n l e are at routed (none refl).0;
+    }
     by shard.Memory full none = tt
 
 -- ---- a list of events, up to a place

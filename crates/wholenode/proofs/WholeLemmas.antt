@@ -23,7 +23,7 @@ use Rattle.frames.specs.Octets.{IsEvent, IsRouted, RawEntry, RawEvent, RunOctets
 use Rattle.frames.specs.OctetJournals.{AreHolders, LegalOctets, MergesOctets}
 use Rattle.frames_laws.proofs.OctetLaws.{event_one, merge_of_octets}
 use Rattle.records.specs.Maps.{DirectoryMap}
-use Rattle.shard_state.specs.Shards.{IsSameShard, ShardState, directory_of, state_of}
+use Rattle.hlrcore.specs.Shards.{IsSameShard, ShardState, directory_of, state_of}
 use Rattle.shardlog.specs.Log.{Log, LogKeeps}
 use Rattle.wholenode.specs.Keeping.{AreShards, HoldsServing, IsShardAt, JournalsMerge, NodeKeeps}
 use Rattle.wholenode.specs.Nodes.{NodeState, base_at, bases, journal_at, journals, node, state_at, states, whole, whole_base}

@@ -6,9 +6,10 @@ use Rattle.machine.specs.State.{State}
 use Rattle.machine.specs.Step.{HasNoRoom}
 use Rattle.frames.specs.Octets.{RawEvent, RawEntry, RawOut, IsEvent, IsRouted, RunOctets, StepOctets}
 use Rattle.frames.specs.OctetJournals.{RawEpoch}
-use Rattle.shard_state.specs.Shards.{directory_of}
+use Rattle.hlrcore.specs.Shards.{directory_of}
 use Rattle.shardlog.specs.declared.entry.Epoch.{Epoch}
 use Rattle.shardlog.specs.declared.entry.Handled.{Handled}
+use Rattle.shardlog.specs.declared.keep.Keep.TheVariants.{Entries}
 use Rattle.shardlog.specs.Chains.{LeadTo, raw_epoch}
 use Rattle.shardlog.specs.Entries.{raw_entries}
 use Rattle.shardlog.specs.Handling.{Handles, LeavesUnnamed}
@@ -55,12 +56,26 @@ pub record IsRun (S : State) (raws : List RawEvent) (sent : List (List RawOut)) 
   pub outs : map (λ entry. entry.outs) entries ≡ sent
   pub run : RunOctets S entries T
 
+-- Entries are kept, and there are as many as there may be.
+abbrev pub IsFullJournal : Log → Type 0
+IsFullJournal l = (l.keep ≡ Entries) × (length l.entries ≡ MAX_ENTRIES)
+
+-- The machine has no step for the event, and the journal of its shard is not full, which comes first.
+pub record LacksStep (node : NodeState) (raw : RawEvent) : Type 0 where
+  pub place : ℕ
+  pub shard : Log
+  pub is_for : IsFor node raw place shard
+  pub not_full : IsFullJournal shard → ⊥
+  pub event : Event
+  pub is_event : IsEvent raw event
+  pub no_room : HasNoRoom (whole node.shards) event
+
 -- Why an event is refused, apart from memory: the journal of its shard is full, or the machine has no step for it.
 abbrev pub Refuses : NodeState → RawEvent → Cause → Type 0
 Refuses node raw Memory = Unit {0}
 Refuses node raw ResetRefused = Unit {0}
-Refuses node raw JournalFull = (n : ℕ) × (l : Log) × IsFor node raw n l × (length l.entries ≡ MAX_ENTRIES)
-Refuses node raw NoRoom = (e : Event) × IsEvent raw e × HasNoRoom (whole node.shards) e
+Refuses node raw JournalFull = (n : ℕ) × (l : Log) × IsFor node raw n l × IsFullJournal l
+Refuses node raw NoRoom = LacksStep node raw
 
 -- The first events are handled; the next one is refused, for this cause, and changes nothing.
 pub record Stops (before : NodeState) (raws : List RawEvent) (done : List Handled) (cause : Cause) (after : NodeState) : Type 0 where

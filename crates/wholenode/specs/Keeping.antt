@@ -8,7 +8,7 @@ use Rattle.machine.specs.Sound.{Sound}
 use Rattle.frames.specs.Octets.{RawEntry, RunOctets}
 use Rattle.frames.specs.OctetJournals.{AreHolders, MergesOctets}
 use Rattle.records.specs.Maps.{DirectoryMap}
-use Rattle.shard_state.specs.Shards.{state_of}
+use Rattle.hlrcore.specs.Shards.{state_of}
 use Rattle.shardlog.specs.Log.{Log, LogKeeps}
 use Rattle.wholenode.specs.Nodes.{NodeState, bases, journals, states, whole, whole_base}
 

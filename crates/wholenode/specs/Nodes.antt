@@ -6,7 +6,7 @@ use Rattle.machine.specs.Parts.{union}
 use Rattle.machine.specs.State.{State}
 use Rattle.frames.specs.Octets.{RawEntry}
 use Rattle.records.specs.Maps.{DirectoryMap, directory_map_code}
-use Rattle.shard_state.specs.Shards.{state_of}
+use Rattle.hlrcore.specs.Shards.{state_of}
 use Rattle.shardlog.specs.Log.{Log, log_code}
 
 -- The directory, by which each event finds its shard, and the shards with their journals, indexed by their numbers.

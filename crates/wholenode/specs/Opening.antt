@@ -5,7 +5,7 @@ use Rattle.machine.specs.Opening.{opening}
 use Rattle.machine.specs.Parts.{part}
 use Rattle.records.specs.Loaded.{Subscribers}
 use Rattle.records.specs.Maps.{DirectoryMap, RecordMap, part_of}
-use Rattle.shard_state.specs.Shards.{IsOpening, ShardState, directory_of, records_of, state_of}
+use Rattle.hlrcore.specs.Shards.{IsOpening, ShardState, directory_of, records_of, state_of}
 use Rattle.shardlog.specs.declared.keep.Keep.{Keep}
 use Rattle.shardlog.specs.Log.{Log, LogKeeps, fresh}
 use Rattle.wholenode.specs.Nodes.{NodeState, whole}

@@ -5,7 +5,7 @@ use Rattle.std.proofs.lemmas.List.{length-map, take_more_same}
 use Rattle.std.proofs.lemmas.List.Elements.{All-more}
 use Rattle.std.proofs.lemmas.Option.{get_or_from_slice_get, same_Some, slice_get-map, slice_get_read, slice_get_within}
 use Rattle.records.specs.Maps.{DirectoryMap}
-use Rattle.shard_state.specs.Shards.{ShardState}
+use Rattle.hlrcore.specs.Shards.{ShardState}
 use Rattle.shardlog.specs.Log.{Log, LogKeeps}
 use Rattle.wholenode.specs.Keeping.{AreShards, IsShardAt}
 use Rattle.workers.specs.Offices.{AreBases, IsBaseAt, bases_of}

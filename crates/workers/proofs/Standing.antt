@@ -12,7 +12,7 @@ use Rattle.frames.specs.Account.{Job, Receipt}
 use Rattle.frames.specs.Octets.{RawEvent, RawOut}
 use Rattle.records.specs.Loaded.{Subscribers}
 use Rattle.records.specs.Maps.{DirectoryMap}
-use Rattle.shard_state.specs.Shards.{ShardState, directory_of, records_of, state_of}
+use Rattle.hlrcore.specs.Shards.{ShardState, directory_of, records_of, state_of}
 use Rattle.shardlog.specs.declared.keep.Keep.TheVariants.{Entries}
 use Rattle.shardlog.specs.Log.{Log, LogKeeps, cut_log}
 use Rattle.wholenode.specs.Keeping.{AreShards}

@@ -3,7 +3,7 @@ use Rattle.std.specs.Prelude.{ℕ, List, Option, refl}
 use Rattle.std.specs.Coded.{Coded, code_by, coded×, coded_list, coded_option, coded_ℕ}
 use Rattle.frames.specs.Octets.{RawEvent, RawOut}
 use Rattle.frames.specs.Account.{Job, Place, Receipt}
-use Rattle.shard_state.specs.Frames.{raw_out_code}
+use Rattle.hlrcore.specs.Frames.{raw_out_code}
 use Rattle.shardlog.specs.Codes.{event_code}
 
 abbrev pub job_of : ℕ → RawEvent → Job

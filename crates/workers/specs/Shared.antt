@@ -9,7 +9,7 @@ use Rattle.frames.specs.Account.{Job, Place, Receipt, Reconciles}
 use Rattle.frames.specs.Octets.{RawEntry, RawEvent, RawOut, RunOctets}
 use Rattle.frames.specs.OctetJournals.{MergesOctets}
 use Rattle.records.specs.Maps.{DirectoryMap}
-use Rattle.shard_state.specs.Shards.{ShardState, shard_state_code, state_of}
+use Rattle.hlrcore.specs.Shards.{ShardState, shard_state_code, state_of}
 use Rattle.shardlog.specs.Log.{Log, cut_log}
 use Rattle.wholenode.specs.Keeping.{AreShards}
 use Rattle.wholenode.specs.Nodes.{journals, nothing, whole, whole_base}

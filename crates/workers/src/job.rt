@@ -1,9 +1,8 @@
 //! Jobs and their numbers.
 
-ghost use Rattle.std.specs.Prelude.{◌≡◌, ◌≤◌, IfOk, IfSome, IfNone};
+ghost use Rattle.std.specs.Prelude.{◌≡◌, ◌≤◌, IfSome, IfNone};
 
 use hlrcore::RawEvent;
-use std::alloc::{AllocError, Global};
 use std::marker::Model;
 
 /// The number of a job, at least 1.
@@ -63,16 +62,4 @@ impl Model for Job {
     ghost coded = { job_code };
 
     ghost view = { λ j. job_of j.number (raw_event j.event) };
-}
-
-impl Job {
-    /// An equal copy. The only error is out of memory.
-    pub fn try_copy(&self, alloc: Global) -> Result<Job, AllocError>
-        ensures { IfOk result (λ copy. copy ≡ self.now) }
-    {
-        Ok(Job {
-            number: self.number,
-            event: self.event.try_copy(alloc)?,
-        })
-    }
 }

@@ -62,7 +62,7 @@ pub struct Office {
 impl Model for Office {
     ghost use Rattle.std.specs.Prelude.{◌≡◌, List, vec_len};
     ghost use Rattle.std.specs.Coded.{coded_list};
-    ghost use Rattle.shard_state.specs.Shards.{ShardState, shard_state_code};
+    ghost use Rattle.hlrcore.specs.Shards.{ShardState, shard_state_code};
 
     ghost Value = { List ShardState };
 

@@ -2,7 +2,7 @@
 
 ghost use Rattle.std.specs.Prelude.{◌≡◌, ◌↔◌, IsTrue, map};
 ghost use Rattle.hlrcore.specs.Events.{change, raw_event};
-ghost use Rattle.shard_state.specs.Frames.{raw_out};
+ghost use Rattle.hlrcore.specs.Frames.{raw_out};
 
 use hlrcore::{Change, Out, OutList, RawEvent};
 

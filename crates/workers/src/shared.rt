@@ -50,7 +50,7 @@ impl SharedRegister {
     ghost use Rattle.machine.specs.declared.numbers.TheConstants.{MAX_ENTRIES};
     ghost use Rattle.machine.specs.Opening.{opening};
     ghost use Rattle.machine.specs.State.{State};
-    ghost use Rattle.shard_state.specs.Shards.{directory_of, records_of};
+    ghost use Rattle.hlrcore.specs.Shards.{directory_of, records_of};
     ghost use Rattle.workers.specs.Shared.{GoesOn, HandsOut, StandsBehind, events_of_jobs, jobs_of_receipts, numbers_of_jobs, shared_state};
 
     /// The register of a records file: its records, no open dialogue, and no job. On error the loaded value is dropped.

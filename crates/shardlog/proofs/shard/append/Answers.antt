@@ -1,5 +1,5 @@
 use Rattle.std.proofs.Common.{rules, refl}
-use Rattle.shard_state.specs.Answers.{entry_of}
+use Rattle.hlrcore.specs.Answers.{entry_of}
 use Rattle.hlrcore.specs.Events.{raw_event}
 use Rattle.shardlog.proofs.LogLemmas.{entries_after, entry_is}
 use Rattle.shardlog.proofs.shard.append.Goals as goal

@@ -1,6 +1,6 @@
 use Rattle.std.proofs.Common.{get_or, sym, ap, ◌∙◌, arith, true≢false}
 use Rattle.std.proofs.lemmas.List.{get_or-map}
-use Rattle.shard_state.specs.Frames.{raw_out}
+use Rattle.hlrcore.specs.Frames.{raw_out}
 use Rattle.workers.proofs.same.same_frames.Goals as goal
 
 pub returns-then-not-same_out : goal.returns-then-not-same_out

@@ -1,5 +1,5 @@
 use Rattle.std.proofs.Common.{◌≡◌, take, map}
-use Rattle.shard_state.specs.Frames.{raw_out}
+use Rattle.hlrcore.specs.Frames.{raw_out}
 use Rattle.workers.proofs.same.same_frames.Given as goal
 
 abbrev pub invariant-loop-index : goal.invariant-loop-index

@@ -1,5 +1,5 @@
 use Rattle.std.proofs.Common.{map, take}
-use Rattle.shard_state.specs.Frames.{raw_out}
+use Rattle.hlrcore.specs.Frames.{raw_out}
 use Rattle.hlr_program.specs.Answered.{so_far}
 use Rattle.hlr_program.specs.Printed.{Prints}
 use Rattle.hlr_program.proofs.answers.Answers.push_all.Given as goal

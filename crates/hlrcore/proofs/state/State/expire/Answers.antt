@@ -1,15 +1,15 @@
 use Rattle.std.proofs.Common.{IfOk, subst}
 use Rattle.frames.specs.Octets.{RawExpire}
-use Rattle.shard_state.specs.Shards.{ShardState}
+use Rattle.hlrcore.specs.Shards.{ShardState}
 use Rattle.hlrcore.specs.Leading.{Leads}
 use Rattle.hlrcore.proofs.SoundLemmas.{expiry_is_routed, sound_after}
 use Rattle.hlrcore.proofs.state.State.expire.Goals as goal
 
 pub invariant_of-self : goal.invariant_of-self
 invariant_of-self c =
-    sound_after c.expire.result c.self.inside.stepper c.expire.new.self
-    (RawExpire c.self.inside.stepper.shard) c.self.invariant c.expire.ensures.expired
-    (expiry_is_routed c.self.inside.stepper c.expire.result) c.expire.ensures.err c.expire.ensures.same_shard
+    sound_after c.expire.result c.self.inside.parts c.expire.new.self
+    (RawExpire c.self.inside.parts.shard) c.self.invariant c.expire.ensures.expired
+    (expiry_is_routed c.self.inside.parts c.expire.result) c.expire.ensures.err c.expire.ensures.same_shard
 
 pub returns-clause-stepped : goal.returns-clause-stepped
 returns-clause-stepped c =

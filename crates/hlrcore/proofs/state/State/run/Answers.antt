@@ -1,7 +1,7 @@
 use Rattle.std.proofs.Common.{◌≡◌, ◌<◌, ◌+◌, ◌++◌, ◌∷◌, [], List, length, get_or, take, rules, sym, subst, arith}
 use Rattle.std.specs.Prelude.{Err}
-use Rattle.shard_state.specs.declared.answer.StepAnswer.{StepAnswer}
-use Rattle.shard_state.specs.Shards.{ShardState}
+use Rattle.hlrcore.specs.declared.answer.StepAnswer.{StepAnswer}
+use Rattle.hlrcore.specs.Shards.{ShardState}
 use Rattle.hlrcore.specs.declared.fault.StepFault.TheVariants.{Memory, NotMine}
 use Rattle.hlrcore.specs.Running.{BreaksOff, RunsTo}
 use Rattle.hlrcore.proofs.RunningLemmas as lemma

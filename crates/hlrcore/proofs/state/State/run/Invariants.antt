@@ -1,5 +1,5 @@
 use Rattle.std.proofs.Common.{take}
-use Rattle.shard_state.specs.Shards.{IsSameShard}
+use Rattle.hlrcore.specs.Shards.{IsSameShard}
 use Rattle.hlrcore.specs.Running.{RunsTo}
 use Rattle.hlrcore.proofs.state.State.run.Given as goal
 

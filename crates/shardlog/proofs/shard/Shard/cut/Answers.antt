@@ -1,6 +1,6 @@
 use Rattle.std.proofs.Common.{◌≡◌, refl, sym, ap, ◌∙◌, subst}
 use Rattle.std.specs.Prelude.{Option}
-use Rattle.shard_state.specs.Shards.{ShardState}
+use Rattle.hlrcore.specs.Shards.{ShardState}
 use Rattle.shardlog.specs.Entries.{raw_entries}
 use Rattle.shardlog.specs.Log.{base_of, log}
 use Rattle.shardlog.specs.Chains.{LeadTo}

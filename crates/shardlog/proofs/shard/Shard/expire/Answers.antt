@@ -1,4 +1,4 @@
-use Rattle.std.proofs.Common.{◌≡◌, ◌++◌, ◌∷◌, [], ◌∙◌, refl, sym, ap, subst, rules}
+use Rattle.std.proofs.Common.{◌≡◌, refl, rules}
 use Rattle.machine.specs.Events.{Expire}
 use Rattle.frames.specs.Octets.{RawExpire}
 use Rattle.shardlog.proofs.LogLemmas.{IsRoomy, entry_handles, entry_held, held_keeps, held_same, nothing_handles, nothing_held, own_route, own_step, seen_keeps, still_keeps}

@@ -1,7 +1,7 @@
-use Rattle.std.proofs.Common.{◌≡◌, ◌++◌, ◌∷◌, [], ◌∙◌, refl, sym, ap, subst, rules}
+use Rattle.std.proofs.Common.{◌≡◌, ◌++◌, ◌∷◌, [], subst}
 use Rattle.frames.specs.Octets.{RawEvent}
-use Rattle.hlrcore.specs.Events.{raw_event, raw_of}
-use Rattle.shard_state.specs.Answers.{entry_of}
+use Rattle.hlrcore.specs.Events.{raw_of}
+use Rattle.hlrcore.specs.Answers.{entry_of}
 use Rattle.shardlog.specs.Entries.{raw_entries}
 use Rattle.shardlog.proofs.LogLemmas.{IsRoomy, entry_handles, entry_held, held_keeps, held_same, nothing_handles, nothing_held, seen_keeps, still_keeps}
 use Rattle.shardlog.proofs.shard.Shard.handle.Goals as goal

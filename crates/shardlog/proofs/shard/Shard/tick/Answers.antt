@@ -1,7 +1,7 @@
-use Rattle.std.proofs.Common.{◌≡◌, ◌++◌, ◌∷◌, [], ◌∙◌, refl, sym, ap, subst, rules}
+use Rattle.std.proofs.Common.{◌≡◌, refl, rules}
 use Rattle.machine.specs.Events.{Clock}
 use Rattle.frames.specs.Octets.{RawClock}
-use Rattle.shardlog.proofs.LogLemmas.{IsRoomy, entry_handles, entry_held, held_keeps, held_same, nothing_handles, nothing_held, own_route, own_step, seen_keeps, still_keeps}
+use Rattle.shardlog.proofs.LogLemmas.{IsRoomy, entry_handles, entry_held, held_keeps, held_same, nothing_handles, nothing_held, own_route, own_step, seen_keeps}
 use Rattle.shardlog.proofs.shard.Shard.tick.Goals as goal
 
 pub returns-in_err-own-clause-keeps : goal.returns-in_err-own-clause-keeps

@@ -6,12 +6,12 @@ use Rattle.machine.specs.Routing.{route}
 use Rattle.records.specs.Maps.{DirectoryMap}
 use Rattle.hlrcore.specs.Addressees.{IsAddressee}
 use Rattle.hlrcore.specs.Events.{event_of, raw_of}
-use Rattle.shard_state.specs.Shards.{directory_of}
+use Rattle.hlrcore.specs.Shards.{directory_of}
 use Rattle.shardlog.specs.declared.fault.ShardFault.{ShardFault}
 use Rattle.wholenode.specs.declared.fault.Cause.{Cause}
 use Rattle.wholenode.specs.Handling.{Refuses}
 use Rattle.wholenode.proofs.CutLemmas.{is_mine, took_or_not}
-use Rattle.wholenode.proofs.RunLemmas.{refuses, takes}
+use Rattle.wholenode.proofs.RunLemmas.{full_first, refuses, takes}
 use Rattle.wholenode.proofs.WholeLemmas.{node_keeps}
 use Rattle.wholenode.proofs.node.Node.handle.Goals as goal
 use Rattle.wholenode.proofs.node.Node.handle.Goals.{in-Ok, in-Err}
@@ -75,8 +75,13 @@ returns-clause-refused c =
           (refuses c.args.self.now (arc_value c.self.inside.directory) c.self.inside.shards.items (raw_of c.args.event.now)
           (event_of c.args.event.now) w.in-Err.fault c.from-place.result
           c.index_mut-shard.result.now c.self.view_is c.self.invariant at c.requires (sym routed)
-          (λ e. (c.handle.ensures.full (w.in-Err.is ∙ ap (λ (f : ShardFault). Err f) e)).2)
-          (λ e. c.handle.ensures.no_room (w.in-Err.is ∙ ap (λ (f : ShardFault). Err f) e))))
+          (λ e. let all = c.handle.ensures.full.0 (w.in-Err.is ∙ ap (λ (f : ShardFault). Err f) e) in (all.1, all.2))
+          (λ e.
+          let lacks = w.in-Err.is ∙ ap (λ (f : ShardFault). Err f) e in
+          (c.handle.ensures.no_room lacks, λ full. full_first lacks (c.handle.ensures.full.1 (
+            is_mine (arc_value c.self.inside.directory) c.self.inside.shards.items
+            (event_of c.args.event.now) c.from-place.result c.index_mut-shard.result.now c.self.invariant routed at, full.0, full.1
+          ))))))
     ]
 
 pub returns-clause-keeps : goal.returns-clause-keeps

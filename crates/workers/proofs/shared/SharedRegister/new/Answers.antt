@@ -1,7 +1,7 @@
 use Rattle.std.proofs.Common.{◌≡◌, List, [], rules, sym, subst}
 use Rattle.frames.specs.Account.{Job, Receipt}
 use Rattle.machine.specs.Opening.{opening}
-use Rattle.shard_state.specs.Shards.{directory_of, records_of}
+use Rattle.hlrcore.specs.Shards.{directory_of, records_of}
 use Rattle.workers.specs.Shared.{StandsBehind, shared_state}
 use Rattle.workers.proofs.Standing.{stands_at_first}
 use Rattle.workers.proofs.shared.SharedRegister.new.Goals as goal

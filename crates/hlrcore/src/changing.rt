@@ -1,0 +1,131 @@
+//! Changing the open dialogues.
+
+ghost use Rattle.std.specs.Prelude.{◌≡◌, ◌≢◌, ◌≤◌, ◌^◌, ℕ, List, Some, None, IfOk, IfSome, OnOk, OnErr, option_map};
+ghost use Rattle.machine.specs.Keys.{put};
+ghost use Rattle.machine.specs.Step.{named_stays, taken};
+ghost use Rattle.dialogues.specs.Dialogues.{dialogues_of, forgotten};
+ghost use Rattle.location.specs.Seen.{opening_of, opens_of};
+ghost use Rattle.hlrcore.specs.Changing.{IsNext, changed, named_among};
+ghost use Rattle.hlrcore.specs.Plans.{IsForgetting, IsOpening, id_of};
+ghost use Rattle.q773_comp.specs.declared.component.Component as component;
+ghost use Rattle.msgarena.specs.declared.parameter.Parameter as parameter;
+
+use crate::plan::Named;
+use dialogues::{Dialogues, InvokeId};
+use hlr_types::Tid;
+use location::{DialogueChange, Opening};
+use msgarena::Parameter;
+use q773_comp::Component;
+use std::alloc::AllocError;
+
+/// Opens a dialogue beside the open ones, or in place of one.
+fn open(
+    dialogues: &mut Dialogues,
+    clock: u64,
+    place: Option<Tid>,
+    opening: &Opening,
+) -> Result<Tid, AllocError>
+    requires early { clock ≤ 2 ^ 62 }
+    requires is_open { IfSome place (λ id. dialogues_of dialogues.old id ≢ None) }
+    requires room { place ≡ None → dialogues.old.next ≢ None }
+    ensures next { IfOk result (λ id. (new : List ℕ) → IsNext dialogues.old place new → id ≡ new) }
+    ensures opened { IfOk result (λ id. dialogues_of dialogues.new
+        ≡ put (named_stays place None (dialogues_of dialogues.old)) id
+        (Some (opening_of clock opening.now))) }
+    ensures shard { dialogues.new.shard ≡ dialogues.old.shard }
+    ensures err { OnErr result (dialogues.new ≡ dialogues.old) }
+{
+    match place {
+        Some(id) => dialogues.replace(id, &opening.dialogue, opening.invoked, clock),
+        None => dialogues.open(&opening.dialogue, opening.invoked, clock),
+    }
+}
+
+/// Closes the named dialogue, if any.
+fn close(dialogues: &mut Dialogues, id: Option<Tid>)
+    requires { IfSome id (λ id. dialogues_of dialogues.old id ≢ None) }
+    ensures closed { dialogues_of dialogues.new ≡ named_stays id None (dialogues_of dialogues.old) }
+    ensures shard { dialogues.new.shard ≡ dialogues.old.shard }
+{
+    if let Some(id) = id {
+        dialogues.close(id);
+    }
+}
+
+/// The named dialogue, if any, goes on as the received message leaves it.
+#[tactic(auto, using(machine_laws::proofs::Keys::put_again))]
+fn go_on(
+    dialogues: &mut Dialogues,
+    clock: u64,
+    named: Named,
+    components: &[Component<Parameter>],
+) -> Result<(), AllocError>
+    requires early { clock ≤ 2 ^ 62 }
+    requires is_open { IfSome (id_of named) (λ id. dialogues_of dialogues.old id ≢ None) }
+    ensures ok { OnOk result (dialogues_of dialogues.new
+        ≡ named_stays (id_of named) (named_among clock components.now named
+        (dialogues_of dialogues.old)) (dialogues_of dialogues.old)) }
+    ensures shard { dialogues.new.shard ≡ dialogues.old.shard }
+    ensures err { OnErr result (dialogues.new ≡ dialogues.old) }
+{
+    match named {
+        Named::Nothing => Ok(()),
+        Named::Open(_) => Ok(()),
+        Named::Continued { id, peer, remote } => {
+            dialogues.go_on(id, peer, remote, components, clock)
+        }
+    }
+}
+
+/// An invocation of the named dialogue, if any, becomes Idle. The rest of the dialogue stays the same.
+fn forget(dialogues: &mut Dialogues, named: Named, invoke: InvokeId)
+    requires { IsForgetting named (DialogueChange.Forgets invoke) }
+    ensures forgotten { (clock : ℕ) (cs : List (component.Component parameter.Parameter))
+        → dialogues_of dialogues.new
+        ≡ named_stays (id_of named) (option_map (forgotten invoke)
+        (named_among clock cs named (dialogues_of dialogues.old)))
+        (dialogues_of dialogues.old) }
+    ensures shard { dialogues.new.shard ≡ dialogues.old.shard }
+{
+    if let Named::Open(id) = named {
+        dialogues.forget_one(id, invoke.number());
+    }
+}
+
+/// Applies the outcome of a procedure to the named dialogue, if any, and opens the dialogue that opens. Returns the id of the
+/// latter.
+pub(crate) fn change(
+    dialogues: &mut Dialogues,
+    clock: u64,
+    named: Named,
+    stays: &DialogueChange,
+    components: &[Component<Parameter>],
+) -> Result<Option<Tid>, AllocError>
+    requires early { clock ≤ 2 ^ 62 }
+    requires is_open { IfSome (id_of named) (λ id. dialogues_of dialogues.old id ≢ None) }
+    requires forgetting { IsForgetting named stays.now }
+    requires room { IsOpening stays.now → id_of named ≡ None → dialogues.old.next ≢ None }
+    ensures taken { IfOk result (λ id. (new : List ℕ) → IsNext dialogues.old (id_of named) new
+        → id ≡ taken new (opens_of clock stays.now)) }
+    ensures changed { OnOk result ((new : List ℕ) → IsNext dialogues.old (id_of named) new
+        → dialogues_of dialogues.new ≡ changed clock components.now named stays.now new
+        (dialogues_of dialogues.old)) }
+    ensures shard { dialogues.new.shard ≡ dialogues.old.shard }
+    ensures err { OnErr result (dialogues.new ≡ dialogues.old) }
+{
+    match stays {
+        DialogueChange::Opens(opening) => Ok(Some(open(dialogues, clock, named.id(), opening)?)),
+        DialogueChange::Closes => {
+            close(dialogues, named.id());
+            Ok(None)
+        }
+        DialogueChange::GoesOn => {
+            go_on(dialogues, clock, named, components)?;
+            Ok(None)
+        }
+        DialogueChange::Forgets(invoke) => {
+            forget(dialogues, named, *invoke);
+            Ok(None)
+        }
+    }
+}

@@ -1,4 +1,0 @@
-pub mod OpeningLemmas
-pub mod RecordLemmas
-pub mod SettleLemmas
-pub mod RoomLemmas

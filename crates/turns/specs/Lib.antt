@@ -1,3 +1,0 @@
-pub mod Planning
-pub mod OpenOnes
-pub mod Unnamed
