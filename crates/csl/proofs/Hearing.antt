@@ -117,23 +117,17 @@ pub rejections_push : (rs : List codec.Rejection) (o : Option codec.Rejection)
 rejections_push rs None = map-append rejection rs []
 rejections_push rs (Some r) = map-append rejection rs (r ∷ [])
 
--- one more, of the invocations alone
-pub after_one : {P : Type 0} (now : ℕ) (vs : List Invocation) (xs : List (code.Component P)) (i : ℕ) (x : code.Component P) → i < length xs → x ≡ get_or xs i x
-    → invocations_after now (heard x ∷ []) (invocations_after now (map heard (take i xs)) vs) ≡ invocations_after now (map heard (take (i + 1) xs)) vs
-after_one now vs xs i x l at =
-    sym (ap (λ cs. invocations_after now cs vs) (map_more heard xs i x l ∙ ap (λ y. map heard (take i xs) ++ heard y ∷ []) (sym at))
-    ∙ invocations_more now (map heard (take i xs)) (heard x ∷ []) vs)
-
 -- the effect, as the code returns it
 pub heard_effect : {P : Type 0} (now : ℕ) (offer : Offer) (vs : List Invocation) (cs : List (ComponentOf P)) (answer : csl.Effect)
     (list : List Invocation) (failed still_sent : Bool) → AreHeard now offer vs cs list (map rejection answer.rejects.items) failed
-    → answer.started ≡ starts offer vs cs → concluded answer.conclusion ≡ conclusion_of failed still_sent
+    → answer.started ≡ starts offer vs cs → answer.left ≡ list → concluded answer.conclusion ≡ conclusion_of failed still_sent
     → still_sent ≡ list_any (λ (own : Invocation). is_sent own.was) list → IsEffect answer (effect now offer vs cs)
 unfolding effect
-heard_effect now offer vs cs answer list failed still_sent h started conclusion sent =
+heard_effect now offer vs cs answer list failed still_sent h started left conclusion sent =
     record {
       rejects = h.rejected;
       started = started;
+      left = left ∙ h.moved;
       conclusion =
           conclusion ∙ ap (conclusion_of failed) (sent ∙ sym (any_sent_is list) ∙ ap any_sent h.moved)
           ∙ ap (λ b. conclusion_of b (any_sent (invocations_after now cs vs))) h.has_failed;

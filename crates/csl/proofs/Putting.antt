@@ -251,17 +251,6 @@ module _ {S : Type 0} where
       by true k = refl
       by false k = refl
 
-  -- the list of a dialogue is replaced, where it is or by a removal
-  pub rewritten : (key : ℕ) (m n : hash.HashMap ℕ (SmallVec Invocation) S) (lists : InvocationLists) (id : List ℕ) (l w : SmallVec Invocation)
-      → Some l ≡ hash.get is_key m key → hash.WritesThrough is_key (is_key key) m w n → (length w.items == 0) ≡ false
-      → lists_of m ≡ lists → octets_of key ≡ id → lists_of n ≡ put_list lists id w.items
-  rewritten key m n lists id l w had h some view own = is_written m n key (Some w) w.items (through m n key l w had h) (items_some w.items some)
-      ∙ λ i. put_list (view i) (own i) w.items
-
-  pub removed_empty : (key : ℕ) (m o : hash.HashMap ℕ (SmallVec Invocation) S) (lists : InvocationLists) (id : List ℕ) (w : List Invocation)
-      → lists_of o ≡ put_list (lists_of m) (octets_of key) [] → (length w == 0) ≡ true → lists_of m ≡ lists → octets_of key ≡ id → lists_of o ≡ put_list lists id w
-  removed_empty key m o lists id w gone none view own = gone ∙ (λ i. put_list (view i) (own i) []) ∙ ap (put_list lists id) (sym (items_none w none))
-
 -- a copy
 
 abbrev pub IsCopied : ℕ × SmallVec Invocation → ℕ × SmallVec Invocation → Type 0

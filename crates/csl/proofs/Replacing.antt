@@ -1,5 +1,5 @@
 -- The timers where the list of a dialogue is replaced, by what the calls ensure of the slices that they get.
-use Rattle.std.proofs.Common.{◌≡◌, ℕ, List, [], Bool, true, false, cond, ◌&&◌, refl, ap, ◌∙◌}
+use Rattle.std.proofs.Common.{◌≡◌, ℕ, List, [], true, false, cond, ap, ◌∙◌}
 use Rattle.machine.specs.State.{Invocation}
 use Rattle.deadlines.specs.declared.timer.Timer.{Timer}
 use Rattle.deadlines.specs.Timers.{TimerSet}
@@ -9,13 +9,9 @@ use Rattle.csl.proofs.Putting.{at-put_list, own_id}
 use Rattle.csl.proofs.Timing.{have_first, have_replaced, have_taken_back}
 
 module _ (lists : InvocationLists) (d : TimerSet) (id : List ℕ) (have : HaveTimers lists d) (list us : List Invocation) (us_is : us ≡ list)
-    (d₁ : TimerSet) (inserted : (t : Timer) → has d₁ t ≡ cond (is_only id us [] t) true (has d t)) where
+    (d₁ : TimerSet) (inserted : (t : Timer) → has d₁ t ≡ cond (is_of id us t) true (has d t)) where
   of_list : (t : Timer) → has d₁ t ≡ cond (is_of id list t) true (has d t)
-  of_list t = inserted t ∙ ap (λ b. cond b true (has d t)) (all (is_of id us t)) ∙ ap (λ vs. cond (is_of id vs t) true (has d t)) us_is
-    where
-      all : (b : Bool) → b && true ≡ b
-      all true = refl
-      all false = refl
+  of_list t = inserted t ∙ ap (λ vs. cond (is_of id vs t) true (has d t)) us_is
 
   pub first_put : invocations_at lists id ≡ [] → (new : InvocationLists) → new ≡ put_list lists id list → HaveTimers new d₁
   first_put none new is = have_first lists d id have list d₁ of_list none new is

@@ -54,6 +54,26 @@ timed_deadline j d v e = nat_is v.deadline d (right_of (int_eq v.id j) (v.deadli
 
 -- ---- one more timer is inserted or removed
 
+-- x is what the timers of these become
+pub of_more : (id : List ℕ) (own : Invocation) (rest : List Invocation) (t : Timer) (x o : Bool)
+    → cond (is_of id (own ∷ rest) t) x o ≡ cond (is_of id rest t) x (cond (is_timer (timer_at id own) t) x o)
+of_more id own rest t x o =
+    at (is_its id t.invocation.id) (is_timed t.invocation.invoke t.deadline own) (has_timer rest t.invocation.invoke t.deadline)
+    ∙ ap (λ b. cond (is_of id rest t) x (cond b x o)) (sym (timer_is id own t))
+  where
+    at : (i b r : Bool) → cond (i && (b || r)) x o ≡ cond (i && r) x (cond (i && b) x o)
+    at false b r = refl
+    at true true true = refl
+    at true true false = refl
+    at true false r = refl
+
+pub of_none : (id : List ℕ) (t : Timer) (x o : Bool) → o ≡ cond (is_of id [] t) x o
+of_none id t x o = by (is_its id t.invocation.id)
+  where
+    by : (b : Bool) → o ≡ cond (b && false) x o
+    by true = refl
+    by false = refl
+
 module _ (id : List ℕ) (own : Invocation) (rest : List Invocation) (t : Timer) where
   module _ (others : List Invocation) where
     abbrev other : Bool
@@ -118,23 +138,6 @@ module _ (lists : InvocationLists) (d : TimerSet) (id : List ℕ) (have : HaveTi
       by : (b : Bool) → is_its id t.invocation.id ≡ b → has d' t ≡ among t (cond b list (invocations_at lists t.invocation.id))
       by true e = own t e
       by false e = other t e ∙ have t
-
-  -- those that only the new list has are inserted, and those that only the old one had are removed
-  pub have_turned : (were list : List Invocation) → were ≡ invocations_at lists id → (d' : TimerSet)
-      → ((t : Timer) → has d' t ≡ cond (is_only id were list t) false (cond (is_only id list were t) true (has d t)))
-      → (new : InvocationLists) → new ≡ put_list lists id list → HaveTimers new d'
-  have_turned were list old d' turned new is = have_put new list d' is
-      (λ t e. turned t ∙ ap (λ b. after t b (has d t)) e ∙ ap (after t true) (had t e ∙ ap (among t) (sym old)) ∙ pick (among t were) (among t list))
-      (λ t e. turned t ∙ ap (λ b. after t b (has d t)) e)
-    where
-      after : Timer → Bool → Bool → Bool
-      after t i h = cond ((i && among t were) && not (among t list)) false (cond ((i && among t list) && not (among t were)) true h)
-
-      pick : (a b : Bool) → cond (a && not b) false (cond (b && not a) true a) ≡ b
-      pick true true = refl
-      pick true false = refl
-      pick false true = refl
-      pick false false = refl
 
   module _ (list : List Invocation) (d₁ : TimerSet) (inserted : (t : Timer) → has d₁ t ≡ cond (is_of id list t) true (has d t)) where
     inserted_own : (t : Timer) → is_its id t.invocation.id ≡ true → has d₁ t ≡ cond (among t list) true (among t (invocations_at lists id))

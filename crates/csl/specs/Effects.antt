@@ -19,10 +19,11 @@ concluded HasFailed = effect.HasFailed
 concluded HasSucceeded = effect.HasSucceeded
 concluded GoesOn = effect.GoesOn
 
--- The answer is the effect: its Rejects in order, what started, and the conclusion.
+-- The answer is the effect: its Rejects in order, what started, the invocations after, and the conclusion.
 pub record IsEffect (answer : Effect) (whole : effect.Effect) : Type 0 where
   pub rejects : map rejection answer.rejects.items ≡ whole.rejects
   pub started : answer.started ≡ whole.started
+  pub left : answer.left ≡ whole.invocations
   pub conclusion : concluded answer.conclusion ≡ whole.conclusion
 
 -- ---- one component, with the invocations as those before it leave them

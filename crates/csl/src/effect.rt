@@ -3,14 +3,14 @@
 ghost use Rattle.std.specs.Prelude.{◌≡◌, ◌≤◌, ◌^◌, ◌++◌, map, [], false, IfOk, OnOk, option_to_list};
 ghost use Rattle.std.specs.List.{list_any};
 ghost use Rattle.machine.specs.State.{Invocation, is_sent};
-ghost use Rattle.machine.specs.Effect.{AreRising, conclusion_of, effect, invocations_after};
+ghost use Rattle.machine.specs.Effect.{AreRising, conclusion_of, effect};
 ghost use Rattle.csl.specs.Seen.{heard};
 ghost use Rattle.csl.specs.Effects.{IsEffect, concluded, offered};
 
-use crate::invocation::Invocation;
 use crate::list::{Few, any_sent, conclude};
 use crate::offer::{Conclusion, Effect, Offer};
 use crate::problems::{first_heard, rejection_of};
+use crate::remaining::Remaining;
 use q773_comp::{Component, Rejection};
 use std::alloc::{AllocError, Global};
 
@@ -42,64 +42,54 @@ fn push_rejection(
 }
 
 /// The effect of no component.
-fn effect_of_none(alloc: Global, list: &[Invocation]) -> Effect
+fn effect_of_none(alloc: Global, list: Few) -> Effect
+    requires { AreRising list.items }
     ensures rejects { result.rejects.items ≡ [] }
     ensures started { result.started ≡ None }
+    ensures left { result.left ≡ list.items }
     ensures conclusion { concluded result.conclusion ≡ conclusion_of false
-        (list_any (λ (own : Invocation). is_sent own.was) list.now) }
+        (list_any (λ (own : Invocation). is_sent own.was) list.items) }
 {
     Effect {
         rejects: Vec::new(alloc),
         started: None,
-        conclusion: conclusion_of(false, any_sent(list)),
+        conclusion: conclusion_of(false, any_sent(&list)),
+        left: Remaining::of(list),
     }
 }
 
-/// Applies the components to the invocations, one by one, and returns the effect. On error some may have been applied.
+/// Applies the components to these invocations, one by one, and returns the effect.
 pub(crate) fn receive_each<P>(
     alloc: Global,
     offer: &Offer,
-    list: &mut Few,
+    mut list: Few,
     components: &[Component<P>],
     now: u64,
 ) -> Result<Effect, AllocError>
-    requires rising { AreRising list.old.items }
+    requires rising { AreRising list.items }
     requires early { now ≤ 2 ^ 62 }
-    ensures effect { IfOk result (λ answer. IsEffect answer
-        (effect now (offered offer.now) list.old.items (map heard components.now))) }
-    ensures after { OnOk result (list.new.items
-        ≡ (effect now (offered offer.now) list.old.items
-        (map heard components.now)).invocations) }
+    ensures { IfOk result (λ answer. IsEffect answer
+        (effect now (offered offer.now) list.items (map heard components.now))) }
 {
     let [first, rest @ ..] = components else {
         return Ok(effect_of_none(alloc, list));
     };
-    let (started, rejection) = first_heard(offer, list, first);
+    let (started, rejection) = first_heard(offer, &list, first);
     let mut rejects = Vec::new(alloc);
     push_rejection(&mut rejects, rejection)?;
-    let mut has_failed = conclude(list, first, now);
+    let mut has_failed = conclude(&mut list, first, now);
     for component in rest {
-        let rejection = rejection_of(offer, list, started, false, component);
+        let rejection = rejection_of(offer, &list, started, false, component);
         push_rejection(&mut rejects, rejection)?;
-        has_failed |= conclude(list, component, now);
+        has_failed |= conclude(&mut list, component, now);
     }
-    let still_sent = any_sent(list);
+    let still_sent = any_sent(&list);
     Ok(Effect {
         rejects,
         started,
         conclusion: conclusion_of(has_failed, still_sent),
+        left: Remaining::of(list),
     })
-}
-
-/// Applies the components to the invocations, one by one. Does not allocate.
-pub(crate) fn conclude_each<P>(list: &mut Few, components: &[Component<P>], now: u64)
-    requires rising { AreRising list.old.items }
-    requires early { now ≤ 2 ^ 62 }
-    ensures { list.new.items ≡ invocations_after now (map heard components.now) list.old.items }
-{
-    for component in components {
-        conclude(list, component, now);
-    }
 }
 
 /// What the components of a Begin do. Its dialogue has no invocations yet.
@@ -113,5 +103,5 @@ pub fn effect_of_begin<P>(
     ensures { IfOk result (λ answer. IsEffect answer
         (effect now (offered offer.now) [] (map heard components.now))) }
 {
-    receive_each(alloc, offer, &mut Few::new(alloc), components, now)
+    receive_each(alloc, offer, Few::new(alloc), components, now)
 }

@@ -3,7 +3,7 @@
 ghost use Rattle.std.specs.Prelude.{◌≡◌, ◌<◌, ◌≤◌, ◌^◌, ◌-◌, ◌↔◌, [], map, Some, Err, IsSome, IfOk, IfSome, IfNone, OnOk, OnErr, FitsSigned};
 ghost use Rattle.std.specs.Int.{w8};
 ghost use Rattle.std.specs.FinMap as finite;
-ghost use Rattle.machine.specs.Effect.{AreRising, effect, invocations_after};
+ghost use Rattle.machine.specs.Effect.{AreRising, effect};
 ghost use Rattle.machine.specs.Expiries.{without};
 ghost use Rattle.machine.specs.Outcome.{invoked};
 ghost use Rattle.machine.specs.Turns.{invocation_of};
@@ -18,6 +18,7 @@ use crate::invocation::Invocation;
 use crate::list::{Few, copy_of, first_invoked, place_of, with_one};
 use crate::lists::Lists;
 use crate::offer::{Due, Effect, Offer};
+use crate::remaining::Remaining;
 use crate::timers::{insert_timers, remove_timers};
 use crate::was::Was;
 use deadlines::Timers;
@@ -92,7 +93,7 @@ impl Invocations {
         self.replace(id, list)
     }
 
-    /// Returns what received components do to the invocations of a dialogue. Changes nothing.
+    /// Returns what received components do to the invocations of a dialogue, and what they leave of them. Changes nothing.
     pub fn effect<P>(
         &self,
         id: Tid,
@@ -105,8 +106,8 @@ impl Invocations {
             (effect now (offered offer.now) (invocations_at self.now id)
             (map heard components.now))) }
     {
-        let mut list = copy_of(self.alloc, self.lists.at(id))?;
-        receive_each(self.alloc, offer, &mut list, components, now)
+        let list = copy_of(self.alloc, self.lists.at(id))?;
+        receive_each(self.alloc, offer, list, components, now)
     }
 
     /// Applies received components to the invocations of a dialogue and their timers, and returns the effect. On error nothing
@@ -128,25 +129,17 @@ impl Invocations {
         ensures err { OnErr result (self.new ≡ self.old) }
     {
         let effect = self.effect(id, offer, components, now)?;
-        self.conclude(id, components, now)?;
+        self.leave(id, &effect.left)?;
         Ok(effect)
     }
 
-    /// Updates the invocations of a dialogue as `receive` does, after `effect` returned the effect.
-    pub fn conclude<P>(
-        &mut self,
-        id: Tid,
-        components: &[Component<P>],
-        now: u64,
-    ) -> Result<(), AllocError>
-        requires { now ≤ 2 ^ 62 }
-        ensures ok { OnOk result (self.new
-            ≡ put_list self.old id (invocations_after now (map heard components.now)
-            (invocations_at self.old id))) }
+    /// Leaves a dialogue these invocations in place of its own, with their timers. On error nothing changes.
+    pub fn leave(&mut self, id: Tid, left: &Remaining) -> Result<(), AllocError>
+        ensures ok { OnOk result (self.new ≡ put_list self.old id left.now) }
         ensures err { OnErr result (self.new ≡ self.old) }
     {
-        self.lists
-            .conclude(self.alloc, &mut self.timers, id, components, now)
+        let list = left.list(self.alloc)?;
+        self.replace(id, list)
     }
 
     /// The least of the timers that are not after `now`: by time, then by the octets of the local id, then by the invoke id as a
@@ -245,7 +238,7 @@ impl Invocations {
         ensures ok { OnOk result (self.new ≡ put_list self.old id list.items) }
         ensures err { OnErr result (self.new ≡ self.old) }
     {
-        insert_timers(&mut self.timers, id, &list, &[])?;
+        insert_timers(&mut self.timers, id, &list)?;
         match self.lists.put(id, list) {
             Ok(None) => Ok(()),
             Ok(Some(were)) => {

@@ -12,6 +12,7 @@ mod list;
 mod lists;
 mod offer;
 mod problems;
+mod remaining;
 mod timers;
 mod was;
 
@@ -20,4 +21,5 @@ pub use fault::CslFault;
 pub use invocations::Invocations;
 pub use laws::{law_lists_are_put, law_moves_are_rows, law_parameters_have_no_effect};
 pub use offer::{Conclusion, Due, Effect, Offer};
+pub use remaining::Remaining;
 pub use was::Was;

@@ -1,22 +1,15 @@
 //! The invocations of each dialogue.
 
-ghost use Rattle.std.specs.Prelude.{◌≡◌, ◌≤◌, ◌^◌, OnOk, OnErr, IfSome, IfNone, IfOk, IfErr, [], map, cond, true, false};
+ghost use Rattle.std.specs.Prelude.{◌≡◌, OnOk, OnErr, IfSome, IfNone, IfOk, IfErr, []};
 ghost use Rattle.std.specs.FinMap as finite;
-ghost use Rattle.deadlines.specs.declared.timer.Timer.{Timer};
-ghost use Rattle.deadlines.specs.Index.{has};
-ghost use Rattle.machine.specs.Effect.{AreRising, invocations_after};
+ghost use Rattle.machine.specs.Effect.{AreRising};
 ghost use Rattle.machine.specs.Expiries.{without};
 ghost use Rattle.machine.specs.Turns.{invocation_of};
-ghost use Rattle.csl.specs.Seen.{heard};
-ghost use Rattle.csl.specs.Tables.{HaveTimers, invocations_at, is_only, octets_of, put_list};
+ghost use Rattle.csl.specs.Tables.{invocations_at, octets_of, put_list};
 
-use crate::effect::conclude_each;
 use crate::invocation::Invocation;
-use crate::list::{Few, copy_of, place_of};
-use crate::timers::replace_timers;
-use deadlines::Timers;
+use crate::list::{Few, place_of};
 use hlr_types::Tid;
-use q773_comp::Component;
 use std::alloc::{AllocError, Global};
 use std::collections::HashMap;
 use std::marker::Model;
@@ -84,36 +77,6 @@ impl Lists {
         }
     }
 
-    /// Applies received components to the invocations of a dialogue and to their timers. The timers come first, as they may be
-    /// refused; on error nothing changes.
-    pub(crate) fn conclude<P>(
-        &mut self,
-        alloc: Global,
-        timers: &mut Timers,
-        id: Tid,
-        components: &[Component<P>],
-        now: u64,
-    ) -> Result<(), AllocError>
-        requires { now ≤ 2 ^ 62 }
-        ensures ok { OnOk result (self.new
-            ≡ put_list self.old id (invocations_after now (map heard components.now)
-            (invocations_at self.old id))) }
-        ensures err { OnErr result (self.new ≡ self.old) }
-        ensures have { HaveTimers self.old timers.old → HaveTimers self.new timers.new }
-    {
-        let key = key_of(id);
-        let Some(list) = self.by_dialogue.get_mut(&key) else {
-            return Ok(());
-        };
-        let after = concluded(alloc, timers, id, list, components, now)?;
-        if !after.is_empty() {
-            *list = after;
-            return Ok(());
-        }
-        self.by_dialogue.remove(&key);
-        Ok(())
-    }
-
     /// Removes the invocations of a dialogue, if it has some.
     pub(crate) fn remove(&mut self, id: Tid) -> Option<Few>
         ensures removed { self.new ≡ put_list self.old id [] }
@@ -160,29 +123,4 @@ fn key_of(id: Tid) -> u64
     ensures { octets_of result ≡ id }
 {
     u64::from(u32::from_le_bytes(id.0))
-}
-
-/// These invocations of a dialogue after received components, and their timers in the index in place of the old ones. On error
-/// the timers are as before.
-fn concluded<P>(
-    alloc: Global,
-    timers: &mut Timers,
-    id: Tid,
-    list: &[Invocation],
-    components: &[Component<P>],
-    now: u64,
-) -> Result<Few, AllocError>
-    requires rising { AreRising list.now }
-    requires early { now ≤ 2 ^ 62 }
-    ensures after { IfOk result (λ after. after.items
-        ≡ invocations_after now (map heard components.now) list.now) }
-    ensures timed { IfOk result (λ after. (t : Timer) → has timers.new t
-        ≡ cond (is_only id list.now after.items t) false
-        (cond (is_only id after.items list.now t) true (has timers.old t))) }
-    ensures err { OnErr result (timers.new ≡ timers.old) }
-{
-    let mut after = copy_of(alloc, list)?;
-    conclude_each(&mut after, components, now);
-    replace_timers(timers, id, list, &after)?;
-    Ok(after)
 }

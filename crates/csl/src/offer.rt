@@ -1,5 +1,6 @@
 //! What received components are checked against, and what they do (Q.774, component sublayer).
 
+use crate::remaining::Remaining;
 use crate::was::Was;
 use hlr_types::Tid;
 use q773_comp::Rejection;
@@ -37,6 +38,8 @@ pub struct Effect {
     pub started: Option<i8>,
     /// The conclusion.
     pub conclusion: Conclusion,
+    /// What is left of the invocations.
+    pub left: Remaining,
 }
 
 /// An own invocation whose timer is due.

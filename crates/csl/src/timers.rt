@@ -3,7 +3,7 @@
 ghost use Rattle.std.specs.Prelude.{◌≡◌, OnOk, OnErr, cond, true, false};
 ghost use Rattle.deadlines.specs.declared.timer.Timer.{Timer};
 ghost use Rattle.deadlines.specs.Index.{has};
-ghost use Rattle.csl.specs.Tables.{has_timer, is_only};
+ghost use Rattle.csl.specs.Tables.{has_timer, is_of, is_only};
 
 use crate::invocation::Invocation;
 use deadlines::Timers;
@@ -17,30 +17,25 @@ fn has_timer(list: &[Invocation], own: &Invocation) -> bool
     list.iter().any(|other| other.is_timed_as(own))
 }
 
-/// Inserts the timers that these invocations of a dialogue have and those others do not, where they are missing. On error
-/// nothing changes.
+/// Inserts the timers of these invocations of a dialogue, where they are missing. On error nothing changes.
 pub(crate) fn insert_timers(
     timers: &mut Timers,
     id: Tid,
     list: &[Invocation],
-    others: &[Invocation],
 ) -> Result<(), AllocError>
     ensures ok { OnOk result ((t : Timer) → has timers.new t
-        ≡ cond (is_only id list.now others.now t) true (has timers.old t)) }
+        ≡ cond (is_of id list.now t) true (has timers.old t)) }
     ensures err { OnErr result (timers.new ≡ timers.old) }
 {
     let [own, rest @ ..] = list else {
         return Ok(());
     };
-    if has_timer(others, own) {
-        return insert_timers(timers, id, rest, others);
-    }
     let timer = own.timer(id);
     let is_new = timers.insert(timer)?;
     if rest.is_empty() {
         return Ok(());
     }
-    let Err(refused) = insert_timers(timers, id, rest, others) else {
+    let Err(refused) = insert_timers(timers, id, rest) else {
         return Ok(());
     };
     if is_new {
@@ -66,21 +61,4 @@ pub(crate) fn remove_timers(
         timers.remove(&own.timer(id));
     }
     remove_timers(timers, id, rest, others);
-}
-
-/// Gives a dialogue the timers of these invocations in place of those that it had. On error nothing changes.
-pub(crate) fn replace_timers(
-    timers: &mut Timers,
-    id: Tid,
-    were: &[Invocation],
-    list: &[Invocation],
-) -> Result<(), AllocError>
-    ensures ok { OnOk result ((t : Timer) → has timers.new t
-        ≡ cond (is_only id were.now list.now t) false
-        (cond (is_only id list.now were.now t) true (has timers.old t))) }
-    ensures err { OnErr result (timers.new ≡ timers.old) }
-{
-    insert_timers(timers, id, list, were)?;
-    remove_timers(timers, id, were, list);
-    Ok(())
 }

@@ -1,5 +1,5 @@
 -- What each call does to the tables.
-use Rattle.std.proofs.Common.{◌≡◌, ◌≢◌, ◌+◌, ◌<◌, ◌≤◌, ◌↔◌, ℕ, ℤ, List, [], Bool, true, false, cond, Option, Some, None, Result, Ok, Err, length, refl, sym, ap, ◌∙◌, subst, arith}
+use Rattle.std.proofs.Common.{◌≡◌, ◌≢◌, ◌+◌, ◌<◌, ◌≤◌, ◌↔◌, ℕ, List, [], Bool, true, false, cond, Option, Some, None, Result, Ok, Err, length, refl, sym, ap, ◌∙◌, subst, arith}
 use Rattle.std.specs.FinMap as finite
 use Rattle.std.specs.List.{slice_index_or, slice_set}
 use Rattle.std.specs.Option.{option_map, is_some, IsNone}
@@ -10,13 +10,12 @@ use Rattle.hlr_types.specs.Orders.{octets_cmp}
 use Rattle.hlr_types.specs.Ids.{IsIdOf}
 use Rattle.machine.specs.Keys.{put, same}
 use Rattle.machine.specs.State.{Invocation, Transaction, Dialogue}
-use Rattle.machine.specs.Expiries.{without}
 use Rattle.machine_laws.proofs.Keys.{same_is, same_not, same_refl}
 use Rattle.tidalloc.specs.LiveIds.{slot_of}
 use Rattle.tsl.specs.Transactions.{OpenTransactions, Begins, HaveOwnSlots, MayBegin, at, closed, none_open, slot_if_open, count, with_transaction}
 use Rattle.csl.specs.Tables.{InvocationLists, invocations_at, put_list, list_in}
 use Rattle.dialogues.specs.declared.talk.Talk.{Talk}
-use Rattle.dialogues.specs.Dialogues.{OpenDialogues, IsFresh, dialogues_of, forgotten}
+use Rattle.dialogues.specs.Dialogues.{OpenDialogues, IsFresh, dialogues_of}
 use Rattle.dialogues.specs.Joined.{no_talk, talk_of, dialogue_from, dialogue_at, joined, AreTied}
 use Rattle.dialogues.proofs.JoinLemmas.{dialogues-joined, transaction_open}
 use Rattle.dialogues.proofs.ChangeLemmas.{ChangesAt, some≢none, get-inserted, at-closed, count-closed, count-set, count-opened, invocations-put, changed, tied_changed, same_joined}
@@ -177,41 +176,44 @@ module _ (id next : List ℕ) (apart : id ≢ next) (vs : List Invocation) (list
 pub next_apart : (t : OpenTransactions) (id next : List ℕ) → MayBegin (closed t id) next → id ≢ next
 next_apart t id next may e = may.not_freed_last (ap Some e)
 
--- ---- one goes on
-module _ (id : List ℕ) (t t' : OpenTransactions) (lists lists' : InvocationLists) (talks : List Talk) (x : Transaction) (vs : List Invocation)
-    (sets : t' ≡ with_transaction t id x) (moves : lists' ≡ put_list lists id vs) where
-  changes_going : ChangesAt id (Some x) vs t t' lists lists' talks talks
-  changes_going = record {
+-- ---- one is Active
+module _ (id : List ℕ) (t t' : OpenTransactions) (lists : InvocationLists) (talks : List Talk) (x : Transaction) (sets : t' ≡ with_transaction t id x) where
+  changes_active : ChangesAt id (Some x) (invocations_at lists id) t t' lists lists talks talks
+  changes_active = record {
     transactions = λ q. ap (λ (s : OpenTransactions). at s q) sets ∙ get-inserted t.open_ones id x q;
-    invocations = λ q. ap (λ (l : InvocationLists). invocations_at l q) moves ∙ invocations-put lists id vs q;
+    invocations = λ q. by q (same id q) refl;
     others = λ q some e. refl;
   }
+    where
+      by : (q : List ℕ) (b : Bool) → same id q ≡ b → invocations_at lists q ≡ cond b (invocations_at lists id) (invocations_at lists q)
+      by q true e = ap (invocations_at lists) (sym (same_is id q e))
+      by q false e = refl
 
-  pub dialogues_going : (d : OpenDialogues) (f : Dialogue → Dialogue) → joined t lists talks ≡ d → at t id ≢ None
-      → ((s : Transaction) → f (dialogue_at lists talks id s) ≡ dialogue_from (talk_of talks id) vs x)
-      → dialogues_of (joined t' lists' talks) ≡ put (dialogues_of d) id (option_map f (dialogues_of d id))
-  dialogues_going d f view some same_as =
-      changed id (Some x) vs t t' lists lists' talks talks changes_going
+  pub dialogues_active : (d : OpenDialogues) (f : Dialogue → Dialogue) → joined t lists talks ≡ d → at t id ≢ None
+      → ((s : Transaction) → f (dialogue_at lists talks id s) ≡ dialogue_at lists talks id x)
+      → dialogues_of (joined t' lists talks) ≡ put (dialogues_of d) id (option_map f (dialogues_of d id))
+  dialogues_active d f view some same_as =
+      changed id (Some x) (invocations_at lists id) t t' lists lists talks talks changes_active
       ∙ ap (put (dialogues_of (joined t lists talks)) id) (sym (ap (option_map f) (dialogues-joined t lists talks id) ∙ by (at t id) some))
       ∙ ap (λ (e : OpenDialogues). put (dialogues_of e) id (option_map f (dialogues_of e id))) view
     where
-      by : (o : Option Transaction) → o ≢ None → option_map f (option_map (dialogue_at lists talks id) o) ≡ Some (dialogue_from (talk_of talks id) vs x)
+      by : (o : Option Transaction) → o ≢ None → option_map f (option_map (dialogue_at lists talks id) o) ≡ Some (dialogue_at lists talks id x)
       by None n = absurd (n refl)
       by (Some s) n = ap Some (same_as s)
 
-  pub tied_going : AreTied t lists talks → at t id ≢ None → AreTied t' lists' talks
-  tied_going tied some =
-      tied_changed id (Some x) vs t t' lists lists' talks talks changes_going tied (omega arith) (λ _. tied.have_talks id some) (λ e. absurd (some≢none x e))
-      (λ _. tied.of_shard id some)
+  pub tied_active : AreTied t lists talks → at t id ≢ None → AreTied t' lists talks
+  tied_active tied some =
+      tied_changed id (Some x) (invocations_at lists id) t t' lists lists talks talks changes_active tied (omega arith) (λ _. tied.have_talks id some)
+      (λ e. absurd (some≢none x e)) (λ _. tied.of_shard id some)
       (ap (λ (s : OpenTransactions). s.shard) sets) (omega (arith, ap count sets ∙ count-set t id x some, tied.few))
 
--- ---- one forgets an invocation
-module _ (id : List ℕ) (invoke : ℤ) (t : OpenTransactions) (lists lists' : InvocationLists) (talks : List Talk)
-    (forgets : lists' ≡ put_list lists id (without invoke (invocations_at lists id))) where
-  changes_forgetting : ChangesAt id (at t id) (without invoke (invocations_at lists id)) t t lists lists' talks talks
-  changes_forgetting = record {
+-- ---- one keeps these invocations
+module _ (id : List ℕ) (vs : List Invocation) (t : OpenTransactions) (lists lists' : InvocationLists) (talks : List Talk)
+    (keeps : lists' ≡ put_list lists id vs) where
+  changes_keeping : ChangesAt id (at t id) vs t t lists lists' talks talks
+  changes_keeping = record {
     transactions = λ q. by q (same id q) refl;
-    invocations = λ q. ap (λ (l : InvocationLists). invocations_at l q) forgets ∙ invocations-put lists id (without invoke (invocations_at lists id)) q;
+    invocations = λ q. ap (λ (l : InvocationLists). invocations_at l q) keeps ∙ invocations-put lists id vs q;
     others = λ q some e. refl;
   }
     where
@@ -219,20 +221,19 @@ module _ (id : List ℕ) (invoke : ℤ) (t : OpenTransactions) (lists lists' : I
       by q true e = ap (at t) (sym (same_is id q e))
       by q false e = refl
 
-  pub dialogues_forgetting : (d : OpenDialogues) → joined t lists talks ≡ d
-      → dialogues_of (joined t lists' talks) ≡ put (dialogues_of d) id (option_map (forgotten invoke) (dialogues_of d id))
-  dialogues_forgetting d view =
-      changed id (at t id) (without invoke (invocations_at lists id)) t t lists lists' talks talks changes_forgetting
-      ∙ ap (put (dialogues_of (joined t lists talks)) id) (sym (ap (option_map (forgotten invoke)) (dialogues-joined t lists talks id) ∙ by (at t id)))
-      ∙ ap (λ (e : OpenDialogues). put (dialogues_of e) id (option_map (forgotten invoke) (dialogues_of e id))) view
+  pub dialogues_keeping : (d : OpenDialogues) (f : Dialogue → Dialogue) → joined t lists talks ≡ d
+      → ((s : Transaction) → f (dialogue_at lists talks id s) ≡ dialogue_from (talk_of talks id) vs s)
+      → dialogues_of (joined t lists' talks) ≡ put (dialogues_of d) id (option_map f (dialogues_of d id))
+  dialogues_keeping d f view same_as =
+      changed id (at t id) vs t t lists lists' talks talks changes_keeping
+      ∙ ap (put (dialogues_of (joined t lists talks)) id) (sym (ap (option_map f) (dialogues-joined t lists talks id) ∙ by (at t id)))
+      ∙ ap (λ (e : OpenDialogues). put (dialogues_of e) id (option_map f (dialogues_of e id))) view
     where
-      by : (o : Option Transaction) → option_map (forgotten invoke) (option_map (dialogue_at lists talks id) o)
-          ≡ option_map (dialogue_from (talk_of talks id) (without invoke (invocations_at lists id))) o
+      by : (o : Option Transaction) → option_map f (option_map (dialogue_at lists talks id) o) ≡ option_map (dialogue_from (talk_of talks id) vs) o
       by None = refl
-      by (Some s) = refl
+      by (Some s) = ap Some (same_as s)
 
-  pub tied_forgetting : AreTied t lists talks → AreTied t lists' talks
-  tied_forgetting tied =
-      tied_changed id (at t id) (without invoke (invocations_at lists id)) t t lists lists' talks talks changes_forgetting tied (omega arith)
-      (tied.have_talks id)
-      (λ none. ap (without invoke) (tied.only_open id none)) (tied.of_shard id) refl tied.few
+  pub tied_keeping : AreTied t lists talks → (at t id ≡ None → vs ≡ []) → AreTied t lists' talks
+  tied_keeping tied none =
+      tied_changed id (at t id) vs t t lists lists' talks talks changes_keeping tied (omega arith)
+      (tied.have_talks id) none (tied.of_shard id) refl tied.few

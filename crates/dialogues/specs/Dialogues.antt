@@ -3,9 +3,7 @@ use Rattle.std.specs.Prelude.{◌≡◌, ℕ, ℤ, List, [], Option, Some, None,
 use Rattle.std.specs.Coded.{Coded, code_by, coded×, coded_ℕ, coded_option}
 use Rattle.std.specs.FinMap as map
 use Rattle.hlr_types.specs.Orders.{octets_cmp}
-use Rattle.machine.specs.Effect.{invocations_after}
 use Rattle.machine.specs.Expiries.{without}
-use Rattle.machine.specs.Received.{ComponentOf}
 use Rattle.machine.specs.State.{Invocation, Dialogue, IsIdOf}
 use Rattle.tsl.specs.Transactions.{active}
 use Rattle.dialogues.specs.Codes.{coded_octets, coded_dialogue}
@@ -47,11 +45,13 @@ pub record IsNew (d : OpenDialogues) (id : List ℕ) : Type 0 where
   pub of_shard : IsIdOf d.shard id
   pub not_open : dialogues_of d id ≡ None
 
--- A dialogue after a Continue (Q.774): Active, with this peer and this remote id, and its invocations as the components leave
--- them.
-abbrev pub gone_on : {P : Type 0} → (peer remote : List ℕ) → (now : ℕ) → List (ComponentOf P) → Dialogue → Dialogue
-gone_on peer remote now components d =
-    record d { transaction = active peer remote; invocations = invocations_after now components d.invocations }
+-- A dialogue that is Active after a Continue (Q.774), with this peer and this remote id.
+abbrev pub activated : (peer remote : List ℕ) → Dialogue → Dialogue
+activated peer remote d = record d { transaction = active peer remote }
+
+-- A dialogue that goes on with these invocations.
+abbrev pub gone_on : (left : List Invocation) → Dialogue → Dialogue
+gone_on left d = record d { invocations = left }
 
 -- A dialogue without the invocation of this id.
 abbrev pub forgotten : ℤ → Dialogue → Dialogue

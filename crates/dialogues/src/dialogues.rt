@@ -16,7 +16,7 @@ ghost use Rattle.csl.specs.Tables.{first_invoked};
 use crate::dialogue::Dialogue;
 use crate::parts::{begin, close, make_room, reserve, slot_of};
 use crate::talk::Talk;
-use csl::{Due, Effect, Invocations, Offer, Was};
+use csl::{Due, Effect, Invocations, Offer, Remaining, Was};
 use hlr_types::{Peer, RemoteId, Tid};
 use q773_comp::Component;
 use std::alloc::{AllocError, Global};
@@ -47,7 +47,7 @@ impl Model for Dialogues {
 }
 
 impl Dialogues {
-    ghost use Rattle.dialogues.specs.Dialogues.{IsFresh, IsNew, count, dialogues_of, invocations_in, gone_on, forgotten};
+    ghost use Rattle.dialogues.specs.Dialogues.{IsFresh, IsNew, activated, count, dialogues_of, invocations_in, gone_on, forgotten};
     ghost use Rattle.dialogues.specs.Expiring.{HasDialogues, expiry_turn};
     ghost use Rattle.dialogues.specs.Looking.{looked};
     ghost use Rattle.dialogues.specs.Seen.{dialogue_with};
@@ -89,7 +89,7 @@ impl Dialogues {
         self.transactions.look(head)
     }
 
-    /// Returns what received components do to the invocations of a dialogue. Changes nothing.
+    /// Returns what received components do to the invocations of a dialogue, and what they leave of them. Changes nothing.
     pub fn effect<P>(
         &self,
         id: Tid,
@@ -238,27 +238,26 @@ impl Dialogues {
         Ok(begin(&mut self.transactions, &mut self.talks, dialogue))
     }
 
-    /// An open dialogue goes on after a Continue (Q.774): it is Active, with this peer and this remote id, and the components are
-    /// applied to its invocations. On error nothing changes.
-    pub fn go_on<P>(
-        &mut self,
-        id: Tid,
-        peer: Peer,
-        remote: RemoteId,
-        components: &[Component<P>],
-        now: u64,
-    ) -> Result<(), AllocError>
-        requires is_open { dialogues_of self.old id ≢ None }
-        requires early { now ≤ 2 ^ 62 }
+    /// An open dialogue goes on with these invocations in place of its own. On error nothing changes.
+    pub fn go_on(&mut self, id: Tid, left: &Remaining) -> Result<(), AllocError>
+        requires { dialogues_of self.old id ≢ None }
         ensures ok { OnOk result (dialogues_of self.new ≡ put (dialogues_of self.old) id
-            (option_map (gone_on peer remote now (map heard components.now))
-            (dialogues_of self.old id))) }
+            (option_map (gone_on left.now) (dialogues_of self.old id))) }
         ensures shard { self.new.shard ≡ self.old.shard }
         ensures err { OnErr result (self.new ≡ self.old) }
     {
-        self.invocations.conclude(id, components, now)?;
-        self.transactions.set(id, peer, remote);
+        self.invocations.leave(id, left)?;
         Ok(())
+    }
+
+    /// An open dialogue is Active after a Continue (Q.774), with this peer and this remote id. Does not allocate.
+    pub fn activate(&mut self, id: Tid, peer: Peer, remote: RemoteId)
+        requires { dialogues_of self.old id ≢ None }
+        ensures active { dialogues_of self.new ≡ put (dialogues_of self.old) id
+            (option_map (activated peer remote) (dialogues_of self.old id)) }
+        ensures shard { self.new.shard ≡ self.old.shard }
+    {
+        self.transactions.set(id, peer, remote);
     }
 
     /// Makes an invocation of a dialogue Idle, if there is one. Does not allocate.

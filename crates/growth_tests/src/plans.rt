@@ -88,7 +88,7 @@ fn opens(alloc: Global, shard: &mut ShardParts) -> Option<bool> {
     if !shard.has_room(&plan) {
         return None;
     }
-    Some(shard.settle(plan, &[]).is_ok())
+    Some(shard.settle(plan).is_ok())
 }
 
 /// Whether a cancel opens, or an allocation fails and nothing changes.

@@ -25,12 +25,12 @@ pub closing_planned : (s : ShardState) (destination : List ℕ) (o : Opened) (fo
     → IsForIt s.dialogues (End destination) o → option_copied found ≡ finite.get s.records o.dialogue.subscriber
     → ((here : Local) (name : Option Dialogue) → here.record_of ≡ known found → outcome_of here name [] does ≡ closes here o.id)
     → CanBeWritten does.after (option_copied found) → IsPlanFor o.dialogue.subscriber (Open o.id) o.new does plan
-    → IsPlan s (close_at destination (dialogues_of s.dialogues destination)) [] plan
+    → IsPlan s (close_at destination (dialogues_of s.dialogues destination)) plan
 closing_planned s destination o found does plan for_it copied leaves can_write parts =
     let imsi = o.dialogue.subscriber in
     let turn : Closes o.id (seen_as s.dialogues o) ≡ close_at destination (dialogues_of s.dialogues destination) =
     ap (close_at o.id) (sym for_it.opened.is_open) ∙ ap (λ id. close_at id (dialogues_of s.dialogues id)) for_it.at in
-    subst (λ (t : Turn). IsPlan s t [] plan) turn
-    (planned s (Closes o.id (seen_as s.dialogues o)) [] imsi (Open o.id) o.new does plan parts
+    subst (λ (t : Turn). IsPlan s t plan) turn
+    (planned s (Closes o.id (seen_as s.dialogues o)) imsi (Open o.id) o.new does plan parts
     (is_there s o for_it.opened) (for_it.opened.next, for_it.opened.is_new) (written s imsi found does copied can_write) tt refl refl refl
     (sym (leaves (local_of (state_of s) s.shard imsi) (dialogues_of s.dialogues o.id) (record_seen s (Some imsi) found copied))))

@@ -98,7 +98,7 @@ expiry_planned s due o found current does plan expiry_is same opened copied regi
       turn = Expires due.id d due.invoke (was due.was);
       expiry = subst (λ (t : Turn). Expiry (state_of s) s.shard t) is expiry_is;
       planned =
-          planned s (Expires due.id d due.invoke (was due.was)) [] imsi (Open o.id) o.new does plan parts
+          planned s (Expires due.id d due.invoke (was due.was)) imsi (Open o.id) o.new does plan parts
           (is_there s o opened) (opened.next, opened.is_new) (written s imsi found does copied can_write) tt refl (λ i. Some (sym same i)) refl
           (sym (leaves here (invocations_in (dialogues_of s.dialogues o.id)) (imsi_seen s imsi) (record_seen s (Some imsi) found copied) register)
           ∙ ap (λ (x : Option machine.Dialogue). outcome_of here x [] does) (sym opened.is_open));

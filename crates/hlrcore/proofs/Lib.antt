@@ -1,5 +1,6 @@
 pub mod OpeningLemmas
 pub mod RecordLemmas
+pub mod ChangingLemmas
 pub mod SettleLemmas
 pub mod RoomLemmas
 pub mod SeenLemmas

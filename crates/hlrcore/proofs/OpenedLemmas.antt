@@ -6,8 +6,6 @@ use Rattle.std.specs.FinMap as finite
 use Rattle.machine.specs.State.{local_of}
 use Rattle.machine.specs.Step.{outcome_in, subject_of}
 use Rattle.machine.specs.Turns.{Turn, concern, named}
-use Rattle.q773_comp.specs.declared.component.Component.{Component}
-use Rattle.msgarena.specs.declared.parameter.Parameter.{Parameter}
 use Rattle.records.specs.Subscriber.{Subscriber, AreAllowed}
 use Rattle.dialogues.specs.Dialogues.{dialogues_of}
 use Rattle.location.specs.declared.outcome.Outcome.{Outcome}
@@ -41,15 +39,15 @@ from_parts plan subscriber name new o h = λ i. record plan {
 some≢none : {X : Type 0} {x : X} → Some x ≡ None → ⊥
 some≢none e = absurd cc
 
-pub planned : (s : ShardState) (turn : Turn) (cs : List (Component Parameter)) (subscriber : List ℕ) (name : Named) (new : List ℕ) (o : Outcome) (plan : Plan)
+pub planned : (s : ShardState) (turn : Turn) (subscriber : List ℕ) (name : Named) (new : List ℕ) (o : Outcome) (plan : Plan)
     → IsPlanFor subscriber name new o plan
     → IfSome (id_of name) (λ id. dialogues_of s.dialogues id ≢ None) → IsNextId s name new
     → CanBeWritten o.after (finite.get s.records subscriber) → IsForgetting name o.dialogue
     → concern (directory_of s.directory) turn ≡ Some subscriber → named turn ≡ id_of name → subject_of (state_of s) turn ≡ Some subscriber
-    → outcome_in (state_of s) s.shard turn new ≡ outcome_of (local_of (state_of s) s.shard subscriber) (named_as s cs name) [] o
-    → IsPlan s turn cs plan
-planned s turn cs subscriber name new o plan h open_one next can_write keeps concerned names subject does =
-    subst (λ (p : Plan). IsPlan s turn cs p) (from_parts plan subscriber name new o h) (record {
+    → outcome_in (state_of s) s.shard turn new ≡ outcome_of (local_of (state_of s) s.shard subscriber) (named_as s name) [] o
+    → IsPlan s turn plan
+planned s turn subscriber name new o plan h open_one next can_write keeps concerned names subject does =
+    subst (λ (p : Plan). IsPlan s turn p) (from_parts plan subscriber name new o h) (record {
       can = record {
         is_open = open_one;
         writable = can_write;
@@ -60,7 +58,7 @@ planned s turn cs subscriber name new o plan h open_one next can_write keeps con
       };
       concern_is = concerned;
       named_is = names;
-      leaves = does ∙ ap (λ codes. outcome_of (local_of (state_of s) s.shard subscriber) (named_as s cs name) codes o) (sym h.no_codes);
+      leaves = does ∙ ap (λ codes. outcome_of (local_of (state_of s) s.shard subscriber) (named_as s name) codes o) (sym h.no_codes);
       subject_is = sym subject;
     })
 

@@ -48,7 +48,7 @@ subject_is s (Some x) (Some f) is own = sym own ∙ ap (λ o. if_known x (option
 opens_some : (clock : ℕ) (stays : DialogueChange) → IsOpening stays → IsTrue (is_some (opens_of clock stays))
 opens_some clock Closes h = absurd h
 opens_some clock (Opens opening) h = refl
-opens_some clock GoesOn h = absurd h
+opens_some clock (GoesOn left) h = absurd h
 opens_some clock (Forgets invoke) h = absurd h
 
 nobody_known : (s : ShardState) (c : Option (List ℕ)) → c ≡ None → IsTrue (is_some (seen (state_of s) s.shard c).record_of) → ⊥
@@ -80,8 +80,8 @@ module _ (s : ShardState) (imsi : Option (List ℕ)) (found : Option (Bor Subscr
   -- The plan is what the turn does.
   made : (turn : Turn) → concern (directory_of s.directory) turn ≡ imsi → named turn ≡ None → subject_of (state_of s) turn ≡ known_in (state_of s) imsi
       → (outcome.after ≡ NewCodes → AreAllowed codes) → (imsi ≡ None → IsOpening outcome.dialogue → ⊥)
-      → outcome_in (state_of s) s.shard turn new ≡ outcome_of here None codes outcome → IsPlan s turn [] plan
-  made turn concern_is named_is subject allowed concerned leaves = subst (IsPlan s turn []) (sym plan_is) (record {
+      → outcome_in (state_of s) s.shard turn new ≡ outcome_of here None codes outcome → IsPlan s turn plan
+  made turn concern_is named_is subject allowed concerned leaves = subst (IsPlan s turn) (sym plan_is) (record {
     can = can_settle allowed concerned;
     concern_is = concern_is;
     named_is = named_is;
@@ -93,7 +93,7 @@ module _ (s : ShardState) (imsi : Option (List ℕ)) (found : Option (Bor Subscr
   pub begin_plan : (from origin : List ℕ) (name : Option (List ℕ)) (cs : List Component) → imsi ≡ subject_of_begin (directory_of s.directory) cs → codes ≡ []
       → ((here : Local) → here.clock ≡ s.clock → IfSome found (λ f. f.now.imsi ≡ here.imsi) → here.record_of ≡ known found
       → outcome_of here None [] outcome ≡ begins here from origin name cs new)
-      → IsPlan s (Begins from origin name cs) [] plan
+      → IsPlan s (Begins from origin name cs) plan
   unfolding state_of
   begin_plan from origin name cs asked_is none leaves =
       let outcome_here : outcome_of here None [] outcome ≡ begins here from origin name cs new
@@ -108,7 +108,7 @@ module _ (s : ShardState) (imsi : Option (List ℕ)) (found : Option (Bor Subscr
   pub change_plan : (x items : List ℕ) (change : Change) → imsi ≡ Some x → codes ≡ items → AreAllowed items
       → ((here : Local) → IfSome found (λ f. f.now.imsi ≡ here.imsi) → here.record_of ≡ known found
       → outcome_of here None items outcome ≡ changes here change (known found) new)
-      → IsPlan s (Changes x change) [] plan
+      → IsPlan s (Changes x change) plan
   unfolding state_of
   change_plan x items change imsi_is has allowed leaves =
       let known_is = record_seen s imsi found found_is in
@@ -121,5 +121,5 @@ module _ (s : ShardState) (imsi : Option (List ℕ)) (found : Option (Bor Subscr
   pub withdrawal_plan : (x : List ℕ) → imsi ≡ Some x → codes ≡ []
       → ((here : Local) → IfSome found (λ f. f.now.imsi ≡ here.imsi) → here.record_of ≡ known found
       → outcome_of here None [] outcome ≡ changes here Withdraw (known found) new)
-      → IsPlan s (Changes x Withdraw) [] plan
+      → IsPlan s (Changes x Withdraw) plan
   withdrawal_plan x imsi_is none leaves = change_plan x [] Withdraw imsi_is none none_allowed leaves

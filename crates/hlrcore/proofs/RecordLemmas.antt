@@ -38,7 +38,7 @@ cond_twice : {X : Type 0} (b : Bool) (v w o : X) → cond b w (cond b v o) ≡ c
 cond_twice true v w o = refl
 cond_twice false v w o = refl
 
-put_twice : {X : Type 0} (m : List ℕ → X) (k : List ℕ) (v w : X) → put (put m k v) k w ≡ put m k w
+pub put_twice : {X : Type 0} (m : List ℕ → X) (k : List ℕ) (v w : X) → put (put m k v) k w ≡ put m k w
 unfolding put
 put_twice m k v w = λ i q. cond_twice (same k q) v w (m q) i
 

@@ -4,8 +4,6 @@ use Rattle.std.specs.Prelude.{IfSome}
 use Rattle.machine.specs.State as machine
 use Rattle.machine.specs.State.{local_of, local_of_nobody}
 use Rattle.machine.specs.Step.{moved, named_stays, new_opens, seen, taken}
-use Rattle.q773_comp.specs.declared.component.Component.{Component}
-use Rattle.msgarena.specs.declared.parameter.Parameter.{Parameter}
 use Rattle.records.specs.Maps.{RecordMap}
 use Rattle.dialogues.specs.Dialogues.{OpenDialogues, IsNew, dialogues_of}
 use Rattle.location.specs.declared.outcome.Outcome.{Outcome}
@@ -32,19 +30,19 @@ is_next s (Continued id peer remote) new h = h.0
 
 -- ---- the dialogue that is named
 
-pub same_named : (s : ShardState) (cs : List (Component Parameter)) (named : Named)
-    → named_among s.clock cs named (dialogues_of s.dialogues) ≡ named_as s cs named
-same_named s cs Nothing = refl
-same_named s cs (Open id) = refl
-same_named s cs (Continued id peer remote) = refl
+pub same_named : (s : ShardState) (named : Named)
+    → named_among named (dialogues_of s.dialogues) ≡ named_as s named
+same_named s Nothing = refl
+same_named s (Open id) = refl
+same_named s (Continued id peer remote) = refl
 
 -- if none is named and none opens, nothing changes
-nothing_changes : (clock : ℕ) (cs : List (Component Parameter)) (stays : DialogueChange) (new : List ℕ) (open_ones : List ℕ → Option machine.Dialogue)
-    → (IsOpening stays → ⊥) → changed clock cs Nothing stays new open_ones ≡ open_ones
-nothing_changes clock cs Closes new open_ones h = refl
-nothing_changes clock cs (Opens opening) new open_ones h = absurd (h tt)
-nothing_changes clock cs GoesOn new open_ones h = refl
-nothing_changes clock cs (Forgets invoke) new open_ones h = refl
+nothing_changes : (clock : ℕ) (stays : DialogueChange) (new : List ℕ) (open_ones : List ℕ → Option machine.Dialogue)
+    → (IsOpening stays → ⊥) → changed clock Nothing stays new open_ones ≡ open_ones
+nothing_changes clock Closes new open_ones h = refl
+nothing_changes clock (Opens opening) new open_ones h = absurd (h tt)
+nothing_changes clock (GoesOn left) new open_ones h = refl
+nothing_changes clock (Forgets invoke) new open_ones h = refl
 
 -- ---- the state
 
@@ -57,17 +55,17 @@ here_clock s None = own_clock s.shard s.clock
 here_clock s (Some imsi) = own_clock s.shard s.clock
 
 -- the changes of the records and of the dialogues are those of the machine's state
-module _ (s : ShardState) (cs : List (Component Parameter)) (named : Named) (new codes : List ℕ) (o : Outcome) (records : RecordMap) (d : OpenDialogues) where
+module _ (s : ShardState) (named : Named) (new codes : List ℕ) (o : Outcome) (records : RecordMap) (d : OpenDialogues) where
   state_after : (imsi : Option (List ℕ)) → (imsi ≡ None → (named ≡ Nothing) × (IsOpening o.dialogue → ⊥))
       → records_of records ≡ written codes o.after imsi (records_of s.records)
-      → dialogues_of d ≡ changed s.clock cs named o.dialogue new (dialogues_of s.dialogues)
+      → dialogues_of d ≡ changed s.clock named o.dialogue new (dialogues_of s.dialogues)
       → state_of (shard_of_fields s.shard s.clock records d s.directory s.hlr)
-      ≡ moved (state_of s) imsi (id_of named) new (outcome_of (seen (state_of s) s.shard imsi) (named_as s cs named) codes o)
+      ≡ moved (state_of s) imsi (id_of named) new (outcome_of (seen (state_of s) s.shard imsi) (named_as s named) codes o)
   unfolding state_of local_of local_of_nobody
   state_after None nobody written_so changed_so =
       let same : dialogues_of d ≡ dialogues_of s.dialogues =
-      changed_so ∙ ap (λ n. changed s.clock cs n o.dialogue new (dialogues_of s.dialogues)) (nobody refl).0
-      ∙ nothing_changes s.clock cs o.dialogue new (dialogues_of s.dialogues) (nobody refl).1 in
+      changed_so ∙ ap (λ n. changed s.clock n o.dialogue new (dialogues_of s.dialogues)) (nobody refl).0
+      ∙ nothing_changes s.clock o.dialogue new (dialogues_of s.dialogues) (nobody refl).1 in
       λ i. record {
         records = written_so i;
         dialogues = same i;
@@ -77,11 +75,11 @@ module _ (s : ShardState) (cs : List (Component Parameter)) (named : Named) (new
       }
   state_after (Some imsi) nobody written_so changed_so =
       let moves : dialogues_of d ≡ new_opens new (opens_of (cond (s.shard == s.shard) s.clock 0) o.dialogue)
-      (named_stays (id_of named) (stays_of (named_as s cs named) o.dialogue) (dialogues_of s.dialogues)) =
+      (named_stays (id_of named) (stays_of (named_as s named) o.dialogue) (dialogues_of s.dialogues)) =
       changed_so
       ∙ ap (λ n. new_opens new (opens_of s.clock o.dialogue) (named_stays (id_of named) (stays_of n o.dialogue) (dialogues_of s.dialogues)))
-      (same_named s cs named)
-      ∙ ap (λ t. new_opens new (opens_of t o.dialogue) (named_stays (id_of named) (stays_of (named_as s cs named) o.dialogue) (dialogues_of s.dialogues)))
+      (same_named s named)
+      ∙ ap (λ t. new_opens new (opens_of t o.dialogue) (named_stays (id_of named) (stays_of (named_as s named) o.dialogue) (dialogues_of s.dialogues)))
       (sym (own_clock s.shard s.clock)) in
       λ i. record {
         records = written_so i;
@@ -91,12 +89,12 @@ module _ (s : ShardState) (cs : List (Component Parameter)) (named : Named) (new
         hlr = s.hlr;
       }
 
-pub settles : (s : ShardState) (cs : List (Component Parameter)) (plan : Plan) (records : RecordMap) (d : OpenDialogues) → CanSettle s plan
+pub settles : (s : ShardState) (plan : Plan) (records : RecordMap) (d : OpenDialogues) → CanSettle s plan
     → records_of records ≡ written plan.codes plan.outcome.after plan.imsi (records_of s.records)
-    → dialogues_of d ≡ changed s.clock cs plan.named plan.outcome.dialogue plan.new (dialogues_of s.dialogues)
-    → state_of (shard_of_fields s.shard s.clock records d s.directory s.hlr) ≡ state_after_plan s cs plan
-settles s cs plan records d can written_so changed_so =
-    state_after s cs plan.named plan.new plan.codes plan.outcome records d plan.imsi can.concerned written_so changed_so
+    → dialogues_of d ≡ changed s.clock plan.named plan.outcome.dialogue plan.new (dialogues_of s.dialogues)
+    → state_of (shard_of_fields s.shard s.clock records d s.directory s.hlr) ≡ state_after_plan s plan
+settles s plan records d can written_so changed_so =
+    state_after s plan.named plan.new plan.codes plan.outcome records d plan.imsi can.concerned written_so changed_so
 
 -- ---- from what the calls tell
 
@@ -104,18 +102,18 @@ module _ (before s : ShardState) (plan : Plan) (clock : ℕ) (is : before ≡ s)
   next : IsNext before.dialogues (id_of plan.named) plan.new
   next = subst (λ (t : ShardState). IsNext t.dialogues (id_of plan.named) plan.new) (sym is) (is_next s plan.named plan.new can.next_id)
 
-  pub settled_by : (cs : List (Component Parameter)) (records : RecordMap) (d : OpenDialogues)
+  pub settled_by : (records : RecordMap) (d : OpenDialogues)
       → records_of records ≡ written plan.codes plan.outcome.after plan.imsi (records_of before.records)
       → ((new : List ℕ) → IsNext before.dialogues (id_of plan.named) new
-      → dialogues_of d ≡ changed clock cs plan.named plan.outcome.dialogue new (dialogues_of before.dialogues))
-      → state_of (record before { records = records; dialogues = d }) ≡ state_after_plan s cs plan
-  settled_by cs records d written_so changed_so =
+      → dialogues_of d ≡ changed clock plan.named plan.outcome.dialogue new (dialogues_of before.dialogues))
+      → state_of (record before { records = records; dialogues = d }) ≡ state_after_plan s plan
+  settled_by records d written_so changed_so =
       ap (λ (t : ShardState). state_of (record t { records = records; dialogues = d })) is
-      ∙ settles s cs plan records d can
+      ∙ settles s plan records d can
       (written_so ∙ ap (λ (t : ShardState). written plan.codes plan.outcome.after plan.imsi (records_of t.records)) is)
       (changed_so plan.new next
-      ∙ ap (λ k. changed k cs plan.named plan.outcome.dialogue plan.new (dialogues_of before.dialogues)) at
-      ∙ ap (λ (t : ShardState). changed s.clock cs plan.named plan.outcome.dialogue plan.new (dialogues_of t.dialogues)) is)
+      ∙ ap (λ k. changed k plan.named plan.outcome.dialogue plan.new (dialogues_of before.dialogues)) at
+      ∙ ap (λ (t : ShardState). changed s.clock plan.named plan.outcome.dialogue plan.new (dialogues_of t.dialogues)) is)
 
   pub taken_by : (id : Option (List ℕ))
       → ((new : List ℕ) → IsNext before.dialogues (id_of plan.named) new → id ≡ taken new (opens_of clock plan.outcome.dialogue))

@@ -1,5 +1,5 @@
 -- A plan that is carried out, as a step of the machine over octets; and one for which there is no room.
-use Rattle.std.proofs.Common.{◌≡◌, ◌≢◌, ℕ, List, [], Option, Some, None, is_some, IsTrue, refl, sym, ap, ◌∙◌, subst}
+use Rattle.std.proofs.Common.{◌≡◌, ◌≢◌, ℕ, List, Option, Some, None, is_some, IsTrue, refl, sym, ap, ◌∙◌, subst}
 use Rattle.std.specs.Prelude.{IfSome}
 use Rattle.machine.specs.Received.{Component}
 use Rattle.machine.specs.Sent.{SentAbort, Cause}
@@ -11,8 +11,6 @@ use Rattle.machine.specs.Keys.{shard_of}
 use Rattle.machine.specs.Routing.{route}
 use Rattle.machine.specs.Step.{Answer, Full, HasNoRoom, IsNewId, WouldOverflow, moved, outcome_in, taken, ticked}
 use Rattle.frames.specs.Octets.{RawEvent}
-use Rattle.q773_comp.specs.declared.component.Component as code
-use Rattle.msgarena.specs.declared.parameter.Parameter.{Parameter}
 use Rattle.dialogues.specs.Dialogues.{IsNew}
 use Rattle.location.specs.declared.outcome.DialogueChange.{DialogueChange}
 use Rattle.location.specs.declared.outcome.DialogueChange.TheVariants.{Closes, Opens, GoesOn, Forgets}
@@ -34,13 +32,13 @@ use Rattle.hlrcore.proofs.TurnLemmas.{IsForOpen}
 opens_in : (clock : ℕ) (stays : DialogueChange) → IsTrue (is_some (opens_of clock stays)) → IsOpening stays
 opens_in clock Closes e = absurd cc
 opens_in clock (Opens o) e = tt
-opens_in clock GoesOn e = absurd cc
+opens_in clock (GoesOn left) e = absurd cc
 opens_in clock (Forgets invoke) e = absurd cc
 
 opens_out : (clock : ℕ) (stays : DialogueChange) → IsOpening stays → IsTrue (is_some (opens_of clock stays))
 opens_out clock Closes e = absurd e
 opens_out clock (Opens o) e = cc
-opens_out clock GoesOn e = absurd e
+opens_out clock (GoesOn left) e = absurd e
 opens_out clock (Forgets invoke) e = absurd e
 
 -- ---- the id that it takes is new
@@ -64,25 +62,25 @@ concern_here : (s : ShardState) (turn : Turn) (c : Option (List ℕ)) → concer
 unfolding state_of
 concern_here s turn c e = e
 
-pub settled_step : (s t : ShardState) (raw : RawEvent) (e : Event) (turn : Turn) (cs : List (code.Component Parameter)) (plan : Plan) (a : StepAnswer)
+pub settled_step : (s t : ShardState) (raw : RawEvent) (e : Event) (turn : Turn) (plan : Plan) (a : StepAnswer)
     → IsMine s raw e → TurnsTo (state_of s) e turn → s.dialogues.shard ≡ s.shard → ((S : State) → ticked turn S ≡ S)
-    → IsPlan s turn cs plan → HasRoom s plan → (Overflows s plan → ⊥)
-    → state_of t ≡ state_after_plan s cs plan → Says a (taken plan.new (plan_outcome s cs plan).opens) plan.subject (plan_outcome s cs plan).sent
+    → IsPlan s turn plan → HasRoom s plan → (Overflows s plan → ⊥)
+    → state_of t ≡ state_after_plan s plan → Says a (taken plan.new (plan_outcome s plan).opens) plan.subject (plan_outcome s plan).sent
     → Leads s raw a t
-settled_step s t raw e turn cs plan a mine turns own still is room not_over after says =
+settled_step s t raw e turn plan a mine turns own still is room not_over after says =
     let concerned : concern (state_of s).directory turn ≡ plan.imsi = concern_here s turn plan.imsi is.concern_is in
-    taken_step (state_of s) (state_of t) s.shard raw e turn plan.new (plan_outcome s cs plan) a mine.is_event (routed_here s e mine.routed) turns is.leaves
+    taken_step (state_of s) (state_of t) s.shard raw e turn plan.new (plan_outcome s plan) a mine.is_event (routed_here s e mine.routed) turns is.leaves
     (λ some. new_here s plan.new own (next_new s plan.named plan.new is.can.next_id (room (opens_in _ plan.outcome.dialogue some))))
     (λ over. not_over (record { opens = opens_in _ plan.outcome.dialogue over.opens; beside = sym is.named_is ∙ over.beside; full = over.full }))
-    (after ∙ (λ i. moved (state_of s) (sym concerned i) (sym is.named_is i) plan.new (plan_outcome s cs plan)) ∙ sym (still _))
-    (subst (λ (x : Option (List ℕ)). Says a (taken plan.new (plan_outcome s cs plan).opens) x (plan_outcome s cs plan).sent) is.subject_is says)
+    (after ∙ (λ i. moved (state_of s) (sym concerned i) (sym is.named_is i) plan.new (plan_outcome s plan)) ∙ sym (still _))
+    (subst (λ (x : Option (List ℕ)). Says a (taken plan.new (plan_outcome s plan).opens) x (plan_outcome s plan).sent) is.subject_is says)
 
 -- ---- no room
 
-overflows_at : (s : ShardState) (n : ℕ) (turn : Turn) (cs : List (code.Component Parameter)) (plan : Plan) → n ≡ s.shard → IsPlan s turn cs plan
+overflows_at : (s : ShardState) (n : ℕ) (turn : Turn) (plan : Plan) → n ≡ s.shard → IsPlan s turn plan
     → Overflows s plan
     → WouldOverflow (state_of s) n turn (outcome_in (state_of s) n turn plan.new)
-overflows_at s n turn cs plan here is over =
+overflows_at s n turn plan here is over =
     subst (λ m. WouldOverflow (state_of s) m turn (outcome_in (state_of s) m turn plan.new)) (sym here)
     (subst (λ (o : Outcome). WouldOverflow (state_of s) s.shard turn o) (sym is.leaves)
     (record { opens = opens_out _ plan.outcome.dialogue over.opens; beside = is.named_is ∙ over.beside; full = over.full }))
@@ -91,7 +89,7 @@ overflows_at s n turn cs plan here is over =
 pub turned_step : (s : ShardState) (raw : RawEvent) (e : Event) (from origin : List ℕ) (name : Option (List ℕ)) (components : List Component) (plan : Plan)
     (a : StepAnswer)
     → IsMine s raw e → TurnsTo (state_of s) e (Begins from origin name components)
-    → IsPlan s (Begins from origin name components) [] plan → Overflows s plan
+    → IsPlan s (Begins from origin name components) plan → Overflows s plan
     → Says a None plan.subject (send from (SentAbort origin (Cause 4))) → Leads s raw a s
 turned_step s raw e from origin name components plan a mine turns is over says =
     let answer : Answer = record { id = None; subject = plan.subject; sent = send from (SentAbort origin (Cause 4)) } in (
@@ -103,7 +101,7 @@ turned_step s raw e from origin name components plan a mine turns is over says =
         name = name;
         components = components;
         begins = refl;
-        overflows = overflows_at s (route (state_of s).directory e) (Begins from origin name components) [] plan (routed_here s e mine.routed) is over;
+        overflows = overflows_at s (route (state_of s).directory e) (Begins from origin name components) plan (routed_here s e mine.routed) is over;
         state = refl;
         id = refl;
         subject = is.subject_is;
@@ -113,22 +111,22 @@ turned_step s raw e from origin name components plan a mine turns is over says =
 
 -- A change that is refused.
 pub no_room : (s : ShardState) (imsi : List ℕ) (change : Change) (plan : Plan) → shard_of imsi ≡ s.shard
-    → IsPlan s (Changes imsi change) [] plan → Overflows s plan → HasNoRoom (state_of s) (Operator imsi change)
-no_room s imsi change plan here is over = (plan.new, overflows_at s (shard_of imsi) (Changes imsi change) [] plan here is over)
+    → IsPlan s (Changes imsi change) plan → Overflows s plan → HasNoRoom (state_of s) (Operator imsi change)
+no_room s imsi change plan here is over = (plan.new, overflows_at s (shard_of imsi) (Changes imsi change) plan here is over)
 
 -- An event for an open dialogue has room.
 opens_not : (clock : ℕ) (stays : DialogueChange) → opens_of clock stays ≡ None → IsOpening stays → ⊥
 opens_not clock Closes e o = o
 opens_not clock (Opens p) e o = absurd cc
-opens_not clock GoesOn e o = o
+opens_not clock (GoesOn left) e o = o
 opens_not clock (Forgets invoke) e o = o
 
-pub open_has_room : (s : ShardState) (turn : Turn) (cs : List (code.Component Parameter)) (plan : Plan) → IsPlan s turn cs plan → IsForOpen turn
+pub open_has_room : (s : ShardState) (turn : Turn) (plan : Plan) → IsPlan s turn plan → IsForOpen turn
     → HasRoom s plan
-open_has_room s turn cs plan is for opens beside =
+open_has_room s turn plan is for opens beside =
     absurd (opens_not _ plan.outcome.dialogue (sym (ap (λ (o : Outcome). o.opens) is.leaves) ∙ for (is.named_is ∙ beside) (state_of s) s.shard plan.new) opens)
 
-pub open_never_overflows : (s : ShardState) (turn : Turn) (cs : List (code.Component Parameter)) (plan : Plan) → IsPlan s turn cs plan → IsForOpen turn
+pub open_never_overflows : (s : ShardState) (turn : Turn) (plan : Plan) → IsPlan s turn plan → IsForOpen turn
     → Overflows s plan → ⊥
-open_never_overflows s turn cs plan is for over =
+open_never_overflows s turn plan is for over =
     opens_not _ plan.outcome.dialogue (sym (ap (λ (o : Outcome). o.opens) is.leaves) ∙ for (is.named_is ∙ over.beside) (state_of s) s.shard plan.new) over.opens

@@ -1,14 +1,11 @@
 -- What an event results in before anything is done, and what is then done.
-use Rattle.std.specs.Prelude.{◌≡◌, ◌≢◌, ℕ, List, Option, Some, None, option_map, map, IfSome}
+use Rattle.std.specs.Prelude.{◌≡◌, ◌≢◌, ℕ, List, Option, Some, None, option_map, IfSome}
 use Rattle.machine.specs.State as machine
 use Rattle.machine.specs.State.{Local, IsFull}
 use Rattle.machine.specs.Outcome.{Outcome}
 use Rattle.machine.specs.Step.{moved, seen}
 use Rattle.tidalloc.specs.LiveIds.{next_use}
-use Rattle.q773_comp.specs.declared.component.Component.{Component}
-use Rattle.msgarena.specs.declared.parameter.Parameter.{Parameter}
-use Rattle.csl.specs.Seen.{heard}
-use Rattle.dialogues.specs.Dialogues.{IsNew, dialogues_of, gone_on}
+use Rattle.dialogues.specs.Dialogues.{IsNew, activated, dialogues_of}
 use Rattle.records.specs.Subscriber.{AreAllowed}
 use Rattle.location.specs.declared.outcome.After.TheVariants.{NewCodes}
 use Rattle.location.specs.declared.outcome.DialogueChange.{DialogueChange}
@@ -26,24 +23,23 @@ id_of Nothing = None
 id_of (Open id) = Some id
 id_of (Continued id peer remote) = Some id
 
--- that dialogue, as the received message leaves it
-abbrev pub named_as : ShardState → List (Component Parameter) → Named → Option machine.Dialogue
-named_as s components Nothing = None
-named_as s components (Open id) = dialogues_of s.dialogues id
-named_as s components (Continued id peer remote) =
-    option_map (gone_on peer remote s.clock (map heard components)) (dialogues_of s.dialogues id)
+-- that dialogue, with its transaction as the received message leaves it
+abbrev pub named_as : ShardState → Named → Option machine.Dialogue
+named_as s Nothing = None
+named_as s (Open id) = dialogues_of s.dialogues id
+named_as s (Continued id peer remote) = option_map (activated peer remote) (dialogues_of s.dialogues id)
 
 -- what the procedure sees of the event's subscriber, if any
 abbrev pub here : ShardState → Plan → Local
 here s plan = seen (state_of s) s.shard plan.imsi
 
 -- the procedure's outcome
-abbrev pub plan_outcome : ShardState → List (Component Parameter) → Plan → Outcome
-plan_outcome s components plan = outcome_of (here s plan) (named_as s components plan.named) plan.codes plan.outcome
+abbrev pub plan_outcome : ShardState → Plan → Outcome
+plan_outcome s plan = outcome_of (here s plan) (named_as s plan.named) plan.codes plan.outcome
 
 -- the state of the machine after
-abbrev pub state_after_plan : ShardState → List (Component Parameter) → Plan → machine.State
-state_after_plan s components plan = moved (state_of s) plan.imsi (id_of plan.named) plan.new (plan_outcome s components plan)
+abbrev pub state_after_plan : ShardState → Plan → machine.State
+state_after_plan s plan = moved (state_of s) plan.imsi (id_of plan.named) plan.new (plan_outcome s plan)
 
 -- whether a dialogue opens
 abbrev pub IsOpening : DialogueChange → Type 0

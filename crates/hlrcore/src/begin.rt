@@ -1,6 +1,6 @@
 //! A received Begin (Q.774).
 
-ghost use Rattle.std.specs.Prelude.{◌≡◌, [], List, ℕ, Option, IfOk, map};
+ghost use Rattle.std.specs.Prelude.{◌≡◌, List, ℕ, Option, IfOk, map};
 ghost use Rattle.machine.specs.Received as machine;
 ghost use Rattle.machine.specs.Received.{Read};
 ghost use Rattle.machine.specs.Routing.{subject_of_begin};
@@ -38,7 +38,7 @@ pub fn plan_begin(
         → indication.now.verdict ≡ Read (machine.Begin origin name
         (map (component parameter) components.now))
         → IsPlan shard.now (Begins indication.now.from origin name
-        (map (component parameter) components.now)) [] plan) }
+        (map (component parameter) components.now)) plan) }
 {
     let subscriber = record_of(shard, imsi.as_ref());
     let new = next_or_any(shard);

@@ -1,6 +1,5 @@
 //! An operator's change of one subscriber.
 
-ghost use Rattle.std.specs.Prelude.{[]};
 ghost use Rattle.machine.specs.Events as events;
 ghost use Rattle.machine.specs.Turns.{Changes};
 ghost use Rattle.records.specs.Subscriber.{AreAllowed};
@@ -16,7 +15,7 @@ use hlr_types::{Imsi, ShortList};
 /// The plan of an operator's new codes for a subscriber.
 pub fn plan_codes(shard: &ShardParts, imsi: Imsi, codes: ShortList<32>) -> Plan
     requires { AreAllowed codes }
-    ensures { IsPlan shard.now (Changes imsi (events.Codes codes)) [] result }
+    ensures { IsPlan shard.now (Changes imsi (events.Codes codes)) result }
 {
     let subscriber = record_of(shard, Some(&imsi));
     let new = next_or_any(shard);
@@ -26,7 +25,7 @@ pub fn plan_codes(shard: &ShardParts, imsi: Imsi, codes: ShortList<32>) -> Plan
 
 /// The plan of an operator's withdrawal of a subscriber.
 pub fn plan_withdrawal(shard: &ShardParts, imsi: Imsi) -> Plan
-    ensures { IsPlan shard.now (Changes imsi events.Withdraw) [] result }
+    ensures { IsPlan shard.now (Changes imsi events.Withdraw) result }
 {
     let subscriber = record_of(shard, Some(&imsi));
     let new = next_or_any(shard);

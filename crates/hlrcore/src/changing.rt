@@ -3,19 +3,16 @@
 ghost use Rattle.std.specs.Prelude.{◌≡◌, ◌≢◌, ◌≤◌, ◌^◌, ℕ, List, Some, None, IfOk, IfSome, OnOk, OnErr, option_map};
 ghost use Rattle.machine.specs.Keys.{put};
 ghost use Rattle.machine.specs.Step.{named_stays, taken};
-ghost use Rattle.dialogues.specs.Dialogues.{dialogues_of, forgotten};
+ghost use Rattle.dialogues.specs.Dialogues.{dialogues_of, forgotten, gone_on};
 ghost use Rattle.location.specs.Seen.{opening_of, opens_of};
 ghost use Rattle.hlrcore.specs.Changing.{IsNext, changed, named_among};
 ghost use Rattle.hlrcore.specs.Plans.{IsForgetting, IsOpening, id_of};
-ghost use Rattle.q773_comp.specs.declared.component.Component as component;
-ghost use Rattle.msgarena.specs.declared.parameter.Parameter as parameter;
 
 use crate::plan::Named;
+use csl::Remaining;
 use dialogues::{Dialogues, InvokeId};
 use hlr_types::Tid;
 use location::{DialogueChange, Opening};
-use msgarena::Parameter;
-use q773_comp::Component;
 use std::alloc::AllocError;
 
 /// Opens a dialogue beside the open ones, or in place of one.
@@ -52,27 +49,22 @@ fn close(dialogues: &mut Dialogues, id: Option<Tid>)
     }
 }
 
-/// The named dialogue, if any, goes on as the received message leaves it.
-#[tactic(auto, using(machine_laws::proofs::Keys::put_again))]
-fn go_on(
-    dialogues: &mut Dialogues,
-    clock: u64,
-    named: Named,
-    components: &[Component<Parameter>],
-) -> Result<(), AllocError>
-    requires early { clock ≤ 2 ^ 62 }
-    requires is_open { IfSome (id_of named) (λ id. dialogues_of dialogues.old id ≢ None) }
+/// The named dialogue, if any, goes on with these invocations, and its transaction is as the received message leaves it.
+fn go_on(dialogues: &mut Dialogues, named: Named, left: &Remaining) -> Result<(), AllocError>
+    requires { IfSome (id_of named) (λ id. dialogues_of dialogues.old id ≢ None) }
     ensures ok { OnOk result (dialogues_of dialogues.new
-        ≡ named_stays (id_of named) (named_among clock components.now named
-        (dialogues_of dialogues.old)) (dialogues_of dialogues.old)) }
+        ≡ named_stays (id_of named) (option_map (gone_on left.now)
+        (named_among named (dialogues_of dialogues.old))) (dialogues_of dialogues.old)) }
     ensures shard { dialogues.new.shard ≡ dialogues.old.shard }
     ensures err { OnErr result (dialogues.new ≡ dialogues.old) }
 {
     match named {
         Named::Nothing => Ok(()),
-        Named::Open(_) => Ok(()),
+        Named::Open(id) => dialogues.go_on(id, left),
         Named::Continued { id, peer, remote } => {
-            dialogues.go_on(id, peer, remote, components, clock)
+            dialogues.go_on(id, left)?;
+            dialogues.activate(id, peer, remote);
+            Ok(())
         }
     }
 }
@@ -80,11 +72,9 @@ fn go_on(
 /// An invocation of the named dialogue, if any, becomes Idle. The rest of the dialogue stays the same.
 fn forget(dialogues: &mut Dialogues, named: Named, invoke: InvokeId)
     requires { IsForgetting named (DialogueChange.Forgets invoke) }
-    ensures forgotten { (clock : ℕ) (cs : List (component.Component parameter.Parameter))
-        → dialogues_of dialogues.new
+    ensures forgotten { dialogues_of dialogues.new
         ≡ named_stays (id_of named) (option_map (forgotten invoke)
-        (named_among clock cs named (dialogues_of dialogues.old)))
-        (dialogues_of dialogues.old) }
+        (named_among named (dialogues_of dialogues.old))) (dialogues_of dialogues.old) }
     ensures shard { dialogues.new.shard ≡ dialogues.old.shard }
 {
     if let Named::Open(id) = named {
@@ -99,7 +89,6 @@ pub(crate) fn change(
     clock: u64,
     named: Named,
     stays: &DialogueChange,
-    components: &[Component<Parameter>],
 ) -> Result<Option<Tid>, AllocError>
     requires early { clock ≤ 2 ^ 62 }
     requires is_open { IfSome (id_of named) (λ id. dialogues_of dialogues.old id ≢ None) }
@@ -108,7 +97,7 @@ pub(crate) fn change(
     ensures taken { IfOk result (λ id. (new : List ℕ) → IsNext dialogues.old (id_of named) new
         → id ≡ taken new (opens_of clock stays.now)) }
     ensures changed { OnOk result ((new : List ℕ) → IsNext dialogues.old (id_of named) new
-        → dialogues_of dialogues.new ≡ changed clock components.now named stays.now new
+        → dialogues_of dialogues.new ≡ changed clock named stays.now new
         (dialogues_of dialogues.old)) }
     ensures shard { dialogues.new.shard ≡ dialogues.old.shard }
     ensures err { OnErr result (dialogues.new ≡ dialogues.old) }
@@ -119,8 +108,8 @@ pub(crate) fn change(
             close(dialogues, named.id());
             Ok(None)
         }
-        DialogueChange::GoesOn => {
-            go_on(dialogues, clock, named, components)?;
+        DialogueChange::GoesOn(left) => {
+            go_on(dialogues, named, left)?;
             Ok(None)
         }
         DialogueChange::Forgets(invoke) => {

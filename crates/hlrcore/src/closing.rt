@@ -14,7 +14,7 @@ use tsl::Head;
 /// The plan of a received End or Abort. `None` if it is for no open dialogue; it is then discarded.
 pub fn plan_close(shard: &ShardParts, destination: RemoteId) -> Option<Plan>
     ensures { IsPlanOr shard.now (close_at destination
-        (dialogues_of shard.now.dialogues destination)) [] [] result }
+        (dialogues_of shard.now.dialogues destination)) [] result }
 {
     let Opened { id, dialogue, new } = opened_for(shard, &Head::End { destination })?;
     let subscriber = shard.records().get(&dialogue.subscriber);

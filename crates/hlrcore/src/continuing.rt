@@ -57,8 +57,7 @@ fn continued(
         → for_it (transact (Some (transaction_of opened.dialogue.transaction))
         (ContinueComes from origin)) ≡ Some t
         → IsPlan shard.now (Continues opened.id (with_transaction shard.now.dialogues opened t)
-        (map (component parameter) components.now))
-        components.now plan) }
+        (map (component parameter) components.now)) plan) }
 {
     let Opened { id, dialogue, new } = opened;
     let transaction = heard_from(dialogue.transaction, from, origin);
@@ -93,7 +92,7 @@ pub fn plan_continue(
     ensures { IfOk result (IsPlanOr shard.now
         (continue_at from origin destination (map (component parameter) components.now)
         (dialogues_of shard.now.dialogues destination))
-        components.now (send from (SentAbort origin (Cause UNRECOGNIZED_TRANSACTION_ID)))) }
+        (send from (SentAbort origin (Cause UNRECOGNIZED_TRANSACTION_ID)))) }
 {
     let head = Head::Continue {
         origin,

@@ -54,7 +54,7 @@ impl Plan {
         ensures { IsTrue result ↔ (IsOpening self.now.outcome.dialogue
             × (id_of self.now.named ≡ None)) }
     {
-        match (self.outcome.dialogue, self.named) {
+        match (&self.outcome.dialogue, self.named) {
             (DialogueChange::Opens(_), Named::Nothing) => true,
             _ => false,
         }

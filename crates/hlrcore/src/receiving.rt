@@ -105,7 +105,7 @@ impl ShardParts {
             let from = indication.from();
             return aborted(self.alloc, from, origin, RESOURCE_LIMITATION, plan.subject);
         }
-        self.settle(plan, &[])
+        self.settle(plan)
     }
 
     /// Handles a Continue. One for no open dialogue is answered with an Abort, cause unrecognizedTransactionID (Q.774).
@@ -126,7 +126,7 @@ impl ShardParts {
         let from = indication.from();
         let found = plan_continue(self.alloc, self, from, origin, destination, components)?;
         match found {
-            Some(plan) => self.settle(plan, components),
+            Some(plan) => self.settle(plan),
             None => {
                 let cause = UNRECOGNIZED_TRANSACTION_ID;
                 aborted(self.alloc, from, origin, cause, None)
@@ -147,7 +147,7 @@ impl ShardParts {
         ensures same_shard { IsSameShard self.old self.new }
     {
         match plan_close(self, destination) {
-            Some(plan) => self.settle(plan, &[]),
+            Some(plan) => self.settle(plan),
             None => Ok(silent()),
         }
     }

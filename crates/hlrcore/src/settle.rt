@@ -12,8 +12,6 @@ use crate::parts::ShardParts;
 use crate::plan::Plan;
 use crate::sending::outs_of;
 use crate::writing::write;
-use msgarena::Parameter;
-use q773_comp::Component;
 use std::alloc::AllocError;
 
 impl ShardParts {
@@ -29,21 +27,15 @@ impl ShardParts {
         !self.dialogues().is_full()
     }
 
-    /// Carries out a plan: afterwards the record, the named dialogue and the one that opens are as the outcome says. `components`
-    /// are those of the received Continue, if any. On error nothing changes.
+    /// Carries out a plan: afterwards the record, the named dialogue and the one that opens are as the outcome says. On error
+    /// nothing changes.
     #[inline(always)]
-    pub fn settle(
-        &mut self,
-        plan: Plan,
-        components: &[Component<Parameter>],
-    ) -> Result<StepAnswer, AllocError>
+    pub fn settle(&mut self, plan: Plan) -> Result<StepAnswer, AllocError>
         requires can { CanSettle self.old plan }
         requires room { HasRoom self.old plan }
-        ensures settled { OnOk result (state_of self.new
-            ≡ state_after_plan self.old components.now plan) }
-        ensures says { IfOk result (λ a. Says a
-            (taken plan.new (plan_outcome self.old components.now plan).opens) plan.subject
-            (plan_outcome self.old components.now plan).sent) }
+        ensures settled { OnOk result (state_of self.new ≡ state_after_plan self.old plan) }
+        ensures says { IfOk result (λ a. Says a (taken plan.new (plan_outcome self.old plan).opens)
+            plan.subject (plan_outcome self.old plan).sent) }
         // Its dialogues have ids of its own number.
         ensures own { self.old.dialogues.shard ≡ self.old.shard }
         ensures err { OnErr result (self.new ≡ self.old) }
@@ -59,13 +51,7 @@ impl ShardParts {
         } = plan;
         let outs = outs_of(self.alloc, &outcome.message, &outcome.cancel)?;
         let clock = self.clock();
-        let id = change(
-            &mut self.dialogues,
-            clock,
-            named,
-            &outcome.dialogue,
-            components,
-        )?;
+        let id = change(&mut self.dialogues, clock, named, &outcome.dialogue)?;
         write(&mut self.records, imsi, outcome.after, codes);
         Ok(StepAnswer { outs, id, subject })
     }

@@ -1,6 +1,6 @@
 //! One event of a shard.
 
-ghost use Rattle.std.specs.Prelude.{◌≡◌, ◌≢◌, ◌↔◌, [], IfOk, OnOk, OnErr, Err};
+ghost use Rattle.std.specs.Prelude.{◌≡◌, ◌≢◌, ◌↔◌, IfOk, OnOk, OnErr, Err};
 ghost use Rattle.frames.specs.Octets.{IsRouted, RawChange, RawExpire};
 ghost use Rattle.machine.specs.Events as machine;
 ghost use Rattle.machine.specs.Routing.{route};
@@ -70,7 +70,7 @@ impl ShardParts {
         ensures same_shard { IsSameShard self.old self.new }
     {
         match plan_expiry(self.alloc, self) {
-            Some(plan) => self.settle(plan, &[]),
+            Some(plan) => self.settle(plan),
             None => Ok(silent()),
         }
     }
@@ -91,12 +91,12 @@ impl ShardParts {
         if !self.has_room(&plan) {
             return Err(StepFault::NoRoom);
         }
-        Ok(self.settle(plan, &[])?)
+        Ok(self.settle(plan)?)
     }
 
     /// The plan of an operator's change.
     fn plan_change(&self, imsi: Imsi, change: &Change) -> Plan
-        ensures { IsPlan self.now (Changes imsi (said change.now)) [] result }
+        ensures { IsPlan self.now (Changes imsi (said change.now)) result }
     {
         match change {
             Change::Codes(codes) => plan_codes(self, imsi, codes.list()),

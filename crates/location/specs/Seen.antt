@@ -2,7 +2,7 @@
 use Rattle.std.specs.Prelude.{ℕ, ◌-◌, List, [], ◌∷◌, ◌++◌, map, Option, Some, None, option_map, pos, true, false}
 use Rattle.std.specs.Borrow.{Bor}
 use Rattle.machine.specs.State as machine
-use Rattle.machine.specs.State.{Local, Invocation}
+use Rattle.machine.specs.State.{Local}
 use Rattle.machine.specs.Sent as sent
 use Rattle.machine.specs.Outcome as left
 use Rattle.machine.specs.Expiries.{without}
@@ -39,11 +39,11 @@ after_of codes NewCodes before = option_map (λ (s : machine.Subscriber). record
 after_of codes Withdrawn before =
     option_map (λ (s : machine.Subscriber). record s { register = None; purged = false; current = None; withdrawn = true }) before
 
--- The named dialogue after, if it stays. It is given as the received message leaves it.
+-- The named dialogue after, if it stays. It is given with its transaction as the received message leaves it.
 abbrev pub stays_of : Option machine.Dialogue → DialogueChange → Option machine.Dialogue
 stays_of named Closes = None
 stays_of named (Opens opening) = None
-stays_of named GoesOn = named
+stays_of named (GoesOn left) = option_map (λ (d : machine.Dialogue). record d { invocations = left }) named
 stays_of named (Forgets invoke) = option_map (λ (d : machine.Dialogue). record d { invocations = without invoke d.invocations }) named
 
 -- the dialogue that opens at this clock
@@ -54,7 +54,7 @@ opening_of clock o = dialogue_with (first_invoked clock (o.invoked - 1)) o.dialo
 abbrev pub opens_of : (clock : ℕ) → DialogueChange → Option machine.Dialogue
 opens_of clock Closes = None
 opens_of clock (Opens opening) = Some (opening_of clock opening)
-opens_of clock GoesOn = None
+opens_of clock (GoesOn left) = None
 opens_of clock (Forgets invoke) = None
 
 -- a message, if any
@@ -76,8 +76,8 @@ abbrev pub sent_of : (message : Option Addressed) (cancel : Option CancelBegin) 
 sent_of message None = one message
 sent_of message (Some c) = one message ++ cancel_out c ∷ []
 
--- The outcome as the definitions have it: `named` is the dialogue that the event names, as the received message leaves it, and
--- `codes` are those of an operator's change.
+-- The outcome as the definitions have it: `named` is the dialogue that the event names, with its transaction as the received
+-- message leaves it, and `codes` are those of an operator's change.
 abbrev pub outcome_of : Local → (named : Option machine.Dialogue) → (codes : List ℕ) → Outcome → left.Outcome
 outcome_of here named codes o = record {
   after = after_of codes o.after here.record_of;
@@ -86,6 +86,6 @@ outcome_of here named codes o = record {
   sent = sent_of o.message o.cancel;
 }
 
--- The effect of received components, with the invocations after them.
-abbrev pub effect_with : List Invocation → Effect → effects.Effect
-effect_with after e = record { rejects = map rejection e.rejects.items; started = e.started; invocations = after; conclusion = concluded e.conclusion }
+-- The effect of received components.
+abbrev pub effect_of : Effect → effects.Effect
+effect_of e = record { rejects = map rejection e.rejects.items; started = e.started; invocations = e.left; conclusion = concluded e.conclusion }

@@ -6,5 +6,5 @@ use Rattle.location.specs.declared.outcome.DialogueChange.TheVariants.{Closes, O
 abbrev pub ForgetsNothing : DialogueChange → Type 0
 ForgetsNothing Closes = Unit {0}
 ForgetsNothing (Opens opening) = Unit {0}
-ForgetsNothing GoesOn = Unit {0}
+ForgetsNothing (GoesOn left) = Unit {0}
 ForgetsNothing (Forgets invoke) = ⊥

@@ -8,7 +8,7 @@ ghost use Rattle.q773_comp.specs.Seen.{rejection};
 ghost use Rattle.mapargs_loc.specs.Seen.{register as register_of};
 ghost use Rattle.csl.specs.Effects.{IsEffect, concluded, offered};
 ghost use Rattle.dialogues.specs.Seen.{dialogue_with, kind_of};
-ghost use Rattle.location.specs.Seen.{effect_with, known, outcome_of};
+ghost use Rattle.location.specs.Seen.{effect_of, known, outcome_of};
 ghost use Rattle.location.specs.Staying.{ForgetsNothing};
 ghost use Rattle.location.specs.Writing.{CanBeWritten};
 ghost use Rattle.records.specs.Subscriber.{Subscriber};
@@ -16,7 +16,7 @@ ghost use Rattle.records.specs.Subscriber.{Subscriber};
 use crate::answers::{continue_in_dialogue, end_in_dialogue};
 use crate::outcome::{After, DialogueChange, Outcome};
 use crate::update_end::{Updating, update_completes, update_fails};
-use csl::{Conclusion, Effect, Offer};
+use csl::{Conclusion, Effect, Offer, Remaining};
 use dialogues::{Dialogue, Kind};
 use hlr_types::{IsdnAddress, Tid};
 use machine::numbers::UPDATE_LOCATION;
@@ -40,17 +40,17 @@ pub fn offer_to(kind: &Kind) -> Offer
     }
 }
 
-/// The dialogue goes on, and the Rejects, if any, are sent.
-fn goes_on(id: Tid, dialogue: &Dialogue, rejects: Vec<Rejection>) -> Outcome
-    ensures leaves { (here : Local) (vs after : List Invocation)
-        → outcome_of here (Some (dialogue_with after dialogue.now)) [] result
-        ≡ goes_on here id (dialogue_with vs dialogue.now) (map rejection rejects.items) after }
+/// The dialogue goes on with what is left of its invocations, and the Rejects, if any, are sent.
+fn goes_on(id: Tid, dialogue: &Dialogue, rejects: Vec<Rejection>, left: Remaining) -> Outcome
+    ensures leaves { (here : Local) (vs : List Invocation)
+        → outcome_of here (Some (dialogue_with vs dialogue.now)) [] result
+        ≡ goes_on here id (dialogue_with vs dialogue.now) (map rejection rejects.items) left }
     ensures writable { (s : Option Subscriber) → CanBeWritten result.after s }
     ensures keeps { ForgetsNothing result.dialogue }
 {
     Outcome {
         after: After::Same,
-        dialogue: DialogueChange::GoesOn,
+        dialogue: DialogueChange::GoesOn(left),
         message: continue_in_dialogue(id, dialogue.transaction, rejects),
         cancel: None,
     }
@@ -58,15 +58,15 @@ fn goes_on(id: Tid, dialogue: &Dialogue, rejects: Vec<Rejection>) -> Outcome
 
 /// A cancel or a data dialogue: it ends when its invocations have succeeded or failed.
 fn other_continues(id: Tid, dialogue: &Dialogue, effect: Effect) -> Outcome
-    ensures leaves { (here : Local) (vs after : List Invocation)
-        → outcome_of here (Some (dialogue_with after dialogue.now)) [] result
-        ≡ other_continues here id (dialogue_with vs dialogue.now) (effect_with after effect)
+    ensures leaves { (here : Local) (vs : List Invocation)
+        → outcome_of here (Some (dialogue_with vs dialogue.now)) [] result
+        ≡ other_continues here id (dialogue_with vs dialogue.now) (effect_of effect)
         (concluded effect.conclusion) }
     ensures writable { (s : Option Subscriber) → CanBeWritten result.after s }
     ensures keeps { ForgetsNothing result.dialogue }
 {
     match effect.conclusion {
-        Conclusion::GoesOn => goes_on(id, dialogue, effect.rejects),
+        Conclusion::GoesOn => goes_on(id, dialogue, effect.rejects, effect.left),
         Conclusion::HasFailed | Conclusion::HasSucceeded => Outcome {
             after: After::Same,
             dialogue: DialogueChange::Closes,
@@ -86,13 +86,13 @@ fn update_continues(
     effect: Effect,
     new: Tid,
 ) -> Outcome
-    ensures leaves { (here : Local) (vs after : List Invocation)
+    ensures leaves { (here : Local) (vs : List Invocation)
         → dialogue.now.subscriber ≡ here.imsi → here.hlr ≡ hlr
         → here.record_of ≡ known subscriber.entry
-        → outcome_of here (Some (dialogue_with after dialogue.now)) [] result
+        → outcome_of here (Some (dialogue_with vs dialogue.now)) [] result
         ≡ update_continues here id (dialogue_with vs dialogue.now)
         (register_of update.register) update.invoke
-        (effect_with after effect) (concluded effect.conclusion) new }
+        (effect_of effect) (concluded effect.conclusion) new }
     ensures writable { CanBeWritten result.after (option_copied subscriber.entry) }
     ensures keeps { ForgetsNothing result.dialogue }
 {
@@ -102,7 +102,7 @@ fn update_continues(
         Conclusion::HasSucceeded => update_completes(
             hlr, subscriber, id, dialogue, update, rejects, new,
         ),
-        Conclusion::GoesOn => goes_on(id, dialogue, rejects),
+        Conclusion::GoesOn => goes_on(id, dialogue, rejects, effect.left),
     }
 }
 
@@ -115,12 +115,12 @@ fn continues_by(
     effect: Effect,
     new: Tid,
 ) -> Outcome
-    ensures leaves { (here : Local) (vs after : List Invocation)
+    ensures leaves { (here : Local) (vs : List Invocation)
         → dialogue.now.subscriber ≡ here.imsi → here.hlr ≡ hlr
         → here.record_of ≡ known subscriber.entry
-        → outcome_of here (Some (dialogue_with after dialogue.now)) [] result
+        → outcome_of here (Some (dialogue_with vs dialogue.now)) [] result
         ≡ continues_as here id (dialogue_with vs dialogue.now) (kind_of dialogue.now.kind)
-        (effect_with after effect) new }
+        (effect_of effect) new }
     ensures writable { CanBeWritten result.after (option_copied subscriber.entry) }
     ensures keeps { ForgetsNothing result.dialogue }
 {
@@ -148,7 +148,7 @@ pub fn continues(
     ensures leaves { (here : Local) (vs : List Invocation) (did : effects.Effect)
         → dialogue.now.subscriber ≡ here.imsi → here.hlr ≡ hlr
         → here.record_of ≡ known subscriber.entry → IsEffect effect did
-        → outcome_of here (Some (dialogue_with did.invocations dialogue.now)) [] result
+        → outcome_of here (Some (dialogue_with vs dialogue.now)) [] result
         ≡ continues_as here id (dialogue_with vs dialogue.now) (kind_of dialogue.now.kind) did new }
     ensures writable { CanBeWritten result.after (option_copied subscriber.entry) }
     ensures keeps { ForgetsNothing result.dialogue }

@@ -2,6 +2,7 @@
 
 ghost use Rattle.std.specs.Prelude.{◌<◌, ◌≤◌};
 
+use csl::Remaining;
 use dialogues::{Dialogue, InvokeId};
 use hlr_types::{Imsi, Peer, Register, Tid};
 use mapargs_loc::CancellationType;
@@ -38,14 +39,14 @@ pub struct Opening {
 }
 
 /// What happens to the dialogue that an event names, if it names one.
-#[derive(Clone, Copy)]
+#[derive(Drop)]
 pub enum DialogueChange {
     /// It closes.
     Closes,
     /// This one opens: in the place of the named one, which closes, or beside all others if none is named.
     Opens(Opening),
-    /// It goes on; its transaction and invocations are as the received message leaves them.
-    GoesOn,
+    /// It goes on with what the received components leave of its invocations.
+    GoesOn(Remaining),
     /// It goes on without the invocation of this id.
     Forgets(InvokeId),
 }

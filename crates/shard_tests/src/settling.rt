@@ -104,7 +104,7 @@ fn opens(alloc: Global, shard: &mut ShardParts) -> Option<StepAnswer> {
     if !shard.has_room(&plan) {
         return None;
     }
-    shard.settle(plan, &[]).ok()
+    shard.settle(plan).ok()
 }
 
 /// The dialogue of this id closes.
@@ -121,7 +121,7 @@ fn closes(alloc: Global, shard: &mut ShardParts, id: Tid) -> Option<StepAnswer> 
         codes: ShortList::new(),
         outcome: only(alloc, DialogueChange::Closes)?,
     };
-    shard.settle(plan, &[]).ok()
+    shard.settle(plan).ok()
 }
 
 /// The subscriber is withdrawn, and nothing is sent.
@@ -144,7 +144,7 @@ fn withdraws(alloc: Global, shard: &mut ShardParts) -> Option<StepAnswer> {
             cancel: None,
         },
     };
-    shard.settle(plan, &[]).ok()
+    shard.settle(plan).ok()
 }
 
 /// Whether the answer has the first id, the subscriber, the End and then the Begin.

@@ -58,8 +58,8 @@ enum Step {
     /// Invokes an insert under this id, at this time.
     Invokes(Tid, i8, u64, Result<(), CslFault>),
     Receives(Received),
-    /// First `effect`, then `conclude`.
-    TellsAndConcludes(Received),
+    /// First `effect`, then `leave`.
+    TellsAndLeaves(Received),
     Lists(&'static [(i8, Was, u64)]),
     Forgets,
     ForgetsOne(Tid, i8),
@@ -91,17 +91,16 @@ fn receives(table: &mut Invocations, wanted: &Received) -> Option<bool> {
     Some(is_effect(&effect, wanted))
 }
 
-fn tells_and_concludes(table: &mut Invocations, wanted: &Received) -> Option<bool> {
+fn tells_and_leaves(table: &mut Invocations, wanted: &Received) -> Option<bool> {
     if wanted.now > 1 << 62 {
         return None;
     }
     let effect = table
         .effect(DIALOGUE, &UPDATING, wanted.components, wanted.now)
         .ok()?;
-    table
-        .conclude(DIALOGUE, wanted.components, wanted.now)
-        .ok()?;
-    Some(is_effect(&effect, wanted))
+    let is_wanted = is_effect(&effect, wanted);
+    table.leave(DIALOGUE, &effect.left).ok()?;
+    Some(is_wanted)
 }
 
 fn lists(table: &Invocations, wanted: &[(i8, Was, u64)]) -> Option<bool> {
@@ -116,7 +115,7 @@ fn is_so(table: &mut Invocations, step: &Step) -> Option<bool> {
             Some(invokes(table, *id, *invoke, *now)? == *wanted)
         }
         Step::Receives(wanted) => receives(table, wanted),
-        Step::TellsAndConcludes(wanted) => tells_and_concludes(table, wanted),
+        Step::TellsAndLeaves(wanted) => tells_and_leaves(table, wanted),
         Step::Lists(wanted) => lists(table, wanted),
         Step::Forgets => {
             table.forget(DIALOGUE);
@@ -148,7 +147,7 @@ const TWO_INSERTS: [Step; 9] = [
         conclusion: Conclusion::GoesOn,
     }),
     Step::Lists(&[(1, Was::Sent, 20), (2, Was::Waiting, 6)]),
-    Step::TellsAndConcludes(Received {
+    Step::TellsAndLeaves(Received {
         components: &[Component::ResultLast { id: 1 }],
         now: 3,
         rejects: &[],

@@ -120,7 +120,9 @@ fn goes_on(table: &mut Dialogues, id: Tid) -> Option<()> {
         return None;
     }
     let origin = RemoteId::read(&[7])?;
-    table.go_on(id, peer(b"468")?, origin, &LAST, 9).ok()
+    let left = table.effect(id, &NOTHING, &LAST, 9).ok()?.left;
+    table.activate(id, peer(b"468")?, origin);
+    table.go_on(id, &left).ok()
 }
 
 fn tells(table: &Dialogues, id: Tid) -> Option<Conclusion> {

@@ -6,7 +6,7 @@ use Rattle.hlrcore.proofs.parts.ShardParts.settle.Goals as goal
 pub returns-clause-settled : goal.returns-clause-settled
 returns-clause-settled c =
     settled_by _ c.args.self.now c.args.plan c.clock-clock.result c.self.view_is c.clock-clock.ensures.value c.requires.can
-    c.args.components.now c.write.new.records c.change.new.dialogues c.write.ensures c.in_ok-id.ensures.changed
+    c.write.new.records c.change.new.dialogues c.write.ensures c.in_ok-id.ensures.changed
 
 pub returns-clause-says : goal.returns-clause-says
 returns-clause-says c = record {
