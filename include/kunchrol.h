@@ -57,7 +57,7 @@ struct kunchrol {
 /* The name of a return code. */
 static inline const char *kunchrol_name(uint32_t code)
 {
-	static const char *const names[] = { "ok", "no frame", "room too small", "argument", "closed", "open", "journal full", "no room",
+	static const char *const names[] = { "ok", "no frame", "buffer too small", "argument", "closed", "open", "journal full", "no room",
 					     "memory", "records line", "records line twice" };
 
 	return code < sizeof(names) / sizeof(names[0]) ? names[code] : "unknown";
@@ -103,23 +103,24 @@ uint32_t kunchrol_withdraw(struct kunchrol *hlr, const uint8_t *imsi, size_t ims
  * The next frame to be sent, in the order of sending: the digits of the address that it goes to, as ASCII, and its octets, the user data
  * of a UNITDATA. If a buffer is too small the lengths are stored, and the frame still waits.
  */
-uint32_t kunchrol_next(struct kunchrol *hlr, uint8_t *to, size_t to_room, size_t *to_len, uint8_t *octets, size_t octets_room,
+uint32_t kunchrol_next(struct kunchrol *hlr, uint8_t *to, size_t to_size, size_t *to_len, uint8_t *octets, size_t octets_size,
 		       size_t *octets_len);
 
 /*
  * Writes the records as a records file of version 2 into the buffer, with its length at len. A line has at most 312 octets, the first
- * line 22. Open dialogues, clocks and journals are not in it. To make it last is the caller's job.
+ * line 22. Open dialogues, clocks and journals are not in it. To make it last is the caller's job (docs/OPERATING.md). There is no limit
+ * here or in kunchrol_open, but the program hlr loads no file of more than 16,777,216 octets.
  */
-uint32_t kunchrol_save(struct kunchrol *hlr, uint8_t *room, size_t room_len, size_t *len);
+uint32_t kunchrol_save(struct kunchrol *hlr, uint8_t *buffer, size_t size, size_t *len);
 
 /*
  * Empties the journal of a shard, and writes its listing into the buffer, with its length at len: a line of at most 31 octets for each
  * entry, 2,031,616 octets for a full journal. No record, dialogue or clock changes.
  *
  * After a cut the next event of the shard copies the shard's state, all its records among it, as the state in which the next journal
- * begins. So do not cut after each event (docs/USING.md, "What a journal costs").
+ * begins. So do not cut after each event (docs/OPERATING.md, "What a journal costs").
  */
-uint32_t kunchrol_cut(struct kunchrol *hlr, uint8_t shard, uint8_t *room, size_t room_len, size_t *len);
+uint32_t kunchrol_cut(struct kunchrol *hlr, uint8_t shard, uint8_t *buffer, size_t size, size_t *len);
 
 /* Frees the register's memory, and leaves the handle closed. Nothing happens to a handle that is closed. */
 void kunchrol_close(struct kunchrol *hlr);
