@@ -63,7 +63,16 @@ fn contexts(rt: HostRuntime) -> Result<(), Fail> {
     check(&rt, BEGINS, |alloc, text| {
         let begin = taken(alloc, &octets(alloc, text)?)?;
         match begin.verdict() {
-            Verdict::Read(ReadMessage::Begin { .. }) => Ok(told(alloc, &accept(&begin))?),
+            Verdict::Read(
+                ReadMessage::Begin {
+                    context,
+                    components,
+                    ..
+                },
+            ) => {
+                let count = components.as_slice().len();
+                Ok(told(alloc, &accept(context.as_ref(), count))?)
+            }
             _ => Err("no Begin")?,
         }
     })

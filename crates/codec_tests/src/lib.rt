@@ -23,6 +23,8 @@ mod rounds;
 #[cfg(test)]
 mod sent_messages;
 #[cfg(test)]
+mod sent_trees;
+#[cfg(test)]
 mod short_message_arguments;
 #[cfg(test)]
 mod tables;

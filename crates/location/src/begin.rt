@@ -29,8 +29,8 @@ use csl::{Effect, Offer, effect_of_begin};
 use dialogues::InvokeId;
 use hlr_types::{RemoteId, Tid};
 use machine::numbers::UNEXPECTED_DATA_VALUE;
-use mapctx::{Context, operation_of};
-use msgarena::{Argument, Indication, Parameter};
+use mapctx::{Context, ContextName, operation_of};
+use msgarena::{Argument, Indication, Parameter, ReadMessage, Verdict};
 use outgoing::{Accepted, Addressed, Components, SentComponent, SentMessage, accept};
 use q773_comp::{Component, Rejection};
 use records::Record;
@@ -157,6 +157,18 @@ fn begins_in(
     Ok(started_in(source, effect, asked, subscriber, new))
 }
 
+/// The name of the context that a Begin requests, if it requests one.
+fn requested(indication: &Indication) -> Option<&ContextName>
+    ensures { (origin : List ℕ) (name : Option (List ℕ)) (components : List machine.Component)
+        → indication.now.verdict ≡ Read (machine.Begin origin name components)
+        → option_map (λ n. n.now) result ≡ name }
+{
+    match indication.verdict() {
+        Verdict::Read(ReadMessage::Begin { context, .. }) => context.as_ref(),
+        _ => None,
+    }
+}
+
 /// A received Begin: answered with an Abort if its dialogue is not accepted, otherwise by its procedure. A dialogue that opens
 /// has the id `new`. Only the effect of the components allocates.
 // A call of its own makes the outcome where it stays; where it is inlined, each of the enums in it is copied part by part.
@@ -184,7 +196,7 @@ pub fn begins(
         (option_copied subscriber.entry)) }
 {
     let from = indication.from();
-    match accept(indication) {
+    match accept(requested(indication), components.len()) {
         Accepted::Go(context) => {
             let source = Source {
                 from,

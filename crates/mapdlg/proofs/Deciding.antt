@@ -1,10 +1,10 @@
 -- What is decided, by what the name of the context says.
-use Rattle.std.proofs.Common.{◌≡◌, List, ℕ, true, false, refl, ap, ◌∙◌}
+use Rattle.std.proofs.Common.{◌≡◌, List, [], ◌∷◌, ℕ, length, true, false, refl, ap, ◌∙◌}
 use Rattle.std.specs.Prelude.{Option, Some, None, cond, is_some}
 use Rattle.machine.specs.Received.{Component}
-use Rattle.machine.specs.Sent.{Context, Refusing}
+use Rattle.machine.specs.Sent.{Context, NoCause, Refusing}
 use Rattle.machine.specs.Contexts.{Named, Known, OtherVersion, Unknown, context_of, name_of, operation_of, accepted_as, accepted, refused_as, refused_name}
-use Rattle.mapdlg.specs.Accepting.{Decision, Refuse, decision_in, decision_under}
+use Rattle.mapdlg.specs.Accepting.{Decision, Go, Refuse, decision_in, decision_under}
 
 -- with the name in the AARE that refuses
 chosen : Option Context → (refused : List ℕ) → List Component → Decision
@@ -45,3 +45,15 @@ unfolding chosen
 unknown name components e = by_name name Unknown components e
 
 pub ruleset deciding = (known, known_refused, other_version, unknown)
+
+-- ---- what is decided in a context, by how many components there are
+
+pub none_refused : (context : Context) (components : List Component) → length components ≡ 0 → decision_in context components ≡ Refuse NoCause
+none_refused context [] none = refl
+none_refused context (c ∷ cs) none = cc
+
+pub some_go : (context : Context) (components : List Component) → (length components ≡ 0 → ⊥) → decision_in context components ≡ Go context
+some_go context [] some = absurd (some refl)
+some_go context (c ∷ cs) some = refl
+
+pub ruleset with_components = (none_refused, some_go)

@@ -1,15 +1,11 @@
 -- What is decided on a received Begin before its components are handled (profile).
 use Rattle.std.specs.Prelude.{ℕ, List, [], ◌∷◌, Option, Some, None}
-use Rattle.machine.specs.Received.{Component, Begin, Verdict, Read}
+use Rattle.machine.specs.Received.{Component}
 use Rattle.machine.specs.Sent.{Context, Why, NoCause, Refusing, SentAbort}
 use Rattle.machine.specs.Contexts.{accepted, refused_name}
 use Rattle.machine.specs.State.{Local}
 use Rattle.machine.specs.Outcome.{Outcome, send, unchanged}
 use Rattle.machine.specs.Begins.{begins_in}
-
-abbrev pub IsBegin : Verdict → Type 0
-IsBegin (Read (Begin origin name components)) = Unit {0}
-IsBegin _ = ⊥
 
 -- The Begin starts in a context, or is answered with an Abort.
 pub data Decision : Type 0 where

@@ -1,20 +1,16 @@
 //! Whether a received Begin is accepted.
 
-ghost use Rattle.std.specs.Prelude.{◌≡◌, ℕ, List, Option, map};
-ghost use Rattle.machine.specs.Received as received;
+ghost use Rattle.std.specs.Prelude.{◌≡◌, ℕ, List, length, option_map};
+ghost use Rattle.machine.specs.Received.{Component};
 ghost use Rattle.machine.specs.State.{Local};
 ghost use Rattle.machine.specs.Contexts.{accepted};
 ghost use Rattle.machine.specs.Begins.{begins};
 ghost use Rattle.mapctx.specs.Seen.{context};
-ghost use Rattle.q773_comp.specs.Seen.{component};
-ghost use Rattle.msgarena.specs.Seen.{parameter};
-ghost use Rattle.mapdlg.specs.Accepting.{IsBegin, decision, decision_in, decision_under, begins_as};
+ghost use Rattle.mapdlg.specs.Accepting.{decision, decision_in, decision_under, begins_as};
 ghost use Rattle.mapdlg.specs.Seen.{decided};
 
 use crate::why::Why;
 use mapctx::{Context, ContextName, Named, context_of, name_of, operation_of};
-use msgarena::{Indication, Parameter, ReadMessage, Verdict};
-use q773_comp::Component;
 
 /// What is decided on a Begin before its components are handled.
 #[derive(Clone, Copy, PartialEq, Eq)]
@@ -25,45 +21,32 @@ pub enum Accepted {
     Refuse(Why),
 }
 
-/// What is decided on a received Begin. It is refused without a dialogue portion, then in a context in which a peer may not
-/// begin, then without a component (profile). It does not allocate.
-pub fn accept(indication: &Indication) -> Accepted
-    requires { IsBegin indication.now.verdict }
-    ensures exact { (origin : List ℕ) (name : Option (List ℕ))
-        (components : List received.Component)
-        → indication.now.verdict ≡ received.Read (received.Begin origin name components)
-        → decided result ≡ decision name components }
+/// What is decided on a received Begin, by the name of the context that its dialogue portion requests and by how many components
+/// it has. It is refused without a dialogue portion, then in a context in which a peer may not begin, then without a component
+/// (profile). It does not allocate.
+pub fn accept(name: Option<&ContextName>, count: usize) -> Accepted
+    ensures exact { (components : List Component) → count ≡ length components
+        → decided result ≡ decision (option_map (λ n. n.now) name.entry) components }
     // The machine does the same.
-    ensures machine { (here : Local) (from origin : List ℕ) (name : Option (List ℕ))
-        (components : List received.Component) (new : List ℕ)
-        → indication.now.verdict ≡ received.Read (received.Begin origin name components)
-        → begins here from origin name components new
+    ensures machine { (here : Local) (from origin : List ℕ) (components : List Component)
+        (new : List ℕ) → count ≡ length components
+        → begins here from origin (option_map (λ n. n.now) name.entry) components new
         ≡ begins_as (decided result) here from origin components new }
 {
-    let Verdict::Read(
-        ReadMessage::Begin {
-            context,
-            components,
-            ..
-        },
-    ) = indication.verdict()
-    else {
-        unreachable!();
-    };
-    match context {
-        Some(name) => accept_under(name, components.as_slice()),
+    match name {
+        Some(name) => accept_under(name, count),
         None => Accepted::Refuse(Why::NoCause),
     }
 }
 
 /// What is decided on a Begin whose dialogue request has this context name.
 #[tactic(auto, using(crate::proofs::Deciding::deciding))]
-fn accept_under(name: &ContextName, components: &[Component<Parameter>]) -> Accepted
-    ensures { decided result ≡ decision_under name.now (accepted name.now)
-        (map (component parameter) components.now) }
+fn accept_under(name: &ContextName, count: usize) -> Accepted
+    ensures { (components : List Component) → count ≡ length components
+        → decided result ≡ decision_under name.now (accepted name.now) components }
 {
     match context_of(name.as_slice()) {
-        Named::Known(context) if operation_of(context).is_some() => accept_in(context, components),
+        Named::Known(context) if operation_of(context).is_some() => accept_in(context, count),
         Named::OtherVersion(context) => {
             let offered = ContextName::from_slice(&name_of(context));
             Accepted::Refuse(Why::Refusing(offered))
@@ -73,10 +56,12 @@ fn accept_under(name: &ContextName, components: &[Component<Parameter>]) -> Acce
 }
 
 /// What is decided on a Begin in a context in which a peer may begin.
-fn accept_in(of: Context, components: &[Component<Parameter>]) -> Accepted
-    ensures { decided result ≡ decision_in (context of) (map (component parameter) components.now) }
+#[tactic(auto, using(crate::proofs::Deciding::with_components))]
+fn accept_in(of: Context, count: usize) -> Accepted
+    ensures { (components : List Component) → count ≡ length components
+        → decided result ≡ decision_in (context of) components }
 {
-    if components.is_empty() {
+    if count == 0 {
         Accepted::Refuse(Why::NoCause)
     } else {
         Accepted::Go(of)

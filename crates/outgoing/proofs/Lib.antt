@@ -1,3 +1,1 @@
-mod Alike
 mod Elements
-mod ShortLengths

@@ -1,4 +1,3 @@
 pub mod Seen
 pub use Rattle.mapdlg.specs.Accepting
-pub mod RouteTrees
 pub mod Spelled

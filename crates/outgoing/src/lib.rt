@@ -7,12 +7,11 @@
 mod component;
 mod message;
 mod room;
-mod route;
-mod short_components;
-mod short_inserts;
-mod short_messages;
 mod spelling;
-mod trees;
+mod written_aborts;
+mod written_components;
+mod written_inserts;
+mod written_messages;
 
 pub use component::{Components, SentComponent, SubscriberData};
 pub use mapdlg::{Accepted, Why, accept};

@@ -1,6 +1,6 @@
 //! Room for one message, which is written from its end, so that each length is known when it is written.
 
-ghost use Rattle.std.specs.Prelude.{◌≡◌, ◌+◌, ◌*◌, ◌<◌, [], ◌∷◌, ◌++◌, List, length, OnOk};
+ghost use Rattle.std.specs.Prelude.{◌≡◌, ◌+◌, ◌*◌, ◌≤◌, ◌<◌, [], ◌∷◌, ◌++◌, List, length, OnOk};
 ghost use Rattle.x690.specs.Identifier.{leading, identifier};
 ghost use Rattle.x690.specs.Length.{length_octets};
 ghost use Rattle.x690.specs.Spelling.{enc};
@@ -10,29 +10,25 @@ ghost use Rattle.outgoing.specs.Spelled.{spelled};
 use std::marker::Model;
 use x690::{Class, Tag};
 
-/// The most octets of a message that is written in a room. Nearly all have far fewer; those that have more are spelled by way of
-/// their trees.
-const SIZE: usize = 256;
-
 /// What was to be written does not fit.
 #[derive(Clone, Copy)]
 pub(crate) struct NoRoom;
 
-/// The octets that were written. What is written next comes before them.
+/// The octets that were written, at the end of those that a caller lends. What is written next comes before them.
 #[derive(Drop)]
-pub(crate) struct Room {
-    octets: [u8; SIZE],
+pub(crate) struct Room<'a> {
+    octets: &'a mut [u8],
     start: usize,
 }
 
-impl Model for Room {
-    ghost use Rattle.std.specs.Prelude.{List, ℕ, drop, ◌≤◌};
+impl<'a> Model for Room<'a> {
+    ghost use Rattle.std.specs.Prelude.{List, ℕ, drop, length, ◌≤◌};
 
     ghost Value = { List ℕ };
 
-    ghost view = { λ r. drop r.start r.octets };
+    ghost view = { λ r. drop r.start r.octets.now };
 
-    ghost invariant = { λ r. r.start ≤ 256 };
+    ghost invariant = { λ r. r.start ≤ length r.octets.now };
 }
 
 /// The leading octet of an identifier: class, form and a tag number up to 30 (X.690, 8.1.2.3).
@@ -50,16 +46,14 @@ fn leading_octet(tag: Tag) -> u8
     class + (if tag.constructed { 0x20 } else { 0x00 }) + tag.number as u8
 }
 
-impl Room {
-    /// Room in which nothing is written.
+impl<'a> Room<'a> {
+    /// Room in which nothing is written, of these octets.
     #[inline(always)]
-    pub(crate) fn new() -> Room
+    pub(crate) fn new(octets: &'a mut [u8]) -> Room<'a>
         ensures { result ≡ [] }
     {
-        Room {
-            octets: [0; SIZE],
-            start: SIZE,
-        }
+        let start = octets.len();
+        Room { octets, start }
     }
 
     /// What is written.
@@ -75,7 +69,7 @@ impl Room {
     pub(crate) fn len(&self) -> usize
         ensures { result ≡ length self.now }
     {
-        SIZE - self.start
+        self.octets.len() - self.start
     }
 
     /// Writes octets.
@@ -93,6 +87,22 @@ impl Room {
         Ok(())
     }
 
+    /// Writes a leading octet, and the length of contents of this size, which is not below 128, in the fewest octets (8.1.3.5).
+    #[inline(never)]
+    #[tactic(auto, using(std::proofs::lemmas::Bool::Decides::nat_tests), unfolding(x690::specs::Length::length_octets))]
+    fn put_long_head(&mut self, leading: u8, size: usize) -> Result<(), NoRoom>
+        requires { 128 ≤ size }
+        ensures { OnOk result (self.new ≡ leading ∷ (length_octets size ++ self.old)) }
+    {
+        let [.., a, b, c, d] = (size as u64).to_be_bytes();
+        match size {
+            0..0x100 => self.put(&[leading, 0x81, d]),
+            0x100..0x1_0000 => self.put(&[leading, 0x82, c, d]),
+            0x1_0000..0x100_0000 => self.put(&[leading, 0x83, b, c, d]),
+            0x100_0000.. => self.put(&[leading, 0x84, a, b, c, d]),
+        }
+    }
+
     /// Writes an identifier, and the length of contents of this size in the fewest octets (X.690, 8.1.3.4 and 8.1.3.5).
     #[inline(always)]
     #[tactic(auto, using(std::proofs::lemmas::Bool::Decides::nat_tests), unfolding(x690::specs::Length::length_octets, x690::specs::Identifier::identifier))]
@@ -101,10 +111,10 @@ impl Room {
         ensures { OnOk result (self.new ≡ identifier tag ++ (length_octets size ++ self.old)) }
     {
         let leading = leading_octet(tag);
-        match size {
-            0..0x80 => self.put(&[leading, size as u8]),
-            0x80..0x100 => self.put(&[leading, 0x81, size as u8]),
-            _ => Err(NoRoom),
+        if size < 0x80 {
+            self.put(&[leading, size as u8])
+        } else {
+            self.put_long_head(leading, size)
         }
     }
 

@@ -1,5 +1,0 @@
-use Rattle.std.proofs.Common.{length}
-use Rattle.outgoing.proofs.short_inserts.+put_codes.Given as goal
-
-abbrev pub decreases-put_codes : goal.decreases-put_codes
-decreases-put_codes l = length l.codes.now

@@ -1,0 +1,4 @@
+use Rattle.outgoing.proofs.written_inserts.+put_further.Given as goal
+
+abbrev pub decreases-put_further : goal.decreases-put_further
+decreases-put_further l = l.count

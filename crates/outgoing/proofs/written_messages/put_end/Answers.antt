@@ -1,0 +1,20 @@
+use Rattle.std.proofs.Common.{◌∷◌, ◌++◌, map, option_map, option_to_list}
+use Rattle.x690.specs.Tree.{Primitive}
+use Rattle.frames.specs.SentTrees.{accepting, component_portion, component_trees, octets_of_sent}
+use Rattle.frames.specs.declared.tags.TheConstants.{DESTINATION}
+use Rattle.mapctx.specs.Seen.{context}
+use Rattle.q773_comp.specs.Seen.{rejection}
+use Rattle.outgoing.specs.Seen.{components}
+use Rattle.outgoing.proofs.Elements.{with_octets}
+use Rattle.outgoing.proofs.written_messages.put_end.Goals as goal
+
+pub returns : goal.returns
+unfolding octets_of_sent
+returns c = λ empty.
+    let portion = component_portion (component_trees (map rejection c.args.rejects.now) (components c.args.sent.now)) in
+    let dialogue = option_to_list (option_map accepting (option_map context c.args.of)) in
+    let destination = c.args.destination.now in
+    let one = c.in_ok-put_answer.ensures portion (c.in_ok-put_portion.ensures empty) in
+    let two = with_octets DESTINATION _ destination _ (dialogue ++ portion) c.as_slice.ensures.value
+    (c.in_ok-put_primitive.ensures (dialogue ++ portion) one) in
+    c.wrap_all.ensures (Primitive DESTINATION destination ∷ (dialogue ++ portion)) two
