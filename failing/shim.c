@@ -2,6 +2,7 @@
    program makes. It needs no header, so that the compiler alone builds it: the few declarations below are those of glibc.
 
    FAILING_KIND   what is refused: `alloc` (malloc, calloc, realloc, posix_memalign and their like), `read`, `write`;
+                  `thread` (pthread_create), and `own` the allocations of the threads that are started by it alone;
                   `short` has a read or a write of several octets move one; `eintr` has one interrupted before it moved any.
    FAILING_AT     the number of the first call that is refused, from 1; 0 refuses none.
    FAILING_COUNT  how many calls from that one on are refused; 0 for all.
@@ -20,18 +21,20 @@ extern void *__libc_malloc(size_t);
 extern void *__libc_calloc(size_t, size_t);
 extern void *__libc_realloc(void *, size_t);
 extern void *__libc_memalign(size_t, size_t);
+extern void *dlsym(void *, const char *);
 extern int strcmp(const char *, const char *);
 
-enum { SYS_READ = 0, SYS_WRITE = 1, SYS_OPEN = 2, SYS_WRITEV = 20, SYS_EXIT_GROUP = 231 };
+enum { SYS_READ = 0, SYS_WRITE = 1, SYS_OPEN = 2, SYS_WRITEV = 20, SYS_GETPID = 39, SYS_GETTID = 186, SYS_EXIT_GROUP = 231 };
 enum { CREATE_FOR_WRITING = 01 | 0100 | 01000 };
-enum { EINTR = 4, EIO = 5, ENOMEM = 12 };
+enum { EINTR = 4, EIO = 5, EAGAIN = 11, ENOMEM = 12 };
 
 struct piece {
     void *base;
     size_t length;
 };
 
-enum kind { NONE, ALLOC, READ, WRITE, SHORT, INTERRUPTED };
+enum kind { NONE, ALLOC, OWN, THREAD, READ, WRITE, SHORT, INTERRUPTED };
+static const char *const names[] = {"none", "alloc", "own", "thread", "read", "write", "short", "eintr"};
 static enum kind kind;
 static unsigned long first, count, calls;
 static const char *told;
@@ -53,8 +56,9 @@ __attribute__((constructor)) static void begin(void)
     told = getenv("FAILING_TOLD");
     if (!given)
         return;
-    kind = !strcmp(given, "alloc") ? ALLOC : !strcmp(given, "read") ? READ : !strcmp(given, "write") ? WRITE
-         : !strcmp(given, "short") ? SHORT : !strcmp(given, "eintr") ? INTERRUPTED : NONE;
+    for (enum kind it = ALLOC; it <= INTERRUPTED; it++)
+        if (!strcmp(given, names[it]))
+            kind = it;
 }
 
 __attribute__((destructor)) static void end(void)
@@ -83,9 +87,15 @@ static int is_refused(void)
     return first && at >= first && (!count || at < first + count);
 }
 
+/* Whether the allocations of this thread are counted: of all threads, or of those that the first one started. */
+static int is_meant(void)
+{
+    return kind == ALLOC || (kind == OWN && syscall(SYS_GETTID) != syscall(SYS_GETPID));
+}
+
 static int has_no_memory(void)
 {
-    if (kind != ALLOC || !is_refused())
+    if (!is_meant() || !is_refused())
         return 0;
     *__errno_location() = ENOMEM;
     return 1;
@@ -122,6 +132,17 @@ int posix_memalign(void **to, size_t alignment, size_t size)
     if (found)
         *to = found;
     return found ? 0 : ENOMEM;
+}
+
+typedef void *running(void *);
+typedef int starting(void *, const void *, running *, void *);
+
+int pthread_create(void *to, const void *attributes, running *run, void *given)
+{
+    if (kind == THREAD && is_refused())
+        return EAGAIN;
+    starting *next = (starting *)dlsym((void *)-1, "pthread_create"); /* of the library behind this one */
+    return next(to, attributes, run, given);
 }
 
 /* How many octets a read or a write may move, of so many that it asks for, or -1 with the error set. */

@@ -54,8 +54,8 @@ impl Plan {
         ensures { IsTrue result ↔ (IsOpening self.now.outcome.dialogue
             × (id_of self.now.named ≡ None)) }
     {
-        match (&self.outcome.dialogue, self.named) {
-            (DialogueChange::Opens(_), Named::Nothing) => true,
+        match &self.outcome.dialogue {
+            DialogueChange::Opens(_) => self.named.id().is_none(),
             _ => false,
         }
     }

@@ -11,6 +11,8 @@ mod journals;
 #[cfg(test)]
 mod nodes;
 #[cfg(test)]
+mod own_entries;
+#[cfg(test)]
 mod samples;
 #[cfg(test)]
 mod without_journal;

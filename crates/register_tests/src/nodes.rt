@@ -81,6 +81,27 @@ fn first_route_is_listed(rt: HostRuntime) -> Result<(), Fail> {
     Ok(())
 }
 
+/// Whether a register answers the route by its octets, with this arena.
+fn is_answered(node: &mut Node, bump: &mut Bump, events: &[RawEvent]) -> Result<bool, Fail> {
+    let done = node.run(bump, events).ok().ok_or("run")?;
+    let sent = done.first().ok_or("no answer")?.outs.as_slice();
+    Ok(done.len() == 1 && octets_at(sent, 0) == ROUTE_ANSWER.as_slice())
+}
+
+/// A thousand routes through one arena are answered like a thousand through arenas of their own.
+#[test]
+fn a_thousand_routes(rt: HostRuntime) -> Result<(), Fail> {
+    let alloc = rt.alloc();
+    let (mut one, mut other) = (node(alloc)?, node(alloc)?);
+    let events = vec![in alloc; frame(alloc, &ROUTE)?]?;
+    let mut bump = Bump::new(alloc);
+    for _ in 0..1_000 {
+        assert!(rt; is_answered(&mut one, &mut bump, &events)?);
+        assert!(rt; is_answered(&mut other, &mut Bump::new(alloc), &events)?);
+    }
+    Ok(())
+}
+
 #[test]
 fn an_open_update_is_listed_and_not_saved(rt: HostRuntime) -> Result<(), Fail> {
     let alloc = rt.alloc();

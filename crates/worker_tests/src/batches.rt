@@ -1,6 +1,6 @@
 //! Batches that workers share.
 
-use crate::gates::{Open, UntilAll, UntilDone};
+use crate::gates::{Alone, Open, UntilAll, UntilDone};
 use crate::given::{Register, clock, frame};
 use crate::samples::{DATA_TAKEN, OTHER_ROUTE, ROUTE, ROUTE_ANSWER, UPDATE};
 use std::alloc::Global;
@@ -71,6 +71,24 @@ fn sixteen_at_once(rt: HostRuntime) -> Result<(), Fail> {
     assert_eq!(rt;
         (gate.in_time(), reconcile(&shards, &jobs, &receipts)),
         (16, Ok(()))
+    );
+    Ok(())
+}
+
+/// Four workers are never inside one shard together: a job is inside while its shard is locked, and not before or after.
+#[test]
+fn one_at_a_time_in_a_shard(rt: HostRuntime) -> Result<(), Fail> {
+    let mut register = Register::new(rt.alloc())?;
+    let gate = Alone::new();
+    let mut events = Vec::new(rt.alloc());
+    for now in 0..64 {
+        events.push(clock(3, now)?)?;
+    }
+    register.take(&rt, &gate, 4, events)?;
+    let (shards, jobs, receipts) = register.close()?;
+    assert_eq!(rt;
+        (gate.counts(), reconcile(&shards, &jobs, &receipts)),
+        ((64, 0), Ok(()))
     );
     Ok(())
 }

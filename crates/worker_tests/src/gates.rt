@@ -89,6 +89,50 @@ impl Gate for UntilAll {
     fn done(&self, _job: u64) {}
 }
 
+/// For how many turns `Alone` holds each job: long enough for the other workers to take another one.
+const FEW_TURNS: usize = 2_000;
+
+/// Holds each job inside its shard for some turns, and tells whether another came inside meanwhile. All jobs are for one shard.
+#[derive(Drop)]
+pub(crate) struct Alone {
+    inside: AtomicU64,
+    entered: AtomicU64,
+    together: AtomicU64,
+}
+
+impl Alone {
+    pub(crate) fn new() -> Alone {
+        Alone {
+            inside: AtomicU64::new(0),
+            entered: AtomicU64::new(0),
+            together: AtomicU64::new(0),
+        }
+    }
+
+    /// How many jobs came inside, and how many of them while another was there.
+    pub(crate) fn counts(&self) -> (u64, u64) {
+        (
+            self.entered.load(Ordering::SeqCst),
+            self.together.load(Ordering::SeqCst),
+        )
+    }
+}
+
+impl Gate for Alone {
+    fn inside(&self, _job: u64) {
+        self.entered.fetch_add(1, Ordering::SeqCst);
+        if self.inside.fetch_add(1, Ordering::SeqCst) > 0 {
+            self.together.fetch_add(1, Ordering::SeqCst);
+        }
+        for _ in 0..FEW_TURNS {
+            thread::yield_now();
+        }
+        self.inside.fetch_sub(1, Ordering::SeqCst);
+    }
+
+    fn done(&self, _job: u64) {}
+}
+
 /// Holds no job.
 #[derive(Drop)]
 pub(crate) struct Open;

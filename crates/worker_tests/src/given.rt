@@ -60,12 +60,22 @@ impl Register {
     }
 
     pub(crate) fn of_office(alloc: Global, office: Office) -> Register {
+        Register::going_on(alloc, office, Vec::new(alloc), Vec::new(alloc))
+    }
+
+    /// A register whose shards have the entries of these jobs, which have the first numbers.
+    pub(crate) fn going_on(
+        alloc: Global,
+        office: Office,
+        jobs: Vec<Job>,
+        receipts: Vec<Receipt>,
+    ) -> Register {
         Register {
             alloc,
             office,
-            next: 1,
-            jobs: Vec::new(alloc),
-            receipts: Vec::new(alloc),
+            next: (jobs.len() as u64).saturating_add(1),
+            jobs,
+            receipts,
         }
     }
 
