@@ -9,14 +9,16 @@ use Rattle.frames.specs.Verdicts.{verdict_of}
 use Rattle.frames.specs.Frames.{IsJudged}
 use Rattle.frames.specs.SentTrees.{reject_tree, component_tree}
 use Rattle.frames.specs.SentHeard.{reject_meant, component_meant}
-use Rattle.frames_laws.specs.Laws.{MessagesAreRead, DialoguesAreRead, ComponentsAreRead, ParametersAreRead, ComponentsAreHeard, TreesAreJudged, OneMessage, OneVerdict, VerdictsAreWithinBounds, SentComponentsHaveForms, SentPortionsHaveForms, SentIsMeant, SentIsOctets, SentIsShallow, SentIsShort, OctetsTell, SentIsRead}
+use Rattle.frames_laws.specs.Reader.{read_verdict}
+use Rattle.frames_laws.specs.Laws.{TreesAreRead, VerdictsAreRead, MessagesAreRead, DialoguesAreRead, ComponentsAreRead, ParametersAreRead, ComponentsAreHeard, TreesAreJudged, OneMessage, OneVerdict, VerdictsAreWithinBounds, SentComponentsHaveForms, SentPortionsHaveForms, SentIsMeant, SentIsOctets, SentIsShallow, SentIsShort, OctetsTell, SentIsRead}
 use Rattle.frames.proofs.PointLaws.{message_or_not_found, message_or_not_again}
 use Rattle.frames.proofs.DialogueLaws.{dialogue_found, dialogue_again}
 use Rattle.frames.proofs.ComponentLaws.{component_found, component_again, well_formed}
 use Rattle.frames.proofs.ArgumentLaws.{update_found, update_again, purge_found, purge_again, route_found, route_again, parameter_found, parameter_again}
 use Rattle.frames.proofs.HeardLaws.{heard_found, heard_again}
 use Rattle.frames.proofs.JudgingLaws.{judged, one_judgement, one_verdict as one_verdict_of}
-use Rattle.frames_laws.proofs.ParsingLaws.{a_verdict}
+use Rattle.frames_laws.proofs.ReaderLaws.{tree-is, tree-of}
+use Rattle.frames_laws.proofs.VerdictLaws.{verdict-read, verdict_is, verdict_of_octets}
 use Rattle.frames_laws.proofs.BoundLaws.{verdict_within}
 use Rattle.frames_laws.proofs.SizeLaws.{sent_size}
 use Rattle.frames.proofs.ReadLaws.{one_message as one_message_of}
@@ -48,11 +50,17 @@ components_are_heard t c = (λ e. subst (IsHeard t) e (heard_found t), heard_aga
 pub trees_are_judged : TreesAreJudged
 trees_are_judged t v = (λ e. subst (IsJudged t) e (judged t), λ j. one_judgement t (verdict_of t) v (judged t) j)
 
+pub trees_are_read : TreesAreRead
+trees_are_read octets t = (tree-is octets t, tree-of octets t)
+
+pub verdicts_are_read : VerdictsAreRead
+verdicts_are_read octets v = (verdict_is octets v, verdict_of_octets octets v)
+
 pub one_message : OneMessage
 one_message t m n h k = one_message_of t m n h k
 
 pub one_verdict : OneVerdict
-one_verdict octets = let (v, is) = a_verdict octets in (v, is, λ w other. one_verdict_of octets w v other is)
+one_verdict octets = (read_verdict octets, verdict-read octets, λ w is. one_verdict_of octets w (read_verdict octets) is (verdict-read octets))
 
 pub verdicts_are_within_bounds : VerdictsAreWithinBounds
 verdicts_are_within_bounds octets v is = verdict_within octets v is

@@ -1,14 +1,13 @@
-pub mod ParsingLaws
+pub mod ReaderLaws
+pub mod VerdictLaws
 pub mod SentBack
 pub mod SentShape
 pub mod SentRead
 pub mod Laws
 pub mod OctetLaws
-pub mod Styles
 pub mod Computed
 pub mod PortionsComputed
 pub mod AccountsComputed
-pub mod Hostile
 pub mod BoundLaws
 pub mod SizeLaws
 pub mod SaneLaws

@@ -28,6 +28,7 @@ use Rattle.frames.specs.Sane.{AreDecimal, SaneComponent, SaneRejection, SaneCont
 use Rattle.frames.specs.SentTrees.{rejected_tree, reject_tree, subscriber_trees, teleservice_tree, teleservice_trees, error_parameter, component_tree, aare_tree, asking, accepting, component_portion, portion_trees, component_trees, tree_of, octets_of_sent}
 use Rattle.frames.specs.DialogueForms.{portion_tree}
 use Rattle.frames_laws.proofs.SentBack.{one_tree_sent}
+use Rattle.frames_laws.proofs.VerdictLaws.{written}
 
 -- ---- one element
 
@@ -103,15 +104,6 @@ fine_map k P f fine (a ∷ xs) h = (fine a h.0, fine_map k P f fine xs h.1)
 
 one : (n : ℕ) → n < 256 → AreOctets (n ∷ [])
 one n h = (h, tt)
-
--- octets that are written out
-abbrev pub are_octets : List ℕ → Bool
-are_octets [] = true
-are_octets (n ∷ ns) = ltb n 256 && are_octets ns
-
-pub written : (ns : List ℕ) → are_octets ns ≡ true → AreOctets ns
-written [] e = tt
-written (n ∷ ns) e = let (small, rest) = both_true (ltb n 256) (are_octets ns) e in (ltb-true n 256 small, written ns rest)
 
 id_octet : (id : ℤ) → IsInvokeId id → cast_unsigned w8 id < 256
 id_octet id h = Fits-lt-pow {w = w8} (Fits-of_z {w = w8} {z = id} h)

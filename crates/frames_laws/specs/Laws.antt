@@ -2,6 +2,7 @@
 use Rattle.std.specs.Prelude.{◌≡◌, ℕ, ◌≤◌, ◌↔◌, List, length, Result, Some}
 use Rattle.machine.specs.Octets.{AreOctets}
 use Rattle.x690.specs.Tree.{Tree, levels}
+use Rattle.x690.specs.Spelling.{Spells}
 use Rattle.machine.specs.Received.{Code, Number, Parameter, ComponentOf, Component, Response, Apdu, Aarq, Aare, Abrt, Message, Verdict, Read}
 use Rattle.machine.specs.Sent.{Rejection, SentComponent, SentMessage}
 use Rattle.machine.specs.declared.numbers.TheConstants.{MAX_CONTEXT_NAME, UPDATE_LOCATION, PURGE_MS, SEND_ROUTING_INFO_FOR_SM}
@@ -21,6 +22,7 @@ use Rattle.frames.specs.Frames.{Reads, IsJudged, IsVerdict}
 use Rattle.frames.specs.SentTrees.{reject_tree, component_tree, aarq_tree, aare_tree, abrt_tree, tree_of, octets_of_sent}
 use Rattle.frames.specs.SentHeard.{reject_meant, component_meant, message_heard}
 use Rattle.frames.specs.Sane.{SaneComponent, SaneRejection, SaneContent, Sane, HasIds, Readable}
+use Rattle.frames_laws.specs.Reader.{read_tree, read_verdict}
 
 -- ---- readings and forms
 
@@ -53,6 +55,14 @@ abbrev pub OneMessage : Type 0
 OneMessage = (t : Tree) (m n : Message) → Reads t m → Reads t n → m ≡ n
 
 -- ---- octets
+
+-- The reader of octets reads the tree that they spell, and where it reads none they spell none (X.690, 8.1).
+abbrev pub TreesAreRead : Type 0
+TreesAreRead = (octets : List ℕ) (t : Tree) → (read_tree octets ≡ Some t) ↔ Spells octets t
+
+-- The verdict that is read of octets, whatever they are, is the one that they have.
+abbrev pub VerdictsAreRead : Type 0
+VerdictsAreRead = (octets : List ℕ) (v : Verdict) → (read_verdict octets ≡ v) ↔ IsVerdict octets v
 
 -- Octets, whatever they are, have exactly one verdict.
 abbrev pub OneVerdict : Type 0

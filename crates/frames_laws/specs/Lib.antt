@@ -1,3 +1,4 @@
+pub mod Reader
 pub mod Laws
 pub mod JournalLaws
 pub mod Written

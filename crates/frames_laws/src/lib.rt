@@ -4,7 +4,7 @@
 pub mod examples;
 pub mod journals;
 
-ghost use Rattle.frames_laws.specs.Laws.{MessagesAreRead, DialoguesAreRead, ComponentsAreRead, ParametersAreRead, ComponentsAreHeard, TreesAreJudged, OneMessage, OneVerdict, VerdictsAreWithinBounds, SentComponentsHaveForms, SentPortionsHaveForms, SentIsMeant, SentIsOctets, SentIsSane, SentIsShallow, SentIsShort, OctetsTell, SentIsRead};
+ghost use Rattle.frames_laws.specs.Laws.{MessagesAreRead, DialoguesAreRead, ComponentsAreRead, ParametersAreRead, ComponentsAreHeard, TreesAreJudged, TreesAreRead, VerdictsAreRead, OneMessage, OneVerdict, VerdictsAreWithinBounds, SentComponentsHaveForms, SentPortionsHaveForms, SentIsMeant, SentIsOctets, SentIsSane, SentIsShallow, SentIsShort, OctetsTell, SentIsRead};
 
 /// With its portions unread, a tree is read as a message exactly if it has the message's form, and otherwise as what the
 /// first point that applies says (Q.773).
@@ -35,6 +35,16 @@ pub fn components_are_heard()
 /// The verdict that is read of a tree is the one by the points.
 pub fn trees_are_judged()
     ensures { TreesAreJudged }
+{}
+
+/// The reader of octets, which can be run on any, reads the tree that they spell (X.690, 8.1). Where it reads none, they spell none.
+pub fn trees_are_read()
+    ensures { TreesAreRead }
+{}
+
+/// The verdict that is read of octets, whatever they are, is the one that they have.
+pub fn verdicts_are_read()
+    ensures { VerdictsAreRead }
 {}
 
 /// A tree is at most one message.

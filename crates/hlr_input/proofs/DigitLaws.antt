@@ -1,20 +1,20 @@
 -- A frame's octets without a letter are those that the hexadecimal digits of the whole text stand for.
 use Rattle.std.proofs.Common.{◌≡◌, ℕ, ◌+◌, ◌*◌, ◌%◌, Bool, true, false, List, [], ◌∷◌, ◌++◌, length, refl, sym, ap, ◌∙◌, arith, append_assoc, inl, inr}
-use Rattle.std.specs.Prelude.{◌&&◌, ◌==◌, Option, Some, None, option_map, is_some, Result, Ok, Err, codes}
+use Rattle.std.specs.Prelude.{◌&&◌, ◌==◌, Option, Some, None, option_map, is_some, Result, Ok, Err}
 use Rattle.std.specs.List.{list_any, list_all}
 use Rattle.std.specs.Result.{result_ok}
 use Rattle.std.specs.Char.{is_ascii_hexdigit}
-use Rattle.std.proofs.lemmas.Bool.{cases_Bool, cases_eq, or_parts, and_parts}
+use Rattle.std.proofs.lemmas.Bool.{cases_eq, or_parts, and_parts}
 use Rattle.std.proofs.lemmas.List.Sums.{list_all-from_AllPass}
 use Rattle.std.proofs.lemmas.List.{append-nil}
 use Rattle.hex.specs.Hex.{decode_of, decode_pairs, hex_digit_value, is_hex_digit}
 use Rattle.hex.proofs.HexLemmas.{decode_of-even, decode_of-odd, decode_pairs-ok}
 use Rattle.hex.proofs.Pairs.{cons_byte}
 use Rattle.hex.specs.declared.error.FromHexError.{FromHexError}
-use Rattle.records.specs.Reading.{◌>>=◌, is_text, octet_in}
+use Rattle.records.specs.Reading.{◌>>=◌, octet_in}
 use Rattle.hlr_input.specs.declared.group.Group.TheVariants.{Octet}
 use Rattle.hlr_input.specs.Octets.{octets_of_group}
-use Rattle.hlr_input.specs.Reading.{stands, are_groups, octets_after, octets_stand}
+use Rattle.hlr_input.specs.Reading.{stands, are_groups, octets_after}
 
 pub digit_is_digit : (character : ℕ) → is_ascii_hexdigit character ≡ is_hex_digit character
 digit_is_digit character = grind (arith)
@@ -24,7 +24,7 @@ digit_is_digit character = grind (arith)
 no_letter_is_digit : (character : ℕ) → is_hex_digit character ≡ true → (character == 36) ≡ false
 no_letter_is_digit character digit = grind (arith)
 
-pub digits_have_none : (text : List ℕ) → list_all is_hex_digit text ≡ true → list_any (λ character. character == 36) text ≡ false
+digits_have_none : (text : List ℕ) → list_all is_hex_digit text ≡ true → list_any (λ character. character == 36) text ≡ false
 digits_have_none [] all = refl
 digits_have_none (character ∷ more) all =
     let p = and_parts (is_hex_digit character) (list_all is_hex_digit more) all in
@@ -49,7 +49,7 @@ regroup true false false all = refl
 regroup false q true all = refl
 regroup false q false all = refl
 
-pub groups_of_digits : (known : ℕ) (text : List ℕ) → list_any (λ character. character == 36) text ≡ false
+groups_of_digits : (known : ℕ) (text : List ℕ) → list_any (λ character. character == 36) text ≡ false
     → are_groups known text ≡ (length text % 2 == 0) && list_all is_hex_digit text
 unfolding are_groups
 groups_of_digits known [] none = refl
@@ -61,14 +61,8 @@ groups_of_digits known (a ∷ b ∷ more) none =
     (regroup (is_hex_digit a) (is_hex_digit b) (length more % 2 == 0) (list_all is_hex_digit more))
 
 -- an even number of digits are groups, whatever letters have an id
-digits_stand : (known : ℕ) (text : List ℕ) → length text % 2 ≡ 0 → list_all is_hex_digit text ≡ true → true ≡ are_groups known text
+pub digits_stand : (known : ℕ) (text : List ℕ) → length text % 2 ≡ 0 → list_all is_hex_digit text ≡ true → true ≡ are_groups known text
 digits_stand known text even all = sym (groups_of_digits known text (digits_have_none text all) ∙ rw (even, all) refl)
-
-pub pairs_stand : (text : List ℕ) → (length text == 0) ≡ false → length text % 2 ≡ 0 → list_all is_hex_digit text ≡ true → octets_stand 26 text ≡ true
-pairs_stand text some even all = elim (cases_Bool (is_text text (codes "-"))) [
-  | inl dash ↦ rw dash refl
-  | inr other ↦ rw (other, some) (sym (digits_stand 26 text even all))
-]
 
 -- ---- what they stand for
 

@@ -4,10 +4,6 @@ pub mod DigitLaws
 pub mod ValueLaws
 pub mod LotLemmas
 pub mod LineLaws
-pub mod SpaceLaws
-pub mod FrameLaws
-pub mod PlaceLaws
-pub mod LetteredLaws
 pub mod TickLaws
 pub mod LetterLemmas
 pub mod CommandRows
@@ -16,4 +12,3 @@ pub mod CommandTurns
 pub mod CommandWalk
 pub mod CommandEnd
 pub mod CommandLaws
-pub mod PlainLaws

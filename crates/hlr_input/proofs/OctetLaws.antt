@@ -1,8 +1,8 @@
 -- The octets of a frame read to exactly what they stand for.
-use Rattle.std.proofs.Common.{◌≡◌, ℕ, zero, suc, ◌+◌, ◌-◌, ◌<◌, ◌≤◌, Bool, true, false, cond, List, [], ◌∷◌, ◌++◌, length, take, drop, refl, sym, ap, subst, ◌∙◌, arith, append_assoc, inl, inr}
-use Rattle.std.specs.Prelude.{◌&&◌, ◌==◌, nat_le, nat_lt, IsTrue, ◌↔◌, Option, Some, None, option_map, option_and_then, slice_index, slice_index_or, slice_get, codes, IfSome}
-use Rattle.std.specs.List.{list_any}
-use Rattle.std.proofs.lemmas.Bool.{or_parts, eqb-false, and_left, and_parts, and_from, leb-true, le-leb, lt-ltb, false≢true, eqb-true, ne_eqb, cases_Bool, cond-false, cond-true}
+use Rattle.std.proofs.Common.{◌≡◌, ℕ, zero, suc, ◌+◌, ◌-◌, ◌%◌, ◌<◌, ◌≤◌, Bool, true, false, cond, List, [], ◌∷◌, ◌++◌, length, take, drop, refl, sym, ap, subst, ◌∙◌, arith, append_assoc, inl, inr}
+use Rattle.std.specs.Prelude.{◌&&◌, ◌==◌, nat_le, nat_lt, IsTrue, Option, Some, None, option_map, option_and_then, slice_index, slice_index_or, slice_get, codes, IfSome}
+use Rattle.std.specs.List.{list_all}
+use Rattle.std.proofs.lemmas.Bool.{and_left, and_parts, and_from, leb-true, le-leb, lt-ltb, false≢true, eqb-true, ne_eqb, cases_Bool, cond-false, cond-true}
 use Rattle.std.proofs.lemmas.List.{append-nil}
 use Rattle.std.proofs.lemmas.List.Elements.{recursion_from_All}
 use Rattle.hex.specs.Hex.{is_hex_digit}
@@ -186,27 +186,42 @@ all_known (a ∷ b ∷ more) [] h = absurd h
 all_known (a ∷ b ∷ more) (Octet octet ∷ gs) h = all_known more gs h.1
 all_known (a ∷ b ∷ more) (Letter place ∷ gs) h = and_from (nat_lt place 26) (are_known 26 gs) (lt-ltb place 26 h.0.1) (all_known more gs h.1)
 
--- without a `$` there is no letter
-groups_without : (known : ℕ) (text : List ℕ) (groups : List Group) → list_any (λ character. character == 36) text ≡ false → AreGroups text groups
-    → are_known known groups ≡ true
-groups_without known [] [] e h = refl
-groups_without known [] (g ∷ gs) e h = absurd h
-groups_without known (a ∷ []) [] e h = absurd h
-groups_without known (a ∷ []) (g ∷ gs) e h = absurd h
-groups_without known (a ∷ b ∷ more) [] e h = absurd h
-groups_without known (a ∷ b ∷ more) (Octet octet ∷ gs) e h =
-    let p = or_parts (a == 36) (list_any (λ character. character == 36) (b ∷ more)) e in
-    let q = or_parts (b == 36) (list_any (λ character. character == 36) more) p.1 in
-    groups_without known more gs q.1 h.1
-groups_without known (a ∷ b ∷ more) (Letter place ∷ gs) e h =
-    let p = or_parts (a == 36) (list_any (λ character. character == 36) (b ∷ more)) e in
-    let first : a ≡ 36 = cc (h.0.0) in
-    absurd (eqb-false a 36 p.0 first)
+-- without an id for any letter there is none: they are digits
+all_after : (front : List ℕ) (o : Option (List ℕ)) (octets : List ℕ) → option_map (λ (rest : List ℕ). front ++ rest) o ≡ Some octets
+    → (rest : List ℕ) × (o ≡ Some rest)
+all_after front None octets e = absurd cc
+all_after front (Some rest) octets e = (rest, refl)
 
-pub known_without : (known : ℕ) (text : List ℕ) (groups : List Group) → list_any (λ character. character == 36) text ≡ false → IsOctets text groups
-    → true ≡ are_known known groups
-known_without known text [] e h = refl
-known_without known text (g ∷ gs) e h = sym (groups_without known text (g ∷ gs) e h)
+even_more : (more : List ℕ) (a b : ℕ) → length (a ∷ b ∷ more) % 2 ≡ length more % 2
+even_more more a b = omega arith
+
+groups_plain : (text : List ℕ) (groups : List Group) (octets : List ℕ) → AreGroups text groups → octets_of [] groups ≡ Some octets
+    → (length text % 2 ≡ 0) × (list_all is_hex_digit text ≡ true)
+groups_plain [] [] octets h e = (refl, refl)
+groups_plain [] (g ∷ gs) octets h e = absurd h
+groups_plain (a ∷ []) [] octets h e = absurd h
+groups_plain (a ∷ []) (g ∷ gs) octets h e = absurd h
+groups_plain (a ∷ b ∷ more) [] octets h e = absurd h
+groups_plain (a ∷ b ∷ more) (Octet octet ∷ gs) octets h e =
+    let p = recursion_from_All (λ x. is_hex_digit x ≡ true) (a ∷ b ∷ []) (decode_of-ok (a ∷ b ∷ []) (octet ∷ []) h.0).1 in
+    let rest = all_after (octet ∷ []) (octets_of [] gs) octets e in
+    let later = groups_plain more gs rest.0 h.1 rest.1 in
+    (even_more more a b ∙ later.0, rw (p.0, p.1.0) later.1)
+groups_plain (a ∷ b ∷ more) (Letter place ∷ gs) octets h e = absurd cc
+
+-- and these octets they are with any ids
+pub octets_any : (ids : List (List ℕ)) (groups : List Group) (octets : List ℕ) → octets_of [] groups ≡ Some octets → octets_of ids groups ≡ Some octets
+octets_any ids [] octets e = e
+octets_any ids (Octet octet ∷ gs) octets e =
+    let rest = all_after (octet ∷ []) (octets_of [] gs) octets e in
+    let same : octets_of ids gs ≡ octets_of [] gs = octets_any ids gs rest.0 rest.1 ∙ sym rest.1 in
+    ap (option_map (λ (more : List ℕ). (octet ∷ []) ++ more)) same ∙ e
+octets_any ids (Letter place ∷ gs) octets e = absurd cc
+
+pub octets_plain : (text : List ℕ) (groups : List Group) (octets : List ℕ) → IsOctets text groups → octets_of [] groups ≡ Some octets
+    → is_text text (codes "-") ≡ false → (length text % 2 ≡ 0) × (list_all is_hex_digit text ≡ true)
+octets_plain text [] octets h e other = absurd (false≢true (sym other ∙ ap (λ (t : List ℕ). is_text t (codes "-")) h))
+octets_plain text (g ∷ gs) octets h e other = groups_plain text (g ∷ gs) octets h e
 
 -- a text of groups is neither `-` nor empty
 pub no_dash : (text : List ℕ) (g : Group) (gs : List Group) → AreGroups text (g ∷ gs) → is_text text (codes "-") ≡ false
@@ -239,23 +254,23 @@ octets_from (a ∷ []) [] some h = absurd h
 octets_from (a ∷ b ∷ more) [] some h = absurd h
 octets_from text (g ∷ gs) some h = h
 
-stand_found : (text : List ℕ) → octets_stand 26 text ≡ true → (groups : List Group) × IsOctets text groups
-stand_found text e =
+stood_so : (known : ℕ) (text : List ℕ) → octets_stand known text ≡ true → (groups : List Group) × IsOctets text groups
+stood_so known text e =
     elim (cases_Bool (is_text text (codes "-"))) [
       | inl t ↦ ([], is_text_true text (codes "-") t)
       | inr f ↦
-          let rest : cond (length text == 0) false (are_groups 26 text) ≡ true =
-          sym (cond-false (is_text text (codes "-")) true (cond (length text == 0) false (are_groups 26 text)) f) ∙ e in
+          let rest : cond (length text == 0) false (are_groups known text) ≡ true =
+          sym (cond-false (is_text text (codes "-")) true (cond (length text == 0) false (are_groups known text)) f) ∙ e in
           elim (cases_Bool (length text == 0)) [
-            | inl z ↦ absurd (false≢true (sym (cond-true (length text == 0) false (are_groups 26 text) z) ∙ rest))
+            | inl z ↦ absurd (false≢true (sym (cond-true (length text == 0) false (are_groups known text) z) ∙ rest))
             | inr some ↦
-                let r = groups_found 26 text (sym (cond-false (length text == 0) false (are_groups 26 text) some) ∙ rest) in
+                let r = groups_found known text (sym (cond-false (length text == 0) false (are_groups known text) some) ∙ rest) in
                 (r.groups, octets_from text r.groups some r.are)
           ]
     ]
 
-pub stands_exactly : (text : List ℕ) (b : Bool) → b ≡ octets_stand 26 text → IsTrue b ↔ ((groups : List Group) × IsOctets text groups)
-stands_exactly text b e = (λ h. stand_found text (sym e ∙ h), λ p. e ∙ stand_known 26 text p.0 p.1 ∙ known_of text p.0 p.1)
+pub stand_found : (known : ℕ) (text : List ℕ) (b : Bool) → b ≡ octets_stand known text → IsTrue b → (groups : List Group) × IsOctets text groups
+stand_found known text b e is = stood_so known text (sym e ∙ is)
 
 -- ---- the octets that they stand for
 

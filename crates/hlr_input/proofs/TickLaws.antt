@@ -1,5 +1,5 @@
 -- Clock values in decimal.
-use Rattle.std.proofs.Common.{◌≡◌, ◌≢◌, ℕ, zero, suc, ◌<◌, ◌≤◌, ◌^◌, true, List, [], ◌∷◌, length, get_or, refl, sym, ap, subst, ◌∙◌, arith, inl, inr}
+use Rattle.std.proofs.Common.{◌≡◌, ◌≢◌, ℕ, zero, suc, ◌<◌, ◌≤◌, ◌^◌, true, false, List, [], ◌∷◌, length, get_or, refl, sym, ap, subst, ◌∙◌, arith, inl, inr}
 use Rattle.std.specs.Prelude.{◌&&◌, ◌==◌, nat_le, Result, Ok, Err}
 use Rattle.std.specs.Fmt.{decimal}
 use Rattle.std.specs.Str.{IsUtf8}
@@ -8,7 +8,7 @@ use Rattle.std.proofs.lemmas.Bool.{and_parts, and_from, leb-true, le-leb, false�
 use Rattle.std.proofs.lemmas.Str.Parse.{IsNumeralModel, numerals_by_value, tells_digits, without_leading_plus_none, digit_at}
 use Rattle.std.proofs.lemmas.Fmt.{decimal_is_IsNumeral, decimal_digit, first_decimal, decimal-digits_value, parse-decimal, IsAscii-decimal}
 use Rattle.std.proofs.lemmas.Str.{IsUtf8-from_ascii}
-use Rattle.hlr_input.specs.Script.{IsTicks}
+use Rattle.hlr_input.specs.Script.{IsTicks, has_space}
 use Rattle.hlr_input.specs.Reading.{is_plain}
 
 own : IsNumeralModel (AllDigits 10) (digits_value 10)
@@ -68,3 +68,13 @@ ticks_found text n (Ok m) is plain parsed most =
     let value : digits_value 10 text ≡ n = ap (digits_value 10) (sym whole) ∙ sym parsed.1 ∙ same in
     let small : digits_value 10 text < 2 ^ 64 = subst (λ (v : ℕ). v < 2 ^ 64) (sym value) (fits n most) in
     record { written_so = sym (decimal-digits_value own text numeral.1 facts.0 facts.2 small) ∙ ap decimal value; most = most }
+
+-- a clock value has no space
+digits_free : (text : List ℕ) → AllDigits 10 text → has_space text ≡ false
+digits_free [] all = refl
+digits_free (c ∷ cs) all =
+    let first = digit_at (c ∷ cs) 0 all (omega arith) in
+    rw (ne_eqb c 32 (λ is. omega (arith, first, is)), digits_free cs all.1) refl
+
+pub ticks_free : (text : List ℕ) (n : ℕ) → IsTicks text n → has_space text ≡ false
+ticks_free text n h = rw h.written_so (digits_free (decimal n) (decimal_is_IsNumeral n (fits n h.most)).0.1)

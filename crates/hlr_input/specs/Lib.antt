@@ -6,4 +6,3 @@ pub mod CommandLine
 pub mod Command
 pub mod Seen
 pub mod Digits
-pub mod Lettered

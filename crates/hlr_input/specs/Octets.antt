@@ -1,5 +1,5 @@
 -- The octets of a frame, as written in a script (profile).
-use Rattle.std.specs.Prelude.{◌≡◌, ℕ, ◌+◌, ◌<◌, ◌&&◌, Bool, true, nat_lt, List, [], ◌∷◌, ◌++◌, Option, Some, option_map, option_and_then, slice_get, codes as text}
+use Rattle.std.specs.Prelude.{◌≡◌, ℕ, ◌+◌, ◌<◌, ◌&&◌, Bool, true, nat_lt, List, [], ◌∷◌, ◌++◌, Option, Some, None, option_map, option_and_then, slice_get, codes as text}
 use Rattle.records.specs.Spelling.{IsCode}
 use Rattle.hlr_input.specs.declared.group.Group.{Group}
 use Rattle.hlr_input.specs.declared.group.Group.TheVariants.{Octet, Letter}
@@ -21,6 +21,11 @@ IsOctets written [] = written ≡ text "-"
 IsOctets written (group ∷ groups) = AreGroups written (group ∷ groups)
 
 -- ---- what they stand for
+
+-- The ids of letters: those that are passed, or none.
+abbrev pub ids_in : Option (List (List ℕ)) → List (List ℕ)
+ids_in None = []
+ids_in (Some ids) = ids
 
 -- The octets of a group, if the letters stand for these ids in order.
 abbrev pub octets_of_group : List (List ℕ) → Group → Option (List ℕ)

@@ -1,14 +1,15 @@
 -- What the lines of a script and their octets read to. Private functions cite these; the forms are in `Script` and `Octets`.
-use Rattle.std.specs.Prelude.{◌≡◌, ℕ, ◌-◌, ◌==◌, ◌&&◌, nat_le, not, Bool, true, false, List, [], ◌∷◌, ◌++◌, length, Result, Ok, Err, Option, Some, None, option_map, if◌then◌else◌, codes as text}
-use Rattle.std.specs.List.{list_any}
+use Rattle.std.specs.Prelude.{◌≡◌, ℕ, ◌-◌, ◌==◌, ◌&&◌, nat_le, Bool, true, false, List, [], ◌∷◌, ◌++◌, length, Option, Some, None, option_map, if◌then◌else◌, codes as text}
+use Rattle.hlr_types.specs.Digits.{AreSomeDigits}
+use Rattle.hlr_types.specs.DigitTexts.{text_of}
+use Rattle.records.specs.File.{parts}
+use Rattle.records.specs.Spelling.{IsImsiNumber, IsCodes}
 use Rattle.records.specs.Reading.{◌>>=◌, is_text, octet_in}
 use Rattle.hlr_input.specs.declared.group.Group.{Group}
 use Rattle.hlr_input.specs.declared.group.Group.TheVariants.{Octet, Letter}
 use Rattle.hlr_input.specs.declared.item.Item.{Item}
-use Rattle.hlr_input.specs.declared.item.LineFault.{LineFault}
-use Rattle.hlr_input.specs.declared.item.LineFault.TheVariants.{Bad, Memory}
 use Rattle.hlr_input.specs.Octets.{octets_of_group, is_known}
-use Rattle.hlr_input.specs.Script.{Line, Frame, Say, line_of}
+use Rattle.hlr_input.specs.Script.{Line, Frame, Clock, Expire, Batch, Codes, Withdraw, IsTicks, line_of}
 
 -- ---- octets
 
@@ -49,25 +50,17 @@ is_plain (first ∷ more) = if first == 48 then length more == 0 else nat_le 49 
 
 -- ---- lines
 
--- The result of a call for a line: what the line says and nothing else, that it says nothing, or out of memory.
-abbrev pub Reads : (Line → Type 0) → Result Item LineFault → Type 0
-Reads Says (Ok item) = Says (line_of item) × ((said : Line) → Says said → line_of item ≡ said)
-Reads Says (Err Bad) = (said : Line) → Says said → ⊥
-Reads Says (Err Memory) = Unit {0}
+-- The line begins with its kind and a space, and goes on so. A frame's octets are here what follows the address, with or without a space.
+abbrev pub IsWritten : List ℕ → Line → Type 0
+IsWritten line (Frame from field) = (line ≡ 70 ∷ 32 ∷ (text_of from ++ 32 ∷ field)) × AreSomeDigits from
+IsWritten line (Clock now) = (ticks : List ℕ) × (line ≡ 67 ∷ 32 ∷ ticks) × IsTicks ticks now
+IsWritten line Expire = line ≡ text "E"
+IsWritten line Batch = line ≡ text "W"
+IsWritten line (Codes imsi codes) =
+    (rest number field : List ℕ) × (line ≡ 79 ∷ 32 ∷ rest) × (parts 32 rest ≡ number ∷ field ∷ []) × IsImsiNumber number imsi × IsCodes field codes
+IsWritten line (Withdraw imsi) = (number : List ℕ) × (line ≡ 88 ∷ 32 ∷ number) × IsImsiNumber number imsi
 
-abbrev pub says_word : List ℕ → Line → Type 0
-says_word kind said = Say (kind ∷ []) said
-
-abbrev pub says_two : List ℕ → List ℕ → Line → Type 0
-says_two kind field said = Say (kind ∷ field ∷ []) said
-
-abbrev pub says_three : List ℕ → List ℕ → List ℕ → Line → Type 0
-says_three kind first second said = Say (kind ∷ first ∷ second ∷ []) said
-
-abbrev pub has_space : List ℕ → Bool
-has_space written = list_any (λ character. character == 32) written
-
--- No field follows a frame's octets.
-abbrev pub is_closed : Line → Bool
-is_closed (Frame from field) = not (has_space field)
-is_closed _ = true
+-- The result of a call for a line: what the line says and nothing else, or that it says nothing.
+abbrev pub Reads : (Line → Type 0) → Option Item → Type 0
+Reads Says (Some item) = Says (line_of item) × ((said : Line) → Says said → line_of item ≡ said)
+Reads Says None = (said : Line) → Says said → ⊥

@@ -1,6 +1,7 @@
 -- The script: lines that say what the register receives (profile).
-use Rattle.std.specs.Prelude.{◌≡◌, ℕ, ◌≤◌, List, [], ◌∷◌, codes as text}
+use Rattle.std.specs.Prelude.{◌≡◌, ℕ, ◌≤◌, ◌==◌, Bool, true, not, List, [], ◌∷◌, codes as text}
 use Rattle.std.specs.Fmt.{decimal}
+use Rattle.std.specs.List.{list_any}
 use Rattle.machine.specs.declared.numbers.TheConstants.{MAX_CLOCK}
 use Rattle.records.specs.Spelling.{IsNumber, IsImsiNumber, IsCodes}
 use Rattle.records.specs.File.{parts}
@@ -38,6 +39,14 @@ Say _ _ = ⊥
 -- The line says this: its fields are the parts between its spaces.
 abbrev pub IsLine : List ℕ → Line → Type 0
 IsLine line said = Say (parts 32 line) said
+
+abbrev pub has_space : List ℕ → Bool
+has_space written = list_any (λ character. character == 32) written
+
+-- No field follows a frame's octets.
+abbrev pub is_closed : Line → Bool
+is_closed (Frame from field) = not (has_space field)
+is_closed _ = true
 
 -- The octets of a frame have their form.
 abbrev pub HasOctets : Line → Type 0

@@ -2,16 +2,14 @@
 
 ghost use Rattle.std.specs.List.{list_all};
 ghost use Rattle.hex.specs.Hex.{decode_of, hex_digit_value, is_hex_digit};
-ghost use Rattle.std.specs.Prelude.{◌≡◌, ◌↔◌, ◌%◌, ◌<◌, ◌≤◌, ◌+◌, ◌*◌, ◌==◌, ◌&&◌, not, IsTrue, ℕ, List, [], false, true, Ok, unwrap_or, vec_capacity, IsOk, IfOk, IfSome, Some, length, slice_index, option_map};
+ghost use Rattle.std.specs.Prelude.{◌≡◌, ◌%◌, ◌<◌, ◌≤◌, ◌+◌, ◌*◌, ◌==◌, ◌&&◌, true, IsTrue, IsNone, ℕ, List, [], Ok, unwrap_or, vec_capacity, IsOk, IfOk, IfSome, Some, length, slice_index, option_map};
 ghost use Rattle.hlr_input.specs.declared.group.Group.{Group};
-ghost use Rattle.hlr_input.specs.Lettered.{has_letter};
 ghost use Rattle.hlr_input.specs.Digits.{AreOctetsOf, octet_at};
-ghost use Rattle.hlr_input.specs.Octets.{IsOctets, octets_of, are_known};
+ghost use Rattle.hlr_input.specs.Octets.{IsOctets, ids_in, octets_of, are_known};
 ghost use Rattle.hlr_input.specs.Reading.{group_in, letter_in, are_groups, octets_stand, stands, octets_after, octets_in};
 ghost use Rattle.records.specs.Reading.{octet_in};
 
 use crate::group::Group;
-use crate::letters::MAX_LETTERS;
 use hex::FromHex;
 use hlr_types::Tid;
 use std::alloc::AllocError;
@@ -21,45 +19,18 @@ const AT_ONCE: usize = 16;
 
 const DIGITS_AT_ONCE: usize = 2 * AT_ONCE;
 
-/// Whether the text is the octets of a frame: `-` for none, otherwise groups of two characters, each an octet in hexadecimal
-/// digits of either case, or `$` and a letter.
-#[tactic(auto, using(crate::proofs::OctetLaws::stands_exactly))]
-pub fn are_octets(text: &[u8]) -> bool
-    ensures { IsTrue result ↔ ((groups : List Group) × IsOctets text.now groups) }
-{
-    stand(text, MAX_LETTERS)
-}
-
-/// Whether the text is octets of a frame, one or more, without a letter: two hexadecimal digits for each.
-pub(crate) fn are_digit_pairs(text: &[u8]) -> bool
-    ensures value { result ≡ not (length text.now == 0)
-        && (length text.now % 2 == 0)
-        && list_all is_hex_digit text.now }
-    ensures octets { IsTrue result → (groups : List Group) × IsOctets text.now groups }
-    ensures no_letter { IsTrue result → has_letter text.now ≡ false }
-{
-    if text.is_empty() || text.len() % 2 != 0 {
-        return false;
-    }
-    are_digits(text)
-}
-
-/// Whether each letter of a frame's octets has an id, if the first `known` letters have one.
+/// Whether the text is the octets of a frame, with no letter but the first `known`: `-` for none, otherwise groups of two characters,
+/// each an octet in hexadecimal digits of either case, or `$` and a letter.
 #[tactic(auto, using(crate::proofs::OctetLaws::stand_known))]
-pub fn have_ids(text: &[u8], known: usize) -> bool
-    ensures { (groups : List Group) → IsOctets text.now groups → result ≡ are_known known groups }
+pub fn are_octets(text: &[u8], known: usize) -> bool
+    ensures octets { IsTrue result → (groups : List Group) × IsOctets text.now groups }
+    ensures known { (groups : List Group) → IsOctets text.now groups
+        → result ≡ are_known known groups }
 {
     stand(text, known)
 }
 
-/// Whether a text has a `$`.
-pub fn has_letter(text: &[u8]) -> bool
-    ensures { result ≡ has_letter text.now }
-{
-    text.contains(&b'$')
-}
-
-/// Whether the text is the octets of a frame, with no letter but the first `known`.
+/// The same as the definitions read them. Most texts have no letter, and are gone through once, as digits alone.
 fn stand(text: &[u8], known: usize) -> bool
     ensures { result ≡ octets_stand known text.now }
 {
@@ -69,7 +40,14 @@ fn stand(text: &[u8], known: usize) -> bool
     if text.is_empty() {
         return false;
     }
-    groups_stand(text, known)
+    are_digit_pairs(text) || groups_stand(text, known)
+}
+
+/// Whether the text is two hexadecimal digits for each octet.
+fn are_digit_pairs(text: &[u8]) -> bool
+    ensures { result ≡ (length text.now % 2 == 0) && list_all is_hex_digit text.now }
+{
+    text.len() % 2 == 0 && are_digits(text)
 }
 
 /// Whether each character is a hexadecimal digit, of either case. It looks at all of them, since the compiler takes sixteen at a
@@ -117,40 +95,41 @@ fn stands(group: Option<Group>, known: usize) -> bool
     }
 }
 
-/// The octets of a frame, with these ids in place of the letters, in the room of a list whose own octets are given up. `None` if the text
+/// The octets of a frame, with these ids in place of the letters, in the buffer of a list whose own octets are given up. `None` if the text
 /// has another form or a letter has no id.
+///
+/// No ids are passed for octets that are known to have no letter: these are not looked through for one, and no memory is asked for where
+/// the list has room for half as many octets as the text has.
 #[tactic(auto, using(crate::proofs::OctetLaws::octets_found, crate::proofs::OctetLaws::octets_again))]
-pub fn read_octets(room: Vec<u8>, text: &[u8], ids: &[Tid]) -> Result<Option<Vec<u8>>, AllocError>
+pub fn read_octets(
+    room: Vec<u8>,
+    text: &[u8],
+    ids: Option<&[Tid]>,
+) -> Result<Option<Vec<u8>>, AllocError>
+    requires plain { IsNone ids → (groups : List Group) × (octets : List ℕ)
+        × IsOctets text.now groups × (octets_of [] groups ≡ Some octets) }
     ensures found { IfOk result (λ read. IfSome read (λ octets.
         (groups : List Group) × IsOctets text.now groups
-        × (octets_of ids.now groups ≡ Some octets.items))) }
+        × (octets_of (ids_in (option_map (λ i. i.now) ids.entry)) groups ≡ Some octets.items))) }
     ensures only { (groups : List Group) → IsOctets text.now groups
         → IfOk result (λ read. option_map (λ octets. octets.items) read
-        ≡ octets_of ids.now groups) }
+        ≡ octets_of (ids_in (option_map (λ i. i.now) ids.entry)) groups) }
+    ensures had_room { IsNone ids.entry → length text.now ≤ 2 * vec_capacity room → IsOk result }
 {
     octets_with(room, text, ids)
 }
 
-/// The same for the octets of a frame of which it is known that they have no letter: they are not looked through for one. No memory is
-/// asked for where the list has room for half as many octets as the text has.
-pub fn read_plain_octets(room: Vec<u8>, text: &[u8]) -> Result<Vec<u8>, AllocError>
-    requires octets { (groups : List Group) × IsOctets text.now groups }
-    requires plain { has_letter text.now ≡ false }
-    ensures read { IfOk result (λ octets. (groups : List Group) × IsOctets text.now groups
-        × ((ids : List (List ℕ)) → octets_of ids groups ≡ Some octets.items)) }
-    ensures had_room { length text.now ≤ 2 * vec_capacity room → IsOk result }
-{
-    let mut octets = room;
-    octets.clear();
-    if text == b"-".as_slice() {
-        return Ok(octets);
-    }
-    digit_octets(octets, text)
-}
-
-fn octets_with(room: Vec<u8>, text: &[u8], ids: &[Tid]) -> Result<Option<Vec<u8>>, AllocError>
-    ensures { IfOk result (λ read. option_map (λ octets. octets.items) read
-        ≡ octets_in ids.now text.now) }
+/// The same as the definitions read them. Most texts have no letter, and are read as digits alone.
+fn octets_with(
+    room: Vec<u8>,
+    text: &[u8],
+    ids: Option<&[Tid]>,
+) -> Result<Option<Vec<u8>>, AllocError>
+    requires plain { IsNone ids → (groups : List Group) × (octets : List ℕ)
+        × IsOctets text.now groups × (octets_of [] groups ≡ Some octets) }
+    ensures read { IfOk result (λ read. option_map (λ octets. octets.items) read
+        ≡ octets_in (ids_in (option_map (λ i. i.now) ids.entry)) text.now) }
+    ensures had_room { IsNone ids.entry → length text.now ≤ 2 * vec_capacity room → IsOk result }
 {
     let mut octets = room;
     octets.clear();
@@ -160,21 +139,13 @@ fn octets_with(room: Vec<u8>, text: &[u8], ids: &[Tid]) -> Result<Option<Vec<u8>
     if text.is_empty() {
         return Ok(None);
     }
-    listed_octets(octets, text, ids)
-}
-
-/// The octets of a text that is neither `-` nor empty, in the room of a list without octets. Most texts have no letter, and are read as
-/// digits alone.
-fn listed_octets(room: Vec<u8>, text: &[u8], ids: &[Tid]) -> Result<Option<Vec<u8>>, AllocError>
-    requires { room.items ≡ [] }
-    ensures { IfOk result (λ read. option_map (λ octets. octets.items) read
-        ≡ octets_after ids.now [] text.now) }
-{
-    if are_digit_pairs(text) {
-        let octets = digit_octets(room, text)?;
-        return Ok(Some(octets));
+    match ids {
+        Some(ids) if !are_digit_pairs(text) => group_octets(octets, text, ids),
+        _ => {
+            let octets = digit_octets(octets, text)?;
+            Ok(Some(octets))
+        }
     }
-    group_octets(room, text, ids)
 }
 
 /// The octets that hexadecimal digits stand for, two for each.
@@ -267,7 +238,7 @@ fn digit_value(digit: u8) -> u8
     }
 }
 
-/// The octets of a text that may have letters, in the room of a list without octets.
+/// The octets of groups, in the buffer of a list without octets.
 fn group_octets(room: Vec<u8>, text: &[u8], ids: &[Tid]) -> Result<Option<Vec<u8>>, AllocError>
     requires { room.items ≡ [] }
     ensures { IfOk result (λ read. option_map (λ octets. octets.items) read

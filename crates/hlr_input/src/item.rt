@@ -4,7 +4,7 @@ use hlr_types::{Imsi, Peer};
 use records::Codes;
 
 /// One line of a script.
-#[derive(Drop)]
+#[derive(Clone, Copy, Drop)]
 pub enum Item<'a> {
     /// A frame: its source address, and its octets as written in the script.
     Frame { from: Peer, octets: &'a [u8] },
@@ -18,12 +18,4 @@ pub enum Item<'a> {
     Codes { imsi: Imsi, codes: Codes },
     /// The end of a subscription.
     Withdraw { imsi: Imsi },
-}
-
-/// Why a line was not read.
-#[derive(Clone, Copy, PartialEq, Eq, Drop)]
-pub enum LineFault {
-    /// The line has none of the forms.
-    Bad,
-    Memory,
 }

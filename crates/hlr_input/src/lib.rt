@@ -1,10 +1,9 @@
 //! The program's input: the words of its command line, whole files, and the lines of a script with their meaning.
 //!
-//! A line is cut from its script and then read (`Place`, `read_line`). The octets of a frame stay as written until the letters in
+//! A line is cut from its script and then read (`Lines`, `read_line`). The octets of a frame stay as written until the letters in
 //! them have their ids (`Letters`, `read_octets`).
 #![tactic(auto)]
 
-mod frame_line;
 mod frame_octets;
 mod group;
 mod input;
@@ -12,17 +11,16 @@ mod item;
 mod letters;
 mod line;
 mod options;
-mod place;
+mod text_lines;
 mod ticks;
 mod words;
 
-pub use frame_line::{FrameLine, read_frame_line};
-pub use frame_octets::{has_letter, have_ids, read_octets, read_plain_octets};
+pub use frame_octets::{are_octets, read_octets};
 pub use group::Group;
 pub use input::{InputFault, MAX_FILE_OCTETS, read_all};
-pub use item::{Item, LineFault};
-pub use letters::Letters;
-pub use line::{check_line, read_checked, read_line};
+pub use item::Item;
+pub use letters::{Letters, MAX_LETTERS};
+pub use line::read_line;
 pub use options::{Options, WordsFault};
-pub use place::{Lines, Numbered, Place};
+pub use text_lines::{Lines, Numbered};
 pub use words::read_words;

@@ -1,63 +1,14 @@
 -- How many events lines stand for.
-use Rattle.std.proofs.Common.{◌≡◌, ℕ, ◌+◌, ◌<◌, List, [], ◌∷◌, length, length-append, refl, sym, ap, subst, ◌∙◌, arith, inl, inr}
-use Rattle.std.specs.Prelude.{◌==◌, ◌^◌}
-use Rattle.std.specs.List.{onto_first, range_with_len}
-use Rattle.std.proofs.lemmas.Bool.{cases_Bool}
+use Rattle.std.proofs.Common.{◌≡◌, ℕ, ◌+◌, ◌<◌, List, [], ◌∷◌, length, length-append, refl, ap, subst, ◌∙◌, arith}
+use Rattle.std.specs.Prelude.{◌^◌}
+use Rattle.std.specs.List.{range_with_len}
 use Rattle.std.proofs.lemmas.List.{length-map}
-use Rattle.std.proofs.lemmas.List.Splits.{slice_split-cons_yes, slice_split-cons_no}
 use Rattle.frames.specs.Octets.{RawEvent, RawClock, RawExpire}
-use Rattle.records.specs.File.{parts}
-use Rattle.records.proofs.PartsLemmas.{parts_cons}
-use Rattle.hlr_input.specs.Script.{Line, Frame, Clock, Expire, Batch, Codes, Withdraw, Say}
+use Rattle.hlr_input.specs.Script.{Line, Frame, Clock, Expire, Batch, Codes, Withdraw}
+use Rattle.hlr_input.proofs.LineLaws.{begins_with, kind_of, written}
 use Rattle.hlr_program.specs.Runs.{AreEvents, LineEvents, LinesEvents}
 
 -- ---- one line
-
--- a line begins with its kind
-begins : (line : List ℕ) (kind : ℕ) (ps : List (List ℕ)) → parts 32 line ≡ (kind ∷ []) ∷ ps → (rest : List ℕ) × (line ≡ kind ∷ rest)
-begins [] kind ps e = absurd cc
-begins (x ∷ xs) kind ps e =
-    elim (cases_Bool (x == 32)) [
-      | inl space ↦
-          let whole : [] ∷ parts 32 xs ≡ (kind ∷ []) ∷ ps = sym (slice_split-cons_yes (λ b. b == 32) x xs space) ∙ e in
-          absurd cc
-      | inr other ↦
-          let q = parts_cons 32 xs in
-          let whole : (x ∷ q.0) ∷ q.1 ≡ (kind ∷ []) ∷ ps =
-          sym (slice_split-cons_no (λ b. b == 32) x xs other ∙ ap (onto_first x) q.2) ∙ e in
-          let front : x ≡ kind = cc in
-          (xs, ap (λ (y : ℕ). y ∷ xs) front)
-    ]
-
-abbrev pub kind_of : Line → ℕ
-kind_of (Frame from field) = 70
-kind_of (Clock now) = 67
-kind_of Expire = 69
-kind_of Batch = 87
-kind_of (Codes imsi codes) = 79
-kind_of (Withdraw imsi) = 88
-
-said_begins : (ps : List (List ℕ)) (said : Line) → Say ps said → (more : List (List ℕ)) × (ps ≡ (kind_of said ∷ []) ∷ more)
-said_begins [] said h = absurd h
-said_begins (k ∷ []) (Frame from field) h = absurd h
-said_begins (k ∷ []) (Clock now) h = absurd h
-said_begins (k ∷ []) (Codes imsi codes) h = absurd h
-said_begins (k ∷ []) (Withdraw imsi) h = absurd h
-said_begins (k ∷ a ∷ []) (Frame from field) h = absurd h
-said_begins (k ∷ a ∷ []) Expire h = absurd h
-said_begins (k ∷ a ∷ []) Batch h = absurd h
-said_begins (k ∷ a ∷ []) (Codes imsi codes) h = absurd h
-said_begins (k ∷ a ∷ b ∷ []) (Clock now) h = absurd h
-said_begins (k ∷ a ∷ b ∷ []) Expire h = absurd h
-said_begins (k ∷ a ∷ b ∷ []) Batch h = absurd h
-said_begins (k ∷ a ∷ b ∷ []) (Withdraw imsi) h = absurd h
-said_begins (k ∷ a ∷ b ∷ d ∷ more) said h = absurd h
-said_begins (k ∷ a ∷ b ∷ []) (Frame from field) h = (a ∷ b ∷ [], ap (λ (x : List ℕ). x ∷ a ∷ b ∷ []) h.0)
-said_begins (k ∷ a ∷ []) (Clock now) h = (a ∷ [], ap (λ (x : List ℕ). x ∷ a ∷ []) h.0)
-said_begins (k ∷ []) Expire h = ([], ap (λ (x : List ℕ). x ∷ []) h)
-said_begins (k ∷ []) Batch h = ([], ap (λ (x : List ℕ). x ∷ []) h)
-said_begins (k ∷ a ∷ b ∷ []) (Codes imsi codes) h = (a ∷ b ∷ [], ap (λ (x : List ℕ). x ∷ a ∷ b ∷ []) h.0)
-said_begins (k ∷ a ∷ []) (Withdraw imsi) h = (a ∷ [], ap (λ (x : List ℕ). x ∷ a ∷ []) h.0)
 
 abbrev pub count_of : Line → ℕ
 count_of (Frame from field) = 1
@@ -78,8 +29,7 @@ said_count ids (Withdraw imsi) events are = ap length are
 line_begins : (ids : List (List ℕ)) (line : List ℕ) (events : List RawEvent) → LineEvents ids line events
     → (said : Line) × (rest : List ℕ) × (line ≡ kind_of said ∷ rest) × (length events ≡ count_of said)
 line_begins ids line events (said, is, are) =
-    let first = said_begins (parts 32 line) said is in
-    let start = begins line (kind_of said) first.0 first.1 in
+    let start = begins_with line said (written line said is) in
     (said, start.0, start.1, said_count ids said events are)
 
 -- ---- lines, one more

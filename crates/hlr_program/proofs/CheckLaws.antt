@@ -1,17 +1,14 @@
 -- What is checked line by line.
-use Rattle.std.proofs.Common.{◌≡◌, ℕ, ◌+◌, Bool, true, false, List, [], ◌∷◌, ◌++◌, append_assoc, length, map, sym, ap, subst, ◌∙◌, inl, inr, refl}
-use Rattle.std.proofs.lemmas.List.{append-nil}
-use Rattle.std.specs.List.{AllByRecursion, list_any, join_with_byte}
-use Rattle.std.proofs.lemmas.Bool.{cases_Bool, or_parts, cond-true, cond-false}
-use Rattle.std.specs.Prelude.{◌==◌, codes}
+use Rattle.std.proofs.Common.{◌≡◌, ℕ, ◌+◌, Bool, true, false, List, [], ◌∷◌, sym, ap, subst, ◌∙◌, inl, inr}
+use Rattle.std.specs.List.{AllByRecursion}
+use Rattle.std.proofs.lemmas.Bool.{cases_Bool, cond-true, cond-false}
+use Rattle.std.specs.Prelude.{not, Option, Some, None, OnSome, codes}
 use Rattle.records.specs.Reading.{is_text}
-use Rattle.hlr_program.specs.Batches.{HasIds, IsFirst, batch_of, behind_batch}
-use Rattle.hlr_input.specs.Lettered.{has_letter, have_letters}
-use Rattle.hlr_input.specs.Script.{Frame, IsLine}
-use Rattle.hlr_input.proofs.LineLaws.{frame_fields}
-use Rattle.hlr_input.proofs.OctetLaws.{known_without}
-use Rattle.records.specs.File.{parts}
-use Rattle.records.proofs.FieldLaws.{joined_again}
+use Rattle.hlr_input.specs.declared.group.Group.{Group}
+use Rattle.hlr_input.specs.Octets.{IsOctets, are_known}
+use Rattle.hlr_input.specs.Script.{Line, Frame, IsLine, is_closed}
+use Rattle.hlr_input.proofs.LineLaws.{octets_free}
+use Rattle.hlr_program.specs.Batches.{HasIds, IsFirst, IsGood, LacksId, batch_of, behind_batch}
 
 -- the remaining lines complete the result of the whole
 pub record Completes (Good Bad : List ℕ → Type 0) (whole : List (List ℕ)) (start : ℕ) (rest : List (List ℕ)) (before : ℕ) : Type 0 where
@@ -57,55 +54,43 @@ pub behind_ends : (rest : List (List ℕ)) (line : List ℕ) (more : List (List 
     → rest ≡ line ∷ more → is_text line (codes "W") ≡ true → behind_batch rest ≡ more
 behind_ends rest line more is end = ap behind_batch is ∙ cond-true (is_text line (codes "W")) more (behind_batch more) end
 
--- ---- lines without a letter
+pub all_batch : (P : List ℕ → Type 0) (ls : List (List ℕ)) → AllByRecursion P ls → AllByRecursion P (batch_of ls)
+all_batch P [] h = tt
+all_batch P (l ∷ ls) h = elim (cases_Bool (is_text l (codes "W"))) [
+  | inl end ↦ rw end tt
+  | inr no_end ↦ rw no_end (h.0, all_batch P ls h.1)
+]
 
-none_behind : (front rest : List ℕ) → has_letter (front ++ rest) ≡ false → has_letter rest ≡ false
-none_behind [] rest e = e
-none_behind (x ∷ front) rest e = none_behind front rest (or_parts (x == 36) (has_letter (front ++ rest)) e).1
+pub all_behind : (P : List ℕ → Type 0) (ls : List (List ℕ)) → AllByRecursion P ls → AllByRecursion P (behind_batch ls)
+all_behind P [] h = h
+all_behind P (l ∷ ls) h = elim (cases_Bool (is_text l (codes "W"))) [
+  | inl end ↦ rw end h.1
+  | inr no_end ↦ rw no_end (all_behind P ls h.1)
+]
 
-none_in_field : (line from field : List ℕ) → has_letter line ≡ false → IsLine line (Frame from field) → has_letter field ≡ false
-none_in_field line from field none is =
-    let f = frame_fields (parts 32 line) from field is in
-    let whole : line ≡ f.0 ++ 32 ∷ (f.1 ++ 32 ∷ field) = joined_again 32 line ∙ ap (join_with_byte 32) f.2 in
-    let rest = none_behind f.0 (32 ∷ (f.1 ++ 32 ∷ field)) (ap has_letter (sym whole) ∙ none) in
-    none_behind f.1 (32 ∷ field) rest
-
-pub no_letter : (known : ℕ) (line : List ℕ) → list_any (λ character. character == 36) line ≡ false → HasIds known line
-no_letter known line none = λ from field groups is octets. sym (known_without known field groups (none_in_field line from field none is) octets)
-
--- no line of the batch has one
-pub no_letters : (known : ℕ) (rest : List (List ℕ)) → have_letters rest ≡ false → AllByRecursion (HasIds known) (batch_of rest)
-no_letters known [] none = tt
-no_letters known (line ∷ more) none =
-    let parts_none = or_parts (has_letter line) (have_letters more) none in
-    elim (cases_Bool (is_text line (codes "W"))) [
-      | inl end ↦ subst (AllByRecursion (HasIds known)) (sym (batch_ends (line ∷ more) line more refl end)) tt
-      | inr on ↦ subst (AllByRecursion (HasIds known)) (sym (batch_goes_on (line ∷ more) line more refl on))
-          (no_letter known line parts_none.0, no_letters known more parts_none.1)
-    ]
+-- ---- letters
 
 -- The lines have no letter, if those that are left have none.
 abbrev pub Lettered : (ls : List (List ℕ)) → Bool → (here : List (List ℕ)) → Type 0
-Lettered ls lettered here = lettered ≡ false → have_letters here ≡ false → have_letters ls ≡ false
+Lettered ls lettered here = lettered ≡ false → AllByRecursion (HasIds 0) here → AllByRecursion (HasIds 0) ls
 
-pub lettered_goes_on : (ls : List (List ℕ)) (lettered own next : Bool) (here : List (List ℕ)) (line : List ℕ) (rest : List (List ℕ))
-    → Lettered ls lettered here → here ≡ line ∷ rest → own ≡ has_letter line → (next ≡ false → (lettered ≡ false) × (own ≡ false)) → Lettered ls next rest
-lettered_goes_on ls lettered own next here line rest h is found both none left =
-    let p = both none in
-    let line_has : has_letter line ≡ false = sym found ∙ p.1 in
-    h p.0 (ap have_letters is ∙ rw line_has left)
+pub lettered_goes_on : (ls : List (List ℕ)) (lettered own : Bool) (here : List (List ℕ)) (line : List ℕ) (rest : List (List ℕ))
+    → Lettered ls lettered here → here ≡ line ∷ rest → lettered ≡ false → (own ≡ false → HasIds 0 line) → Lettered ls own rest
+lettered_goes_on ls lettered own here line rest h is so_far plain none left =
+    h so_far (subst (AllByRecursion (HasIds 0)) (sym is) (plain none, left))
 
--- ---- lengths
+-- a frame's line, where its octets have their form
+pub frame_good : {A : Type 0} (line from field : List ℕ) (said : Line) (r : Option A) → said ≡ Frame from field → (is_closed said ≡ true → IsLine line said)
+    → OnSome r ((groups : List Group) × IsOctets field groups) → OnSome r (IsGood line)
+frame_good line from field said None is found good = tt
+frame_good line from field said (Some x) is found good =
+    let here : is_closed (Frame from field) ≡ true → IsLine line (Frame from field) = subst (λ (l : Line). is_closed l ≡ true → IsLine line l) is found in
+    (Frame from field, (here (ap not (octets_free field good.0 good.1)), good))
 
--- The lengths so far, and those of the lines that are left, are those of all.
-abbrev pub Measured : (ls : List (List ℕ)) → List ℕ → (here : List (List ℕ)) → Type 0
-Measured ls lengths here = map length ls ≡ lengths ++ map length here
-
-pub measured_goes_on : (ls : List (List ℕ)) (lengths : List ℕ) (here : List (List ℕ)) (line : List ℕ) (rest : List (List ℕ)) (size : ℕ)
-    → Measured ls lengths here → here ≡ line ∷ rest → size ≡ length line → Measured ls (lengths ++ size ∷ []) rest
-measured_goes_on ls lengths here line rest size h is sized =
-    h ∙ ap (λ (l : List (List ℕ)). lengths ++ map length l) is ∙ ap (λ (n : ℕ). lengths ++ n ∷ map length rest) (sym sized)
-    ∙ sym (append_assoc lengths (size ∷ []) (map length rest))
-
-pub measured_ends : (ls : List (List ℕ)) (lengths : List ℕ) (here : List (List ℕ)) → Measured ls lengths here → here ≡ [] → map length ls ≡ lengths
-measured_ends ls lengths here h none = h ∙ ap (λ (l : List (List ℕ)). lengths ++ map length l) none ∙ append-nil lengths
+pub frame_lacks : (line from field : List ℕ) (said : Line) (r : Option Bool) → said ≡ Frame from field → (is_closed said ≡ true → IsLine line said)
+    → OnSome r ((groups : List Group) × IsOctets field groups)
+    → (r ≡ Some true → (groups : List Group) → IsOctets field groups → are_known 0 groups ≡ false) → r ≡ Some true → LacksId 0 line
+frame_lacks line from field said None is found good lettered e = absurd cc
+frame_lacks line from field said (Some b) is found good lettered e =
+    let here : is_closed (Frame from field) ≡ true → IsLine line (Frame from field) = subst (λ (l : Line). is_closed l ≡ true → IsLine line l) is found in
+    (from, field, here (ap not (octets_free field good.0 good.1)), lettered e)

@@ -211,19 +211,6 @@ pub said_stops : (ids : List (List ℕ)) (item said : Line) (events : List RawEv
 said_stops ids item said events before fault is are h =
     subst (λ (l : Line). SaidStops ids before l fault) (sym is) (stops_weaker fault (λ meets. (events, are, meets)) (λ u. u) h)
 
-abbrev pub ReadsFrame : (ids : List (List ℕ)) (from field : List ℕ) → RawEvent → Type 0
-ReadsFrame ids from field raw = (groups : List Group) × (found : List ℕ) × IsOctets field groups × (octets_of ids groups ≡ Some found)
-    × (raw ≡ RawFrame from found)
-
-frame_events : (ids : List (List ℕ)) (from field : List ℕ) (raw : RawEvent) → ReadsFrame ids from field raw → AreEvents ids (Frame from field) (raw ∷ [])
-frame_events ids from field raw (groups, found, stands, reads, same) = (groups, found, stands, reads, ap (λ (r : RawEvent). r ∷ []) same)
-
-pub adds_frame : (ids : List (List ℕ)) (item : Line) (from field : List ℕ) (raw : RawEvent) (before after : Progress) → item ≡ Frame from field
-    → ReadsFrame ids from field raw
-    → Adds before (raw ∷ []) after → AddsSaid ids before item after
-adds_frame ids item from field raw before after is read h = adds_said ids item (Frame from field) (raw ∷ []) before after is
-    (frame_events ids from field raw read) h
-
 -- ---- lines whose letters have ids stand for events
 
 known_group : (ids : List (List ℕ)) (g : Group) → is_known (length ids) g ≡ true → (front : List ℕ) × (octets_of_group ids g ≡ Some front)

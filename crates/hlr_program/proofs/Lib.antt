@@ -8,6 +8,7 @@ pub mod RegisterLemmas
 pub mod PartLemmas
 pub mod AheadLemmas
 pub mod GatherLemmas
+pub mod PassedLemmas
 pub mod ScriptLemmas
 pub mod ListLemmas
 pub mod LotLemmas

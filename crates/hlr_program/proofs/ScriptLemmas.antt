@@ -21,6 +21,7 @@ use Rattle.hlr_program.specs.Promise.{RunsScript, StopsBatches, lines_before}
 use Rattle.hlr_program.specs.Registers.{RunsTo, state_known}
 use Rattle.hlr_program.specs.Runs.{AreBatches, BatchRun, LinesEvents, events_in, frames_of, noted_behind, printed_of, sent_in}
 use Rattle.hlr_program.specs.Stopping.{BatchStops}
+use Rattle.hlr_program.proofs.CheckLaws.{all_behind}
 use Rattle.hlr_program.proofs.RegisterLemmas.{known_run, ran_join, ran_none}
 
 -- ---- the first batch
@@ -54,20 +55,6 @@ first_batch text some =
 pub nothing_left : (text : List ℕ) → length text ≡ 0 → lines text ≡ []
 nothing_left [] none = lines_nil
 nothing_left (x ∷ text) none = absurd (omega (arith, none))
-
-pub good_batch : (ls : List (List ℕ)) → AllByRecursion IsGood ls → AllByRecursion IsGood (batch_of ls)
-good_batch [] h = tt
-good_batch (l ∷ ls) h = elim (cases_Bool (is_text l (codes "W"))) [
-  | inl end ↦ rw end tt
-  | inr no_end ↦ rw no_end (h.0, good_batch ls h.1)
-]
-
-good_behind : (ls : List (List ℕ)) → AllByRecursion IsGood ls → AllByRecursion IsGood (behind_batch ls)
-good_behind [] h = h
-good_behind (l ∷ ls) h = elim (cases_Bool (is_text l (codes "W"))) [
-  | inl end ↦ rw end h.1
-  | inr no_end ↦ rw no_end (good_behind ls h.1)
-]
 
 -- ---- one batch behind others
 
@@ -160,7 +147,7 @@ batch_handled start ls ids noted here next text behind before number sent some h
     ids_are = notes ∙ ap (noted_in ids) k.sent_is ∙ ap (λ (i : List (List ℕ)). noted_in i (frames_of k.batch)) h.ids_are
         ∙ sym (noted_more [] h.batches k.batch);
     number = λ more. let here_is = h.number some in omega (arith, counted more, here_is, before_more h.done (batch_of (lines text)));
-    good = subst (AllByRecursion IsGood) (sym is) (good_behind (lines text) h.good);
+    good = subst (AllByRecursion IsGood) (sym is) (all_behind IsGood (lines text) h.good);
     ran = subst (λ (es : List RawEvent). RunsTo start es (sent_in (h.batches ++ k.batch ∷ [])) next) (sym events_are)
         (subst (λ (os : List (List RawOut)). RunsTo start (events_in h.batches ++ k.batch.events) os next) (sym sent_are)
         (ran_join start here next (events_in h.batches) k.batch.events (sent_in h.batches) k.batch.sent h.ran k.ran));

@@ -1,5 +1,5 @@
 -- The batches of a script, and what is checked before anything is handled (profile).
-use Rattle.std.specs.Prelude.{◌≡◌, ◌⊎◌, ℕ, ◌+◌, true, false, List, [], ◌∷◌, if◌then◌else◌, codes as text}
+use Rattle.std.specs.Prelude.{◌≡◌, ◌⊎◌, ℕ, ◌+◌, Bool, true, false, List, [], ◌∷◌, Option, Some, None, if◌then◌else◌, codes as text}
 use Rattle.records.specs.Reading.{is_text}
 use Rattle.hlr_input.specs.declared.group.Group.{Group}
 use Rattle.hlr_input.specs.Octets.{IsOctets, are_known}
@@ -50,3 +50,8 @@ HasIds known line =
 abbrev pub LacksId : ℕ → List ℕ → Type 0
 LacksId known line =
     (from field : List ℕ) × IsLine line (Frame from field) × ((groups : List Group) → IsOctets field groups → are_known known groups ≡ false)
+
+-- The ids are passed, unless there is no letter.
+abbrev pub ArePassed : (lettered : Bool) → Option (List (List ℕ)) → (ids : List (List ℕ)) → Type 0
+ArePassed true passed ids = passed ≡ Some ids
+ArePassed false passed ids = passed ≡ None

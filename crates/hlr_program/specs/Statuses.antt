@@ -8,8 +8,6 @@ use Rattle.records.specs.declared.fault.RecordsFault.{RecordsFault}
 use Rattle.records.specs.declared.fault.RecordsFault.TheVariants as records
 use Rattle.hlr_input.specs.declared.options.WordsFault.{WordsFault}
 use Rattle.hlr_input.specs.declared.options.WordsFault.TheVariants as words
-use Rattle.hlr_input.specs.declared.item.LineFault.{LineFault}
-use Rattle.hlr_input.specs.declared.item.LineFault.TheVariants as line
 use Rattle.wholenode.specs.declared.fault.Cause.{Cause}
 use Rattle.wholenode.specs.declared.fault.Cause.TheVariants as cause
 use Rattle.workers.specs.declared.shared_fault.SharedFault.{SharedFault}
@@ -39,11 +37,6 @@ message_of NoRoom = text "hlr: no room"
 message_of Memory = text "hlr: memory"
 message_of (Unaccounted job) = text "hlr: unaccounted job " ++ decimal job
 message_of Output = text "hlr: output"
-
--- why a line of the script was not read
-abbrev pub fault_at : LineFault → ℕ → Fault
-fault_at line.Bad number = BadLine number
-fault_at line.Memory number = Memory
 
 -- why a part of a batch stopped; no journal is ever full
 abbrev pub stopped_by : Cause → Fault

@@ -8,7 +8,7 @@ ghost use Rattle.hlr_program.specs.Batches.{batch_of};
 ghost use Rattle.hlr_program.specs.Runs.{LineEvents, LinesEvents};
 
 use crate::check::is_end;
-use hlr_input::Place;
+use hlr_input::Lines;
 use machine::numbers::{MAX_ENTRIES, SHARDS};
 
 /// The events of a batch that are not handled yet.
@@ -41,19 +41,19 @@ impl Ahead {
 }
 
 /// How many events the lines of a batch stand for.
-pub fn count_events(from: Place) -> usize
+pub fn count_events(from: Lines) -> usize
     ensures { (ids : List (List ℕ)) (events : List RawEvent)
         → LinesEvents ids (batch_of (lines from.entry.rest.now)) events
         → length events < 2 ^ 64 → result ≡ length events }
 {
     let mut count: usize = 0;
-    let mut place = from;
-    'lines: while let Some((line, behind)) = place.next() {
+    let mut left = from;
+    'lines: while let Some((line, behind)) = left.next() {
         if is_end(line.text) {
             return count;
         }
         count = count.saturating_add(count_in(line.text));
-        place = behind;
+        left = behind;
     }
     count
 }

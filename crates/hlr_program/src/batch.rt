@@ -1,14 +1,13 @@
 //! One batch of a script.
 
-ghost use Rattle.std.specs.Prelude.{◌≡◌, ◌<◌, ◌∷◌, ◌+◌, [], ℕ, List, length, Some, false, IfOk, IfErr, OnOk};
+ghost use Rattle.std.specs.Prelude.{◌≡◌, ◌<◌, ◌∷◌, ◌+◌, [], ℕ, List, length, Some, IsNone, option_map, IfOk, IfErr, OnOk};
 ghost use Rattle.std.specs.List.{AllByRecursion};
 ghost use Rattle.frames.specs.Octets.{RawEvent as Event, RawFrame, RawOut};
 ghost use Rattle.records.specs.File.{lines};
 ghost use Rattle.hlrcore.specs.Events.{raw_event};
 ghost use Rattle.hlr_input.specs.declared.group.Group.{Group};
-ghost use Rattle.hlr_input.specs.Lettered.{has_letter};
-ghost use Rattle.hlr_input.specs.Octets.{IsOctets, octets_of};
-ghost use Rattle.hlr_input.specs.Script.{Frame, IsLine, line_of};
+ghost use Rattle.hlr_input.specs.Octets.{IsOctets, ids_in, octets_of};
+ghost use Rattle.hlr_input.specs.Script.{Frame, line_of};
 ghost use Rattle.hlr_program.specs.Answered.{so_far};
 ghost use Rattle.hlr_program.specs.Batches.{IsGood, HasIds, batch_of, behind_batch};
 ghost use Rattle.hlr_program.specs.Gathering.{AddsSaid, AddsLine, AddsLines, SaidStops, LineStops, LinesStop, Handles, progress};
@@ -23,16 +22,14 @@ use crate::check::{check_letters, is_end};
 use crate::each::Each;
 use crate::fault::Fault;
 use crate::register::Register;
-use hlr_input::{
-    FrameLine, Item, Place, read_checked, read_frame_line, read_octets, read_plain_octets,
-};
+use hlr_input::{Item, Lines, read_line, read_octets};
 use hlr_types::{Peer, Tid};
 use hlrcore::{Change, RawEvent};
 use std::alloc::{AllocError, Global};
 use std::sync::Wait;
 use std::thread::Threads;
 
-/// Handles the events of a batch, in the order of its lines, and appends the lines of what they send. Returns the place after the
+/// Handles the events of a batch, in the order of its lines, and appends the lines of what they send. Returns the lines after the
 /// batch.
 ///
 /// A letter without an id is found before any event of the batch is handled.
@@ -41,25 +38,27 @@ pub fn handle_batch<'a, R: Threads + Wait + Sync>(
     alloc: Global,
     register: &mut Register,
     answers: &mut Answers,
-    from: Place<'a>,
-    ids: &[Tid],
-) -> Result<Place<'a>, Fault>
+    from: Lines<'a>,
+    ids: Option<&[Tid]>,
+) -> Result<Lines<'a>, Fault>
     requires good { AllByRecursion IsGood (batch_of (lines from.rest.now)) }
+    requires plain { IsNone ids → AllByRecursion (HasIds 0) (batch_of (lines from.rest.now)) }
     requires none { part_of register.now ≡ [] }
-    ensures handles { OnOk result ((sent : List RawOut) × Handles ids.now register.old
+    ensures handles { OnOk result ((sent : List RawOut)
+        × Handles (ids_in (option_map (λ i. i.now) ids.entry)) register.old
         (batch_of (lines from.entry.rest.now)) sent register.new
         × Prints (so_far answers.old) sent (so_far answers.new)) }
     ensures none { OnOk result (part_of register.new ≡ []) }
-    ensures behind { IfOk result (λ place. lines place.rest.now
+    ensures behind { IfOk result (λ left. lines left.rest.now
         ≡ behind_batch (lines from.entry.rest.now)) }
     ensures shorter { 0 < length from.entry.rest.now
-        → IfOk result (λ place. length place.rest.now < length from.entry.rest.now) }
-    ensures number { IfOk result (λ place. 0 < length place.rest.now
-        → place.before ≡ from.entry.before + length (batch_of (lines from.entry.rest.now)) + 1) }
-    ensures stops { IfErr result (BatchStops ids.now from.entry.before (state_known register.old)
-        (batch_of (lines from.entry.rest.now))) }
+        → IfOk result (λ left. length left.rest.now < length from.entry.rest.now) }
+    ensures number { IfOk result (λ left. 0 < length left.rest.now
+        → left.before ≡ from.entry.before + length (batch_of (lines from.entry.rest.now)) + 1) }
+    ensures stops { IfErr result (BatchStops (ids_in (option_map (λ i. i.now) ids.entry))
+        from.entry.before (state_known register.old) (batch_of (lines from.entry.rest.now))) }
 {
-    check_letters(alloc, from, ids.len())?;
+    check_letters(from, ids)?;
     begin_batch(register, from);
     let behind = take_lines(rt, alloc, register, answers, from, ids)?;
     register.end_batch(rt, answers)?;
@@ -67,7 +66,7 @@ pub fn handle_batch<'a, R: Threads + Wait + Sync>(
 }
 
 /// A batch begins. Its events are counted where the register asks for their number.
-fn begin_batch(register: &mut Register, from: Place)
+fn begin_batch(register: &mut Register, from: Lines)
     ensures { register.new ≡ register.old }
 {
     if register.counts() {
@@ -75,122 +74,82 @@ fn begin_batch(register: &mut Register, from: Place)
     }
 }
 
-/// Takes the events of the lines of a batch. Returns the place after the batch.
+/// Takes the events of the lines of a batch. Returns the lines after the batch.
 fn take_lines<'a, R: Threads + Wait + Sync>(
     rt: &R,
     alloc: Global,
     register: &mut Register,
     answers: &mut Answers,
-    from: Place<'a>,
-    ids: &[Tid],
-) -> Result<Place<'a>, Fault>
+    from: Lines<'a>,
+    ids: Option<&[Tid]>,
+) -> Result<Lines<'a>, Fault>
     requires good { AllByRecursion IsGood (batch_of (lines from.rest.now)) }
-    requires known { AllByRecursion (HasIds (length ids.now)) (batch_of (lines from.rest.now)) }
-    ensures adds { OnOk result (AddsLines ids.now (progress register.old answers.old)
-        (batch_of (lines from.entry.rest.now)) (progress register.new answers.new)) }
-    ensures behind { IfOk result (λ place. lines place.rest.now
+    requires known { AllByRecursion (HasIds (length (ids_in (option_map (λ i. i.now) ids))))
+        (batch_of (lines from.rest.now)) }
+    ensures adds { OnOk result (AddsLines (ids_in (option_map (λ i. i.now) ids.entry))
+        (progress register.old answers.old) (batch_of (lines from.entry.rest.now))
+        (progress register.new answers.new)) }
+    ensures behind { IfOk result (λ left. lines left.rest.now
         ≡ behind_batch (lines from.entry.rest.now)) }
     ensures shorter { 0 < length from.entry.rest.now
-        → IfOk result (λ place. length place.rest.now < length from.entry.rest.now) }
-    ensures number { IfOk result (λ place. 0 < length place.rest.now
-        → place.before ≡ from.entry.before + length (batch_of (lines from.entry.rest.now)) + 1) }
-    ensures stops { IfErr result (LinesStop ids.now (progress register.old answers.old)
-        (batch_of (lines from.entry.rest.now))) }
+        → IfOk result (λ left. length left.rest.now < length from.entry.rest.now) }
+    ensures number { IfOk result (λ left. 0 < length left.rest.now
+        → left.before ≡ from.entry.before + length (batch_of (lines from.entry.rest.now)) + 1) }
+    ensures stops { IfErr result (LinesStop (ids_in (option_map (λ i. i.now) ids.entry))
+        (progress register.old answers.old) (batch_of (lines from.entry.rest.now))) }
 {
-    let mut place = from;
-    'lines: while let Some((line, behind)) = place.next() {
+    let mut left = from;
+    'lines: while let Some((line, behind)) = left.next() {
         if is_end(line.text) {
             return Ok(behind);
         }
-        take_line(rt, alloc, register, answers, line.text, place.lettered, ids)?;
-        place = behind;
+        take_line(rt, alloc, register, answers, line.text, ids)?;
+        left = behind;
     }
-    Ok(place)
+    Ok(left)
 }
 
-/// Takes the events of a line, which may have letters or not.
+/// Takes the events of a line.
 fn take_line<R: Threads + Wait + Sync>(
     rt: &R,
     alloc: Global,
     register: &mut Register,
     answers: &mut Answers,
     line: &[u8],
-    lettered: bool,
-    ids: &[Tid],
+    ids: Option<&[Tid]>,
 ) -> Result<(), Fault>
     requires good { IsGood line.now }
-    requires known { HasIds (length ids.now) line.now }
-    requires plain { lettered ≡ false → has_letter line.now ≡ false }
-    ensures adds { OnOk result (AddsLine ids.now (progress register.old answers.old) line.now
-        (progress register.new answers.new)) }
-    ensures stops { IfErr result (LineStops ids.now (progress register.old answers.old) line.now) }
-{
-    match read_frame_line(line) {
-        Some(frame) => take_frame(rt, register, answers, frame, lettered, ids),
-        None => take_other(rt, alloc, register, answers, line),
-    }
-}
-
-/// Takes the event of a frame's line.
-fn take_frame<R: Threads + Wait + Sync>(
-    rt: &R,
-    register: &mut Register,
-    answers: &mut Answers,
-    read: FrameLine,
-    lettered: bool,
-    ids: &[Tid],
-) -> Result<(), Fault>
-    requires known { (events : List Event)
-        × AreEvents ids.now (Frame read.from read.octets.now) events }
-    requires plain { lettered ≡ false → has_letter read.octets.now ≡ false }
-    ensures adds { OnOk result (AddsSaid ids.now (progress register.old answers.old)
-        (Frame read.entry.from read.entry.octets.now) (progress register.new answers.new)) }
-    ensures stops { IfErr result (SaidStops ids.now (progress register.old answers.old)
-        (Frame read.entry.from read.entry.octets.now)) }
-{
-    let room = register.take_room();
-    let event = frame(room, read.from, read.octets, lettered, ids)?;
-    register.take(rt, event, answers)
-}
-
-/// Takes the events of another line. It stands apart, never inlined, since nearly each line is a frame's: only here is room made for
-/// what the others say.
-#[inline(never)]
-fn take_other<R: Threads + Wait + Sync>(
-    rt: &R,
-    alloc: Global,
-    register: &mut Register,
-    answers: &mut Answers,
-    line: &[u8],
-) -> Result<(), Fault>
-    requires good { IsGood line.now }
-    requires other { (from octets : List ℕ) → IsLine line.now (Frame from octets) → ⊥ }
-    // No letter stands in such a line.
-    ensures adds { OnOk result ((ids : List (List ℕ)) → AddsLine ids
+    requires known { HasIds (length (ids_in (option_map (λ i. i.now) ids))) line.now }
+    ensures adds { OnOk result (AddsLine (ids_in (option_map (λ i. i.now) ids.entry))
         (progress register.old answers.old) line.now (progress register.new answers.new)) }
-    ensures stops { IfErr result (λ fault. (ids : List (List ℕ)) → LineStops ids
-        (progress register.old answers.old) line.now fault) }
+    ensures stops { IfErr result (LineStops (ids_in (option_map (λ i. i.now) ids.entry))
+        (progress register.old answers.old) line.now) }
 {
-    let item = read_checked(line);
-    take_said(rt, alloc, register, answers, item)
+    let Some(item) = read_line(line) else {
+        unreachable!()
+    };
+    take_said(rt, alloc, register, answers, item, ids)
 }
 
-/// Takes the events of what such a line says.
+/// Takes the events of what a line says.
 fn take_said<R: Threads + Wait + Sync>(
     rt: &R,
     alloc: Global,
     register: &mut Register,
     answers: &mut Answers,
     item: Item,
+    ids: Option<&[Tid]>,
 ) -> Result<(), Fault>
-    requires other { (from octets : List ℕ) → line_of item ≡ Frame from octets → ⊥ }
-    ensures adds { OnOk result ((ids : List (List ℕ)) → AddsSaid ids
-        (progress register.old answers.old) (line_of item.entry) (progress register.new answers.new)) }
-    ensures stops { IfErr result (λ fault. (ids : List (List ℕ)) → SaidStops ids
-        (progress register.old answers.old) (line_of item.entry) fault) }
+    requires known { (events : List Event)
+        × AreEvents (ids_in (option_map (λ i. i.now) ids)) (line_of item) events }
+    ensures adds { OnOk result (AddsSaid (ids_in (option_map (λ i. i.now) ids.entry))
+        (progress register.old answers.old) (line_of item.entry)
+        (progress register.new answers.new)) }
+    ensures stops { IfErr result (SaidStops (ids_in (option_map (λ i. i.now) ids.entry))
+        (progress register.old answers.old) (line_of item.entry)) }
 {
     match item {
-        Item::Frame { .. } => unreachable!(),
+        Item::Frame { from, octets } => take_frame(rt, register, answers, from, octets, ids),
         Item::Clock(now) => register.take_each(rt, Each::Clock(now), answers),
         Item::Expire => register.take_each(rt, Each::Expiry, answers),
         Item::Batch => Ok(()),
@@ -205,25 +164,42 @@ fn take_said<R: Threads + Wait + Sync>(
     }
 }
 
-/// A received frame, with these ids in place of the letters, if it may have some, in the buffer of octets that are given up.
+/// Takes a frame.
+fn take_frame<R: Threads + Wait + Sync>(
+    rt: &R,
+    register: &mut Register,
+    answers: &mut Answers,
+    from: Peer,
+    octets: &[u8],
+    ids: Option<&[Tid]>,
+) -> Result<(), Fault>
+    requires { (events : List Event)
+        × AreEvents (ids_in (option_map (λ i. i.now) ids)) (Frame from octets.now) events }
+    ensures adds { OnOk result (AddsSaid (ids_in (option_map (λ i. i.now) ids.entry))
+        (progress register.old answers.old) (Frame from octets.now)
+        (progress register.new answers.new)) }
+    ensures stops { IfErr result (SaidStops (ids_in (option_map (λ i. i.now) ids.entry))
+        (progress register.old answers.old) (Frame from octets.now)) }
+{
+    let room = register.take_room();
+    let event = frame(room, from, octets, ids)?;
+    register.take(rt, event, answers)
+}
+
+/// A received frame, with these ids in place of the letters, in the buffer of octets that are given up.
 fn frame(
     room: Vec<u8>,
     from: Peer,
     octets: &[u8],
-    lettered: bool,
-    ids: &[Tid],
+    ids: Option<&[Tid]>,
 ) -> Result<RawEvent, AllocError>
-    requires known { (groups : List Group) × (found : List ℕ) × IsOctets octets.now groups
-        × (octets_of ids.now groups ≡ Some found) }
-    requires plain { lettered ≡ false → has_letter octets.now ≡ false }
-    ensures { IfOk result (λ event. (groups : List Group) ×
-        (found : List ℕ) × IsOctets octets.now groups
-        × (octets_of ids.now groups ≡ Some found) × (raw_event event ≡ RawFrame from found)) }
+    requires { (groups : List Group) × (found : List ℕ) × IsOctets octets.now groups
+        × (octets_of (ids_in (option_map (λ i. i.now) ids)) groups ≡ Some found) }
+    ensures { IfOk result (λ event. (groups : List Group) × (found : List ℕ)
+        × IsOctets octets.now groups
+        × (octets_of (ids_in (option_map (λ i. i.now) ids.entry)) groups ≡ Some found)
+        × (raw_event event ≡ RawFrame from found)) }
 {
-    if !lettered {
-        let octets = read_plain_octets(room, octets)?;
-        return Ok(RawEvent::Frame { from, octets });
-    }
     match read_octets(room, octets, ids)? {
         Some(octets) => Ok(RawEvent::Frame { from, octets }),
         None => unreachable!(),

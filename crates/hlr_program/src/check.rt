@@ -1,16 +1,18 @@
-//! The check of a script before it runs, and of a batch when a line of it was not handled.
+//! The check of a script before it runs, and of the letters of a batch before it is handled.
 
-ghost use Rattle.std.specs.Prelude.{◌≡◌, ◌<◌, ◌^◌, ℕ, Err, Ok, IfErr, IfOk, OnOk, length, true, false, codes};
+ghost use Rattle.std.specs.Prelude.{◌≡◌, ℕ, List, Err, IfErr, IfOk, IfNone, IsNone, OnOk, OnSome, Some, length, option_map, true, false, codes};
 ghost use Rattle.std.specs.List.{AllByRecursion};
 ghost use Rattle.records.specs.File.{lines};
 ghost use Rattle.records.specs.Reading.{is_text};
+ghost use Rattle.hlr_input.specs.declared.group.Group.{Group};
+ghost use Rattle.hlr_input.specs.Octets.{IsOctets, are_known, ids_in};
 ghost use Rattle.hlr_program.specs.Statuses.{IsScriptFault};
 ghost use Rattle.hlr_program.specs.Batches.{IsGood, IsBad, HasIds, LacksId, IsFirst, batch_of};
 ghost use Rattle.hlr_program.specs.Checked.{IsChecked};
 
 use crate::fault::Fault;
-use hlr_input::{Item, LineFault, Lines, Place, check_line, has_letter, have_ids, read_line};
-use std::alloc::{AllocError, Global};
+use hlr_input::{Item, Lines, MAX_LETTERS, are_octets, read_line};
+use hlr_types::Tid;
 
 /// A script, and what its check finds.
 #[derive(Drop)]
@@ -18,14 +20,10 @@ pub struct Script {
     pub text: Vec<u8>,
     /// Whether its lines have letters.
     pub lettered: bool,
-    /// How many octets each line has.
-    pub lengths: Vec<u32>,
 }
 
-/// Finds the first line of a script that has none of the forms. On the way it looks for letters, and notes how long the lines are, so
-/// that who reads them afterwards need not seek their ends again.
-pub fn check_script(alloc: Global, text: Vec<u8>) -> Result<Script, Fault>
-    requires { length text.items < 2 ^ 32 }
+/// Finds the first line of a script that has none of the forms. On the way it looks for letters.
+pub fn check_script(text: Vec<u8>) -> Result<Script, Fault>
     ensures whole { IfOk result (λ script. script.text.items ≡ text.items) }
     ensures checked { IfOk result IsChecked }
     ensures bad { (n : ℕ) → result ≡ Err (Fault.BadLine n)
@@ -33,25 +31,73 @@ pub fn check_script(alloc: Global, text: Vec<u8>) -> Result<Script, Fault>
     ensures of_script { IfErr result IsScriptFault }
 {
     let mut lettered = false;
-    let mut lengths = Vec::new(alloc);
     let mut left = Lines::new(&text);
     'lines: while let Some((line, behind)) = left.next() {
-        match check_line(alloc, line.text) {
-            Ok(has_letter) => lettered = lettered || has_letter,
-            Err(fault) => return Err(Fault::at_line(fault, line.number)),
+        match find_letters(line.text) {
+            Some(has_letter) => lettered = lettered || has_letter,
+            None => return Err(Fault::BadLine(line.number)),
         }
-        lengths.push(line.text.len() as u32)?;
         left = behind;
     }
-    Ok(Script {
-        text,
-        lettered,
-        lengths,
-    })
+    Ok(Script { text, lettered })
 }
 
-/// Finds the first line of a batch with a letter without an id, if the first `known` letters have one.
-pub fn check_letters(alloc: Global, from: Place, known: usize) -> Result<(), Fault>
+/// Whether a line has a letter. `None` if it has none of the forms.
+fn find_letters(line: &[u8]) -> Option<bool>
+    ensures good { OnSome result (IsGood line.now) }
+    ensures plain { result ≡ Some false → HasIds 0 line.now }
+    ensures lettered { result ≡ Some true → LacksId 0 line.now }
+    ensures bad { IfNone result (IsBad line.now) }
+{
+    let Some(item) = read_line(line) else {
+        return None;
+    };
+    match item {
+        Item::Frame { octets, .. } => find_letters_in(octets),
+        _ => Some(false),
+    }
+}
+
+/// The same for the octets of a frame.
+fn find_letters_in(octets: &[u8]) -> Option<bool>
+    ensures good { OnSome result ((groups : List Group) × IsOctets octets.now groups) }
+    ensures plain { result ≡ Some false → (groups : List Group) → IsOctets octets.now groups
+        → are_known 0 groups ≡ true }
+    ensures lettered { result ≡ Some true → (groups : List Group) → IsOctets octets.now groups
+        → are_known 0 groups ≡ false }
+    ensures bad { IfNone result ((groups : List Group) → IsOctets octets.now groups → ⊥) }
+{
+    if are_octets(octets, 0) {
+        return Some(false);
+    }
+    if are_octets(octets, MAX_LETTERS) {
+        return Some(true);
+    }
+    None
+}
+
+/// Finds the first line of a batch with a letter without an id. No ids are passed if no line has a letter.
+pub fn check_letters(from: Lines, ids: Option<&[Tid]>) -> Result<(), Fault>
+    requires good { AllByRecursion IsGood (batch_of (lines from.rest.now)) }
+    requires plain { IsNone ids → AllByRecursion (HasIds 0) (batch_of (lines from.rest.now)) }
+    ensures known { OnOk result (AllByRecursion
+        (HasIds (length (ids_in (option_map (λ i. i.now) ids.entry))))
+        (batch_of (lines from.entry.rest.now))) }
+    ensures unknown { (n : ℕ) → result ≡ Err (Fault.BadLine n)
+        → IsFirst (HasIds (length (ids_in (option_map (λ i. i.now) ids.entry))))
+        (LacksId (length (ids_in (option_map (λ i. i.now) ids.entry))))
+        (batch_of (lines from.entry.rest.now)) from.entry.before n }
+    ensures of_script { IfErr result IsScriptFault }
+{
+    match ids {
+        Some(ids) => find_unknown(from, ids.len()),
+        None => Ok(()),
+    }
+}
+
+/// The same, if the first `known` letters have an id.
+fn find_unknown(from: Lines, known: usize) -> Result<(), Fault>
+    requires { AllByRecursion IsGood (batch_of (lines from.rest.now)) }
     ensures known { OnOk result (AllByRecursion (HasIds known)
         (batch_of (lines from.entry.rest.now))) }
     ensures unknown { (n : ℕ) → result ≡ Err (Fault.BadLine n)
@@ -59,19 +105,15 @@ pub fn check_letters(alloc: Global, from: Place, known: usize) -> Result<(), Fau
         (batch_of (lines from.entry.rest.now)) from.entry.before n }
     ensures of_script { IfErr result IsScriptFault }
 {
-    if !from.lettered {
-        return Ok(());
-    }
-    let mut place = from;
-    'lines: while let Some((line, behind)) = place.next() {
+    let mut left = from;
+    'lines: while let Some((line, behind)) = left.next() {
         if is_end(line.text) {
             return Ok(());
         }
-        match lacks_id(alloc, line.text, known) {
-            Ok(false) => place = behind,
-            Ok(true) => return Err(Fault::BadLine(line.number)),
-            Err(_) => return Err(Fault::Memory),
+        if lacks_id(line.text, known) {
+            return Err(Fault::BadLine(line.number));
         }
+        left = behind;
     }
     Ok(())
 }
@@ -84,18 +126,16 @@ pub fn is_end(line: &[u8]) -> bool
 }
 
 /// Whether a line has a letter without an id.
-#[tactic(auto, using(crate::proofs::CheckLaws::no_letter))]
-fn lacks_id(alloc: Global, line: &[u8], known: usize) -> Result<bool, AllocError>
-    ensures lacks { result ≡ Ok true → LacksId known line.now }
-    ensures has { result ≡ Ok false → HasIds known line.now }
+fn lacks_id(line: &[u8], known: usize) -> bool
+    requires { IsGood line.now }
+    ensures lacks { result ≡ true → LacksId known line.now }
+    ensures has { result ≡ false → HasIds known line.now }
 {
-    if !has_letter(line) {
-        return Ok(false);
-    }
-    match read_line(alloc, line) {
-        Ok(Item::Frame { octets, .. }) => Ok(!have_ids(octets, known)),
-        Ok(_) => Ok(false),
-        Err(LineFault::Bad) => Ok(false),
-        Err(LineFault::Memory) => Err(AllocError),
+    let Some(item) = read_line(line) else {
+        return false;
+    };
+    match item {
+        Item::Frame { octets, .. } => !are_octets(octets, known),
+        _ => false,
     }
 }

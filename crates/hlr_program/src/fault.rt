@@ -1,6 +1,6 @@
 //! Faults that end a run early.
 
-use hlr_input::{LineFault, WordsFault};
+use hlr_input::WordsFault;
 use records::RecordsFault;
 use std::alloc::{AllocError, AllocFailed};
 use std::error::Error;
@@ -55,7 +55,7 @@ impl Error for Fault {}
 
 impl Fault {
     ghost use Rattle.std.specs.Prelude.{◌≡◌};
-    ghost use Rattle.hlr_program.specs.Statuses.{IsScriptFault, closing_fault, status_of, fault_at};
+    ghost use Rattle.hlr_program.specs.Statuses.{closing_fault, status_of};
 
     /// The status that the program ends with.
     pub fn status(self) -> u8
@@ -65,17 +65,6 @@ impl Fault {
             Fault::Memory => 2,
             Fault::Unaccounted(_) => 3,
             _ => 1,
-        }
-    }
-
-    /// The fault of the script's line with this number.
-    pub fn at_line(fault: LineFault, number: u64) -> Fault
-        ensures value { result ≡ fault_at fault number }
-        ensures of_script { IsScriptFault result }
-    {
-        match fault {
-            LineFault::Bad => Fault::BadLine(number),
-            LineFault::Memory => Fault::Memory,
         }
     }
 

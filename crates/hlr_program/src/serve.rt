@@ -1,9 +1,10 @@
 //! A run of the program.
 
-ghost use Rattle.std.specs.Prelude.{◌≡◌, ◌≤◌, ℕ, [], List, Option, IfOk, IfErr, IfSome, OnOk};
+ghost use Rattle.std.specs.Prelude.{◌≡◌, ◌≤◌, ℕ, [], List, Option, option_map, IfOk, IfErr, IfSome, OnOk};
 ghost use Rattle.std.specs.Result.{result_err};
 ghost use Rattle.std.specs.Io.KnownBytes.{Appends};
 ghost use Rattle.machine.specs.Sound.{Sound};
+ghost use Rattle.hlr_program.specs.Batches.{ArePassed};
 ghost use Rattle.hlr_program.specs.Checked.{IsChecked};
 ghost use Rattle.hlr_program.specs.Registers.{part_of, state_known};
 ghost use Rattle.hlr_program.specs.Runs.{BatchRun, IsLoadedFrom, opening_of, printed_of};
@@ -17,7 +18,8 @@ use crate::listing::closing_lines;
 use crate::octet_digits::OctetDigits;
 use crate::printed::{print, tell};
 use crate::register::Register;
-use hlr_input::{InputFault, Options, Place, read_all};
+use hlr_input::{InputFault, Lines, Options, read_all};
+use hlr_types::Tid;
 use records::{Loaded, read_records};
 use std::alloc::Global;
 use std::io::{Read, Write};
@@ -120,7 +122,7 @@ fn read_script<R: Read>(alloc: Global, reader: &mut R) -> Result<Script, Fault>
         (λ all. StopsScript all fault)) }
 {
     match read_all(alloc, reader) {
-        Ok(text) => check_script(alloc, text),
+        Ok(text) => check_script(text),
         Err(InputFault::Unreadable) => Err(Fault::UnreadableScript),
         Err(InputFault::Memory) => Err(Fault::Memory),
     }
@@ -212,14 +214,25 @@ fn run<R: Threads + Wait + Sync, W: Write>(
 {
     let mut answers = Answers::new(alloc, digits);
     let mut ids = Vec::new(alloc);
-    let mut place = Place::new(&script.text, script.lettered, &script.lengths);
-    'batches: while !place.rest.is_empty() {
+    let mut left = Lines::new(&script.text);
+    'batches: while !left.rest.is_empty() {
         // The letters of a batch stand for ids of those before it.
         ids.clear();
         ids.extend_from_slice(answers.letters.ids())?;
-        place = handle_batch(rt, alloc, register, &mut answers, place, &ids)?;
+        let letters = ids_for(script, &ids);
+        left = handle_batch(rt, alloc, register, &mut answers, left, letters)?;
         print(&answers.text, out)?;
         answers.text.clear();
     }
     Ok(())
+}
+
+/// The ids, where the script has letters.
+fn ids_for<'a>(script: &Script, ids: &'a [Tid]) -> Option<&'a [Tid]>
+    ensures { ArePassed script.now.lettered (option_map (λ i. i.now) result) ids.now }
+{
+    if script.lettered {
+        return Some(ids);
+    }
+    None
 }

@@ -5,7 +5,7 @@ use Rattle.hlr_program.proofs.AheadLemmas.{Counts}
 use Rattle.hlr_program.proofs.ahead.count_events.Given as goal
 
 abbrev pub invariant-lines : goal.invariant-lines
-invariant-lines l = (ids : List (List ℕ)) → Counts ids (batch_of (lines l.from.rest.now)) (batch_of (lines l.place.rest.now)) l.count
+invariant-lines l = (ids : List (List ℕ)) → Counts ids (batch_of (lines l.from.rest.now)) (batch_of (lines l.left.rest.now)) l.count
 
 abbrev pub decreases-lines : goal.decreases-lines
-decreases-lines l = length l.place.rest.now
+decreases-lines l = length l.left.rest.now

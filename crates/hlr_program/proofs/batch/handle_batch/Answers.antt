@@ -1,6 +1,8 @@
 use Rattle.std.proofs.Common.{◌≡◌, ◌∙◌, [], List, ap, subst}
 use Rattle.frames.specs.Octets.{RawOut}
 use Rattle.records.specs.File.{lines}
+use Rattle.std.specs.Prelude.{option_map}
+use Rattle.hlr_input.specs.Octets.{ids_in}
 use Rattle.hlr_program.specs.declared.register.Register.{Register}
 use Rattle.hlr_program.specs.Answered.{so_far}
 use Rattle.hlr_program.specs.Registers.{part_of, state_known}
@@ -16,9 +18,9 @@ returns-in_err-behind-clause-stops g c =
     let ls = batch_of (lines c.args.from.rest.now) in
     let none : part_of c.begin_batch.new.register ≡ [] = ap part_of c.begin_batch.ensures ∙ c.requires.none in
     passed_on c.from_residual-in_err-behind.result c.in_err-behind.field-0.0
-    (BatchStops c.args.ids.now c.args.from.before (state_known c.args.register.now) ls) c.from_residual-in_err-behind.ensures.1
-    (subst (λ (r : Register). BatchStops c.args.ids.now c.args.from.before (state_known r) ls c.in_err-behind.field-0.0) c.begin_batch.ensures
-    (batch_stops c.args.ids.now c.args.from.before (progress c.begin_batch.new.register c.args.answers.now) ls c.in_err-behind.field-0.0
+    (BatchStops (ids_in (option_map (λ i. i.now) c.args.ids)) c.args.from.before (state_known c.args.register.now) ls) c.from_residual-in_err-behind.ensures.1
+    (subst (λ (r : Register). BatchStops (ids_in (option_map (λ i. i.now) c.args.ids)) c.args.from.before (state_known r) ls c.in_err-behind.field-0.0) c.begin_batch.ensures
+    (batch_stops (ids_in (option_map (λ i. i.now) c.args.ids)) c.args.from.before (progress c.begin_batch.new.register c.args.answers.now) ls c.in_err-behind.field-0.0
     none c.in_ok-check_letters.ensures.known c.in_err-behind.ensures.stops))
 
 pub returns-in_err-end_batch-clause-stops : goal.returns-in_err-end_batch-clause-stops
@@ -28,18 +30,18 @@ returns-in_err-end_batch-clause-stops g c =
     let ls = batch_of (lines c.args.from.rest.now) in
     let none : part_of c.begin_batch.new.register ≡ [] = ap part_of c.begin_batch.ensures ∙ c.requires.none in
     passed_on c.from_residual-in_err-end_batch.result c.in_err-end_batch.field-0.0
-    (BatchStops c.args.ids.now c.args.from.before (state_known c.args.register.now) ls) c.from_residual-in_err-end_batch.ensures.1
-    (subst (λ (r : Register). BatchStops c.args.ids.now c.args.from.before (state_known r) ls c.in_err-end_batch.field-0.0) c.begin_batch.ensures
-    (batch_stops c.args.ids.now c.args.from.before start ls c.in_err-end_batch.field-0.0
+    (BatchStops (ids_in (option_map (λ i. i.now) c.args.ids)) c.args.from.before (state_known c.args.register.now) ls) c.from_residual-in_err-end_batch.ensures.1
+    (subst (λ (r : Register). BatchStops (ids_in (option_map (λ i. i.now) c.args.ids)) c.args.from.before (state_known r) ls c.in_err-end_batch.field-0.0) c.begin_batch.ensures
+    (batch_stops (ids_in (option_map (λ i. i.now) c.args.ids)) c.args.from.before start ls c.in_err-end_batch.field-0.0
     none c.in_ok-check_letters.ensures.known
-    (last_stops c.args.ids.now start here ls c.in_err-end_batch.field-0.0 c.in_ok-behind.ensures.adds c.in_err-end_batch.ensures.stops)))
+    (last_stops (ids_in (option_map (λ i. i.now) c.args.ids)) start here ls c.in_err-end_batch.field-0.0 c.in_ok-behind.ensures.adds c.in_err-end_batch.ensures.stops)))
 
 pub returns-clause-handles : goal.returns-clause-handles
 returns-clause-handles g c =
     let ls = batch_of (lines c.args.from.rest.now) in
     let none : part_of c.begin_batch.new.register ≡ [] = ap part_of c.begin_batch.ensures ∙ c.requires.none in
-    subst (λ (r : Register). (sent : List RawOut) × Handles c.args.ids.now r ls sent c.end_batch.new.self
+    subst (λ (r : Register). (sent : List RawOut) × Handles (ids_in (option_map (λ i. i.now) c.args.ids)) r ls sent c.end_batch.new.self
     × Prints (so_far c.args.answers.now) sent (so_far c.end_batch.new.answers)) c.begin_batch.ensures
-    (handles c.args.ids.now (progress c.begin_batch.new.register c.args.answers.now) (progress c.take_lines.new.register c.take_lines.new.answers)
+    (handles (ids_in (option_map (λ i. i.now) c.args.ids)) (progress c.begin_batch.new.register c.args.answers.now) (progress c.take_lines.new.register c.take_lines.new.answers)
     (progress c.end_batch.new.self c.end_batch.new.answers) ls none c.in_ok-behind.ensures.adds c.in_ok-end_batch.ensures.adds
     c.in_ok-end_batch.ensures.none)
