@@ -153,8 +153,8 @@ fn count(verdict: &Verdict) -> Option<usize> {
 }
 
 /// With enough memory the frame is read and copied. If an allocation fails, the answer is `Memory`, and the
-/// next is right: `rt try --test --fail-alloc N` shows it for one N, if this test alone is looked at, since the
-/// others need enough memory. `growth_tests` has a like test, which `failing/run` runs for each N.
+/// next is right: run `rt try --test --fail-alloc N` for N = 1, 2, .. until all tests pass, and look at
+/// this one only, since the others need enough memory.
 #[test]
 fn refused_growth_is_memory(rt: HostRuntime) -> Result<(), Fail> {
     let taken = taken_or_again(rt.alloc())?;

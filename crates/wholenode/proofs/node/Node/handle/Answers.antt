@@ -77,11 +77,15 @@ returns-clause-refused c =
           c.index_mut-shard.result.now c.self.view_is c.self.invariant at c.requires (sym routed)
           (λ e. let all = c.handle.ensures.full.0 (w.in-Err.is ∙ ap (λ (f : ShardFault). Err f) e) in (all.1, all.2))
           (λ e.
-          let lacks = w.in-Err.is ∙ ap (λ (f : ShardFault). Err f) e in
-          (c.handle.ensures.no_room lacks, λ full. full_first lacks (c.handle.ensures.full.1 (
-            is_mine (arc_value c.self.inside.directory) c.self.inside.shards.items
-            (event_of c.args.event.now) c.from-place.result c.index_mut-shard.result.now c.self.invariant routed at, full.0, full.1
-          ))))))
+          let lacks = w.in-Err.is ∙ ap (λ (f : ShardFault). Err f) e in (
+            c.handle.ensures.no_room lacks,
+            λ full. full_first lacks (c.handle.ensures.full.1 (
+              is_mine (arc_value c.self.inside.directory) c.self.inside.shards.items
+                  (event_of c.args.event.now) c.from-place.result c.index_mut-shard.result.now c.self.invariant routed at,
+              full.0,
+              full.1,
+            )),
+          ))))
     ]
 
 pub returns-clause-keeps : goal.returns-clause-keeps
