@@ -2,7 +2,6 @@
 
 use hex::encode_upper;
 use hlr_input::read_octets;
-use hlr_types::Tid;
 use std::alloc::{AllocError, Global};
 use std::test::Fail;
 
@@ -13,10 +12,10 @@ fn octets(alloc: Global, count: u8) -> Result<Vec<u8>, AllocError> {
         .collect(alloc)
 }
 
-/// Whether octets are read from their digits as they were, with these ids for letters.
-fn are_read(alloc: Global, octets: &[u8], ids: Option<&[Tid]>) -> Result<bool, AllocError> {
+/// Whether octets are read from their digits as they were.
+fn are_read(alloc: Global, octets: &[u8]) -> Result<bool, AllocError> {
     let text = encode_upper(alloc, octets)?;
-    match read_octets(Vec::new(alloc), text.as_bytes(), ids)? {
+    match read_octets(Vec::new(alloc), text.as_bytes(), Some(&[]))? {
         Some(read) => Ok(read.as_slice() == octets),
         None => Ok(false),
     }
@@ -26,11 +25,7 @@ fn are_read(alloc: Global, octets: &[u8], ids: Option<&[Tid]>) -> Result<bool, A
 fn octets_of_all_lengths(rt: HostRuntime) -> Result<(), Fail> {
     for count in 1..50 {
         let octets = octets(rt.alloc(), count)?;
-        assert!(rt; are_read(rt.alloc(), &octets, None)?, "{count} octets");
-        assert!(rt;
-            are_read(rt.alloc(), &octets, Some(&[]))?,
-            "{count} octets, where letters have ids"
-        );
+        assert!(rt; are_read(rt.alloc(), &octets)?, "{count} octets");
     }
     Ok(())
 }

@@ -121,8 +121,12 @@ fn goes_on(table: &mut Dialogues, id: Tid) -> Option<()> {
     }
     let origin = RemoteId::read(&[7])?;
     let left = table.effect(id, &NOTHING, &LAST, 9).ok()?.left;
+    table.go_on(id, &left).ok()?;
+    if table.get(id).is_none() {
+        return None;
+    }
     table.activate(id, peer(b"468")?, origin);
-    table.go_on(id, &left).ok()
+    Some(())
 }
 
 fn tells(table: &Dialogues, id: Tid) -> Option<Conclusion> {
