@@ -103,19 +103,19 @@ fn push_data<'a>(
     sent: &SubscriberData,
 ) -> Result<(), Memory> {
     let mut codes = sent.codes.as_slice();
-    let mut id = 1i8;
     let mut msisdn = Some(&sent.msisdn);
-    loop {
+    // There are at most 32 codes.
+    for id in 1i8..5 {
         let (these, rest) = codes.split_at(codes.len().min(8));
         let argument = insert_arg(bump, sent.imsi.as_ref(), msisdn, these)?;
         trees.push(invoke(bump, id, INSERT_SUBSCRIBER_DATA, argument)?)?;
         if rest.is_empty() {
-            return Ok(());
+            break;
         }
         codes = rest;
-        id = id.saturating_add(1);
         msisdn = None;
     }
+    Ok(())
 }
 
 /// The Rejects, then the procedure's own components.
