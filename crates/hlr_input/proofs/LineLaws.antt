@@ -8,12 +8,12 @@ use Rattle.std.proofs.lemmas.List.Splits.{join_with_byte-slice_split, slice_spli
 use Rattle.hex.specs.Hex.{is_hex_digit}
 use Rattle.hex.proofs.HexLemmas.{decode_of-ok}
 use Rattle.hlr_types.specs.DigitTexts.{text_of}
-use Rattle.records.specs.File.{parts}
+use Rattle.texts.specs.Lines.{parts}
 use Rattle.records.specs.Spelling.{IsImsiNumber, IsCodes}
 use Rattle.records.specs.Reading.{imsi_in}
 use Rattle.records.proofs.LineLaws as records
 use Rattle.records.proofs.AgainFields.{imsi_again}
-use Rattle.records.proofs.PartsLemmas.{parts_cons}
+use Rattle.texts.proofs.PartsLemmas.{parts_cons}
 use Rattle.hlr_input.specs.declared.group.Group.{Group}
 use Rattle.hlr_input.specs.declared.group.Group.TheVariants.{Octet, Letter}
 use Rattle.hlr_input.specs.declared.item.Item.{Item}

@@ -2,7 +2,7 @@
 use Rattle.std.specs.Prelude.{◌≡◌, ℕ, ◌-◌, ◌==◌, ◌&&◌, nat_le, Bool, true, false, List, [], ◌∷◌, ◌++◌, length, Option, Some, None, option_map, if◌then◌else◌, codes as text}
 use Rattle.hlr_types.specs.Digits.{AreSomeDigits}
 use Rattle.hlr_types.specs.DigitTexts.{text_of}
-use Rattle.records.specs.File.{parts}
+use Rattle.texts.specs.Lines.{parts}
 use Rattle.records.specs.Spelling.{IsImsiNumber, IsCodes}
 use Rattle.records.specs.Reading.{◌>>=◌, is_text, octet_in}
 use Rattle.hlr_input.specs.declared.group.Group.{Group}

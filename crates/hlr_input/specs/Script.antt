@@ -4,7 +4,7 @@ use Rattle.std.specs.Fmt.{decimal}
 use Rattle.std.specs.List.{list_any}
 use Rattle.machine.specs.declared.numbers.TheConstants.{MAX_CLOCK}
 use Rattle.records.specs.Spelling.{IsNumber, IsImsiNumber, IsCodes}
-use Rattle.records.specs.File.{parts}
+use Rattle.texts.specs.Lines.{parts}
 use Rattle.hlr_input.specs.declared.group.Group.{Group}
 use Rattle.hlr_input.specs.declared.item.Item.{Item}
 use Rattle.hlr_input.specs.declared.item.Item.TheVariants as item

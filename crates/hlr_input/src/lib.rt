@@ -1,6 +1,6 @@
 //! The program's input: the words of its command line, whole files, and the lines of a script with their meaning.
 //!
-//! A line is cut from its script and then read (`Lines`, `read_line`). The octets of a frame stay as written until the letters in
+//! A line is cut from its script (`texts`) and then read (`read_line`). The octets of a frame stay as written until the letters in
 //! them have their ids (`Letters`, `read_octets`).
 #![tactic(auto)]
 
@@ -11,7 +11,6 @@ mod item;
 mod letters;
 mod line;
 mod options;
-mod text_lines;
 mod ticks;
 mod words;
 
@@ -22,5 +21,4 @@ pub use item::Item;
 pub use letters::{Letters, MAX_LETTERS};
 pub use line::read_line;
 pub use options::{Options, WordsFault};
-pub use text_lines::{Lines, Numbered};
 pub use words::read_words;

@@ -1,7 +1,7 @@
 //! One line of a script.
 
 ghost use Rattle.std.specs.Prelude.{◌≡◌, ◌∷◌, [], true, ℕ, List, Some, IfSome, IfNone, IsSomeAnd};
-ghost use Rattle.records.specs.File.{parts};
+ghost use Rattle.texts.specs.Lines.{parts};
 ghost use Rattle.records.specs.Reading.{imsi_in};
 ghost use Rattle.records.specs.Spelling.{IsImsiNumber};
 ghost use Rattle.hlr_input.specs.Script.{Line, IsLine, is_closed, line_of};
@@ -10,7 +10,8 @@ ghost use Rattle.hlr_input.specs.Reading.{IsWritten, Reads};
 use crate::item::Item;
 use crate::ticks::ticks;
 use hlr_types::{Digits, Imsi, Peer};
-use records::{Codes, cut};
+use records::Codes;
+use texts::cut;
 
 /// Reads a line; its fields are separated by one space:
 ///

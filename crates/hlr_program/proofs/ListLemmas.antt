@@ -3,7 +3,7 @@ use Rattle.std.proofs.Common.{◌≡◌, ℕ, Bool, true, false, List, [], ◌�
 use Rattle.std.specs.Prelude.{Result, Ok, Err, IfErr, OnOk}
 use Rattle.std.specs.List.{flat_map}
 use Rattle.std.proofs.lemmas.List.{append-nil}
-use Rattle.records.proofs.LinesLemmas.{lines_nil}
+use Rattle.texts.proofs.LinesLemmas.{lines_nil}
 use Rattle.shardlog.specs.Log.{Log}
 use Rattle.hlr_program.specs.Closing.{Asked, Closes, Lists, SavesLines, behind_v}
 use Rattle.std.specs.Prelude.{codes as text}

@@ -6,10 +6,10 @@ use Rattle.std.specs.Io.KnownBytes.{Appends}
 use Rattle.std.proofs.KnownBytes.{Appends-nil, Appends-trans}
 use Rattle.std.proofs.lemmas.Bool.{cases_Bool}
 use Rattle.std.proofs.lemmas.List.{append-nil}
-use Rattle.records.specs.File.{parts, lines, without_empty_last}
+use Rattle.texts.specs.Lines.{parts, lines, without_empty_last}
 use Rattle.records.specs.Reading.{is_text}
-use Rattle.records.proofs.LinesLemmas.{lines_last, lines_nil}
-use Rattle.records.proofs.PartsLemmas.{parts_cons}
+use Rattle.texts.proofs.LinesLemmas.{lines_last, lines_nil}
+use Rattle.texts.proofs.PartsLemmas.{parts_cons}
 use Rattle.frames.specs.Octets.{RawEvent, RawOut}
 use Rattle.hlr_program.specs.declared.fault.Fault.{Fault}
 use Rattle.hlr_program.specs.declared.fault.Fault.TheVariants.{Memory, Output}

@@ -1,7 +1,7 @@
 -- What the check of a script finds.
 use Rattle.std.specs.Prelude.{◌≡◌, false}
 use Rattle.std.specs.List.{AllByRecursion}
-use Rattle.records.specs.File.{lines}
+use Rattle.texts.specs.Lines.{lines}
 use Rattle.hlr_program.specs.declared.check.Script.{Script}
 use Rattle.hlr_program.specs.Batches.{HasIds, IsGood}
 

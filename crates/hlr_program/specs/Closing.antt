@@ -1,7 +1,7 @@
 -- What is printed about the register at the end of a script, if the options ask for it (profile).
 use Rattle.std.specs.Prelude.{◌≡◌, ℕ, Bool, true, false, List, [], ◌∷◌, ◌++◌, codes as text}
 use Rattle.std.specs.List.{flat_map}
-use Rattle.records.specs.File.{lines}
+use Rattle.texts.specs.Lines.{lines}
 use Rattle.audit.specs.Listing.{ListsRecords, ListsDialogues, ListsJournal}
 use Rattle.audit.specs.Saving.{Saves}
 use Rattle.shardlog.specs.Log.{Log}

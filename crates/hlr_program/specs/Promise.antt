@@ -4,7 +4,8 @@ use Rattle.std.specs.List.{AllByRecursion}
 use Rattle.std.specs.Io.KnownBytes.{Appends}
 use Rattle.machine.specs.Sound.{Sound}
 use Rattle.machine.specs.State.{State}
-use Rattle.records.specs.File.{lines, IsBadLine, IsTwice}
+use Rattle.texts.specs.Lines.{lines}
+use Rattle.records.specs.File.{IsBadLine, IsTwice}
 use Rattle.records.specs.Loaded.{Subscribers}
 use Rattle.hlr_input.specs.declared.options.Options.{Options}
 use Rattle.records.specs.Maps.{DirectoryMap}

@@ -3,13 +3,13 @@
 ghost use Rattle.std.specs.Prelude.{◌≡◌, ◌≤◌, ◌<◌, ◌^◌, ◌-◌, min, ℕ, List, length};
 ghost use Rattle.frames.specs.Octets.{RawEvent};
 ghost use Rattle.machine.specs.declared.numbers.TheConstants.{MAX_ENTRIES};
-ghost use Rattle.records.specs.File.{lines};
+ghost use Rattle.texts.specs.Lines.{lines};
 ghost use Rattle.hlr_program.specs.Batches.{batch_of};
 ghost use Rattle.hlr_program.specs.Runs.{LineEvents, LinesEvents};
 
 use crate::check::is_end;
-use hlr_input::Lines;
 use machine::numbers::{MAX_ENTRIES, SHARDS};
+use texts::Lines;
 
 /// The events of a batch that are not handled yet.
 #[derive(Clone, Copy)]

@@ -3,7 +3,7 @@
 ghost use Rattle.std.specs.Prelude.{◌≡◌, ◌<◌, ◌∷◌, ◌+◌, [], ℕ, List, length, Some, IsNone, option_map, IfOk, IfErr, OnOk};
 ghost use Rattle.std.specs.List.{AllByRecursion};
 ghost use Rattle.frames.specs.Octets.{RawEvent as Event, RawFrame, RawOut};
-ghost use Rattle.records.specs.File.{lines};
+ghost use Rattle.texts.specs.Lines.{lines};
 ghost use Rattle.hlrcore.specs.Events.{raw_event};
 ghost use Rattle.hlr_input.specs.declared.group.Group.{Group};
 ghost use Rattle.hlr_input.specs.Octets.{IsOctets, ids_in, octets_of};
@@ -22,12 +22,13 @@ use crate::check::{check_letters, is_end};
 use crate::each::Each;
 use crate::fault::Fault;
 use crate::register::Register;
-use hlr_input::{Item, Lines, read_line, read_octets};
+use hlr_input::{Item, read_line, read_octets};
 use hlr_types::{Peer, Tid};
 use hlrcore::{Change, RawEvent};
 use std::alloc::{AllocError, Global};
 use std::sync::Wait;
 use std::thread::Threads;
+use texts::Lines;
 
 /// Handles the events of a batch, in the order of its lines, and appends the lines of what they send. Returns the lines after the
 /// batch.

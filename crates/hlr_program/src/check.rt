@@ -2,7 +2,7 @@
 
 ghost use Rattle.std.specs.Prelude.{◌≡◌, ℕ, List, Err, IfErr, IfOk, IfNone, IsNone, OnOk, OnSome, Some, length, option_map, true, false, codes};
 ghost use Rattle.std.specs.List.{AllByRecursion};
-ghost use Rattle.records.specs.File.{lines};
+ghost use Rattle.texts.specs.Lines.{lines};
 ghost use Rattle.records.specs.Reading.{is_text};
 ghost use Rattle.hlr_input.specs.declared.group.Group.{Group};
 ghost use Rattle.hlr_input.specs.Octets.{IsOctets, are_known, ids_in};
@@ -11,8 +11,9 @@ ghost use Rattle.hlr_program.specs.Batches.{IsGood, IsBad, HasIds, LacksId, IsFi
 ghost use Rattle.hlr_program.specs.Checked.{IsChecked};
 
 use crate::fault::Fault;
-use hlr_input::{Item, Lines, MAX_LETTERS, are_octets, read_line};
+use hlr_input::{Item, MAX_LETTERS, are_octets, read_line};
 use hlr_types::Tid;
+use texts::Lines;
 
 /// A script, and what its check finds.
 #[derive(Drop)]

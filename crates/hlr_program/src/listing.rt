@@ -4,9 +4,10 @@ ghost use Rattle.std.specs.Prelude.{◌≡◌, ◌++◌, ℕ, List, IfOk, OnOk};
 ghost use Rattle.hlr_program.specs.Closing.{Asked, Closes, Lists, SavesLines, behind_v};
 
 use audit::{list_dialogues, list_journal, list_records, save_records};
-use hlr_input::{Lines, Options};
+use hlr_input::Options;
 use shardlog::Shard;
 use std::alloc::{AllocError, Global};
+use texts::Lines;
 
 /// What the options ask for: the records, the open dialogues and the journals; at the very end the lines of the saved records
 /// file, each after `V `.

@@ -9,7 +9,8 @@ use Rattle.records.specs.declared.fault.RecordsFault.{RecordsFault}
 use Rattle.records.specs.declared.fault.RecordsFault.TheVariants.{BadLine, Twice}
 use Rattle.records.specs.Subscriber.{Subscriber}
 use Rattle.records.specs.Maps.{digits_cmp}
-use Rattle.records.specs.File.{Contents, parts, lines, AreApart, SharesWithOne, IsGoodBefore, HasNoHeader, IsBadLine, IsTwice}
+use Rattle.texts.specs.Lines.{parts, lines}
+use Rattle.records.specs.File.{Contents, AreApart, SharesWithOne, IsGoodBefore, HasNoHeader, IsBadLine, IsTwice}
 use Rattle.records.specs.Spelling.{Each, IsHeader, IsRecordLine}
 use Rattle.records.specs.Reading.{record_of, header_in, at_imsi, at_msisdn, with_line, records_after, contents_below, contents_of, and_then, with_hlr}
 use Rattle.records.proofs.MapLemmas.{digits_tie}

@@ -12,7 +12,7 @@ use Rattle.hex.proofs.HexLemmas.{decode_sized-twice, decode_of-ok}
 use Rattle.hlr_types.specs.Digits.{AreImsiDigits}
 use Rattle.hlr_types.specs.DigitTexts.{digits_in, is_digit, text_of}
 use Rattle.hlr_types.specs.Identities.{imsi_from}
-use Rattle.records.specs.File.{parts}
+use Rattle.texts.specs.Lines.{parts}
 use Rattle.records.specs.Reading.{octet_in, codes_after, prefixes_after, imsi_in}
 use Rattle.records.specs.Spelling.{IsNumber, IsImsiNumber, IsCode, Each}
 

@@ -13,7 +13,7 @@ use Rattle.hlr_types.specs.declared.register.Register.{Register}
 use Rattle.records.specs.declared.version.Version.{Version}
 use Rattle.records.specs.declared.version.Version.TheVariants.{One, Two}
 use Rattle.records.specs.Subscriber.{Subscriber}
-use Rattle.records.specs.File.{parts}
+use Rattle.texts.specs.Lines.{parts}
 use Rattle.records.specs.Reading.{◌>>=◌, is_text, codes_after, codes_in, prefixes_after, roam_in, lmsi_in, purged_in, withdrawn_in, register_of, register_in, subscriber_of, subscriber_from, record_of, header_in}
 use Rattle.records.specs.Spelling.{IsNumber, IsCode, Each, IsCodes, IsRoam, IsLmsiField, IsRegister, purged_text, withdrawn_text, sixth, IsRecordLine, IsHeader, mark_of}
 use Rattle.records.proofs.FieldLaws.{is_text_true}

@@ -3,7 +3,8 @@ use Rattle.std.proofs.Common.{◌≡◌, ℕ, List, refl, ⊎_elim, sym, subst}
 use Rattle.std.specs.Prelude.{Err}
 use Rattle.hex.specs.Hex.{decode_pairs}
 use Rattle.records.specs.declared.fault.RecordsFault.TheVariants.{BadLine, Twice}
-use Rattle.records.specs.File.{IsBadLine, IsTwice, lines}
+use Rattle.texts.specs.Lines.{lines}
+use Rattle.records.specs.File.{IsBadLine, IsTwice}
 use Rattle.records.specs.Reading.{codes_after, codes_in, contents_of, header_in, prefixes_after, record_of, records_after, register_in, register_of, roam_in, subscriber_from, subscriber_of}
 use Rattle.records.specs.Examples as example
 use Rattle.records.proofs.FileLaws.{file_found}

@@ -9,9 +9,9 @@ use Rattle.hlr_types.specs.DigitTexts.{digits_in, is_digit, text_of}
 use Rattle.hlr_types.proofs.TextLemmas.{printed_digit}
 use Rattle.records.specs.declared.version.Version.{Version}
 use Rattle.records.specs.declared.version.Version.TheVariants.{One, Two}
-use Rattle.records.specs.File.{parts}
+use Rattle.texts.specs.Lines.{parts}
 use Rattle.records.specs.Reading.{◌>>=◌, first_digits, withdrawn_in, register_of, register_after, subscriber_of, subscriber_from, record_of, record_after}
-use Rattle.records.proofs.PartsLemmas.{parts_cons}
+use Rattle.texts.proofs.PartsLemmas.{parts_cons}
 use Rattle.records.proofs.FieldLaws.{number_found, joined_again}
 use Rattle.records.proofs.AgainFields.{number_again, Lacks, parts-front}
 

@@ -11,7 +11,8 @@ use Rattle.records.specs.declared.version.Version.TheVariants.{One, Two}
 use Rattle.records.specs.Subscriber.{Subscriber}
 use Rattle.records.specs.Maps.{digits_cmp}
 use Rattle.records.specs.Fresh.{IsFresh, AreFresh}
-use Rattle.records.specs.File.{parts, Share, AreApart}
+use Rattle.texts.specs.Lines.{parts}
+use Rattle.records.specs.File.{Share, AreApart}
 use Rattle.records.specs.Spelling.{Each, IsRecordLine, MayBeWithdrawn}
 use Rattle.records.specs.Loaded.{Subscribers, imsi_entry, msisdn_entry, by_imsi, loaded_from}
 use Rattle.records.specs.Reading.{record_of, and_then, with_hlr, below_header, Answers}

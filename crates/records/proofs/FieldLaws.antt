@@ -14,11 +14,11 @@ use Rattle.hex.proofs.HexLemmas.{decode_sized-ok, decode_sized-twice, decode_of-
 use Rattle.hlr_types.specs.Digits.{AreSomeDigits}
 use Rattle.hlr_types.specs.DigitTexts.{digits_in, is_digit, text_of}
 use Rattle.hlr_types.proofs.TextLemmas.{are_some_digits, is_digit_bounds}
-use Rattle.records.specs.File.{parts}
+use Rattle.texts.specs.Lines.{parts}
 use Rattle.records.specs.Reading.{◌>>=◌, is_text, octet_in, codes_after, codes_in, prefixes_after, roam_in, purged_in, withdrawn_in, lmsi_in, register_of, register_in}
 use Rattle.records.specs.Spelling.{IsNumber, IsCode, Each, IsCodes, IsRoam, IsLmsiField, IsRegister, purged_text, withdrawn_text}
 use Rattle.hlr_types.specs.declared.register.Register.{Register}
-use Rattle.records.proofs.PartsLemmas.{parts_cons}
+use Rattle.texts.proofs.PartsLemmas.{parts_cons}
 
 -- ---- steps
 

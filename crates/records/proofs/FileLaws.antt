@@ -7,7 +7,7 @@ use Rattle.std.proofs.lemmas.List.{append-nil}
 use Rattle.records.specs.declared.version.Version.{Version}
 use Rattle.records.specs.declared.fault.RecordsFault.TheVariants.{Twice}
 use Rattle.records.specs.Subscriber.{Subscriber}
-use Rattle.records.specs.File.{parts, lines}
+use Rattle.texts.specs.Lines.{parts, lines}
 use Rattle.records.specs.Reading.{record_of, header_in, at_imsi, at_msisdn, with_line, records_after, contents_below, contents_of, and_then, with_hlr}
 use Rattle.records.specs.Spelling.{Each, IsRecordLine}
 use Rattle.records.specs.File.{Contents, Share, AreApart, File}

@@ -1,7 +1,7 @@
 -- The worked examples of records files, as they are read.
 use Rattle.std.proofs.Common.{refl}
 use Rattle.hex.specs.Hex.{decode_pairs}
-use Rattle.records.specs.File.{lines}
+use Rattle.texts.specs.Lines.{lines}
 use Rattle.records.specs.Reading.{codes_after, codes_in, contents_of, header_in, prefixes_after, record_of, records_after, register_in, register_of, roam_in, subscriber_from, subscriber_of}
 use Rattle.records.specs.Examples as example
 

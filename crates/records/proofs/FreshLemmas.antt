@@ -8,7 +8,7 @@ use Rattle.records.specs.declared.version.Version.{Version}
 use Rattle.records.specs.Subscriber.{Subscriber, IsRecord}
 use Rattle.records.specs.Maps.{digits_cmp, RecordMap}
 use Rattle.records.specs.Fresh.{IsFresh, AreFresh}
-use Rattle.records.specs.File.{parts}
+use Rattle.texts.specs.Lines.{parts}
 use Rattle.records.specs.Reading.{record_of}
 use Rattle.records.proofs.LineLaws.{record_found}
 use Rattle.records.proofs.MapLemmas.{digits_total}

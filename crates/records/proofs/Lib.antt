@@ -4,8 +4,7 @@ pub mod InOrder
 pub mod TakenLemmas
 pub mod MovedLemmas
 pub mod OctetLemmas
-pub mod PartsLemmas
-pub mod LinesLemmas
+pub mod CodeLemmas
 pub mod FieldLaws
 pub mod LineLaws
 pub mod AgainFields

@@ -13,7 +13,7 @@ use Rattle.hlr_types.specs.Identities.{imsi_from}
 use Rattle.records.specs.declared.version.Version.{Version}
 use Rattle.records.specs.declared.version.Version.TheVariants.{One, Two}
 use Rattle.records.specs.Subscriber.{Subscriber}
-use Rattle.records.specs.File.{parts}
+use Rattle.texts.specs.Lines.{parts}
 use Rattle.records.specs.Reading.{is_text, codes_in, roam_in, register_in, withdrawn_in, subscriber_of, subscriber_from, record_of, version_in, header_in, imsi_in}
 use Rattle.records.specs.Spelling.{IsNumber, IsImsiNumber, IsCodes, IsRoam, IsRegister, IsRecordLine, IsHeader, MayBeWithdrawn, sixth, withdrawn_text, mark_of}
 use Rattle.records.proofs.FieldLaws.{bind_some, guard_none, chosen, number_found, codes_found, roam_found, register_found, withdrawn_found, is_text_true, joined_again}

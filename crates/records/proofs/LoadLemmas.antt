@@ -9,7 +9,8 @@ use Rattle.records.specs.declared.version.Version.{Version}
 use Rattle.records.specs.declared.fault.RecordsFault.{RecordsFault}
 use Rattle.records.specs.declared.fault.RecordsFault.TheVariants.{BadLine, Twice}
 use Rattle.records.specs.Subscriber.{Subscriber}
-use Rattle.records.specs.File.{Contents, parts}
+use Rattle.texts.specs.Lines.{parts}
+use Rattle.records.specs.File.{Contents}
 use Rattle.records.specs.Loaded.{Subscribers, imsi_entry, msisdn_entry, by_imsi, by_msisdn, loaded_from, with_record}
 use Rattle.records.specs.Loading.{is_new}
 use Rattle.records.specs.Reading.{record_of, at_imsi, at_msisdn, records_after, and_then, with_hlr, below_header}

@@ -3,7 +3,8 @@ use Rattle.std.proofs.Common.{◌≡◌, ℕ, List, refl, subst, inl, inr}
 use Rattle.std.specs.Prelude.{◌⊎◌, Result, Ok, Err, IfOk, MatchResult}
 use Rattle.records.specs.declared.fault.RecordsFault.{RecordsFault}
 use Rattle.records.specs.declared.fault.RecordsFault.TheVariants.{BadLine, Twice, Memory}
-use Rattle.records.specs.File.{lines, Contents, File, IsBadLine, IsTwice}
+use Rattle.texts.specs.Lines.{lines}
+use Rattle.records.specs.File.{Contents, File, IsBadLine, IsTwice}
 use Rattle.records.specs.Loaded.{Subscribers, loaded_from}
 use Rattle.records.specs.Reading.{contents_of, Answers}
 use Rattle.records.proofs.AgainFiles.{file_again, file_fault}

@@ -11,13 +11,13 @@ use Rattle.records.specs.declared.version.Version.TheVariants.{Two}
 use Rattle.records.specs.declared.version.Version.{Version}
 use Rattle.records.specs.declared.version.Version.TheVariants.{One}
 use Rattle.records.specs.Subscriber.{Subscriber, AreAllowed, AreOctets, MayRoam, MayHaveLmsi, MayServe, IsRecord, unmarked}
-use Rattle.records.specs.File.{parts, lines}
+use Rattle.texts.specs.Lines.{parts, lines}
 use Rattle.records.specs.Spelling.{IsNumber, IsCode, Each, IsCodes, IsRoam, IsLmsiField, IsRegister, IsRecordLine, MayBeWithdrawn, mark_of, sixth}
 use Rattle.records.specs.File.{Share, AreApart}
 use Rattle.records.specs.Written.{code_text, codes_text, roam_text, lmsi_text, register_text, record_line, header_line, saved_file, SavedIsRead}
 use Rattle.records.proofs.OctetLemmas.{bytes}
 use Rattle.records.proofs.WrittenLemmas.{octets_listed}
-use Rattle.records.proofs.LinesLemmas.{lines_nil, lines_more}
+use Rattle.texts.proofs.LinesLemmas.{lines_nil, lines_more}
 use Rattle.records.proofs.AgainFields.{Lacks, Lacks-append, Lacks-join, Lacks-digits, parts-front}
 use Rattle.records.proofs.AgainLines.{line_feed, fields_lack}
 

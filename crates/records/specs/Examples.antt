@@ -1,7 +1,8 @@
 -- Worked examples of records files.
 use Rattle.std.specs.Prelude.{ℕ, ◌-◌, List, [], ◌∷◌, ◌++◌, map, true, false, Some, None, Ok, Err, ◌≡◌, codes as text}
 use Rattle.records.specs.declared.fault.RecordsFault.TheVariants.{BadLine, Twice}
-use Rattle.records.specs.File.{Contents, File, IsBadLine, IsTwice, lines}
+use Rattle.texts.specs.Lines.{lines}
+use Rattle.records.specs.File.{Contents, File, IsBadLine, IsTwice}
 use Rattle.records.specs.Reading.{contents_of}
 
 -- the digits of a text

@@ -1,6 +1,7 @@
 -- The records file as a whole, and its first fault (profile).
-use Rattle.std.specs.Prelude.{◌≡◌, ◌⊎◌, ℕ, ◌+◌, ◌==◌, List, [], ◌∷◌, ◌++◌, length, if◌then◌else◌}
-use Rattle.std.specs.List.{AllByRecursion, slice_split}
+use Rattle.std.specs.Prelude.{◌≡◌, ◌⊎◌, ℕ, ◌+◌, List, [], ◌∷◌, ◌++◌, length}
+use Rattle.std.specs.List.{AllByRecursion}
+use Rattle.texts.specs.Lines.{lines}
 use Rattle.records.specs.declared.version.Version.{Version}
 use Rattle.records.specs.Subscriber.{Subscriber}
 use Rattle.records.specs.Spelling.{IsHeader, IsRecordLine, Each}
@@ -9,19 +10,6 @@ use Rattle.records.specs.Spelling.{IsHeader, IsRecordLine, Each}
 pub record Contents : Type 0 where
   pub hlr : List ℕ
   pub records : List Subscriber
-
--- The parts of a text between separators; there is at least one, which may be empty.
-abbrev pub parts : ℕ → List ℕ → List (List ℕ)
-parts separator written = slice_split (λ octet. octet == separator) written
-
-abbrev pub without_empty_last : List (List ℕ) → List (List ℕ)
-without_empty_last [] = []
-without_empty_last (x ∷ []) = if length x == 0 then [] else x ∷ []
-without_empty_last (x ∷ y ∷ ys) = x ∷ without_empty_last (y ∷ ys)
-
--- The lines of a text: each is ended by a line feed, which the last may lack.
-unfoldable pub lines : List ℕ → List (List ℕ)
-lines written = without_empty_last (parts 10 written)
 
 -- Two records that must not be in one file.
 abbrev pub Share : Subscriber → Subscriber → Type 0

@@ -15,7 +15,8 @@ use Rattle.records.specs.declared.fault.RecordsFault.{RecordsFault}
 use Rattle.records.specs.declared.fault.RecordsFault.TheVariants.{BadLine, Twice, Memory}
 use Rattle.records.specs.Subscriber.{Subscriber}
 use Rattle.records.specs.Maps.{digits_cmp}
-use Rattle.records.specs.File.{Contents, parts}
+use Rattle.texts.specs.Lines.{parts}
+use Rattle.records.specs.File.{Contents}
 use Rattle.records.specs.Loaded.{Subscribers, loaded_from, imsi_entry, msisdn_entry}
 
 abbrev pub and_then : {A B E : Type 0} → (A → Result B E) → Result A E → Result B E
@@ -29,11 +30,6 @@ None >>= f = None
 
 abbrev pub is_text : List ℕ → List ℕ → Bool
 is_text a b = pointwise nat_eq a b
-
--- The parts left after a cut.
-abbrev pub parts_left : ℕ → Option (List ℕ) → List (List ℕ)
-parts_left separator None = []
-parts_left separator (Some rest) = parts separator rest
 
 -- The digits that the first part is, and the parts behind it, of which there is one.
 abbrev pub first_digits : List (List ℕ) → Option (List ℕ × List (List ℕ))

@@ -2,14 +2,14 @@
 
 ghost use Rattle.std.specs.Prelude.{◌≡◌, ◌==◌, ℕ, List, [], IfSome, Some};
 ghost use Rattle.std.specs.List.{list_any};
-ghost use Rattle.records.specs.File.{parts};
+ghost use Rattle.texts.specs.Lines.{parts};
 ghost use Rattle.records.specs.Spelling.{IsCodes};
 ghost use Rattle.records.specs.Subscriber.{AreAllowed};
 ghost use Rattle.records.specs.Reading.{octet_in, codes_in, codes_after};
 
-use crate::pieces::cut;
 use hex::FromHex;
 use hlr_types::ShortList;
+use texts::cut;
 
 /// How many codes a subscriber may have (profile).
 const MAX_CODES: usize = 32;

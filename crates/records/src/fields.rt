@@ -1,15 +1,16 @@
 //! The other fields of a line.
 
 ghost use Rattle.std.specs.Prelude.{◌≡◌, [], IfOk, option_map};
-ghost use Rattle.records.specs.File.{parts};
+ghost use Rattle.texts.specs.Lines.{parts};
 ghost use Rattle.records.specs.Roam.{prefixes_of};
 ghost use Rattle.records.specs.Reading.{lmsi_in, purged_in, withdrawn_in, register_of, register_after, register_in, roam_in, prefixes_after};
 
-use crate::pieces::{cut, cut_digits};
+use crate::cut_digits::cut_digits;
 use crate::roam::Roam;
 use hex::FromHex;
 use hlr_types::{Digits, IsdnAddress, Lmsi, Register};
 use std::alloc::{AllocError, Global};
+use texts::cut;
 
 /// How many roaming prefixes a subscriber may have (profile).
 const MAX_PREFIXES: usize = 8;

@@ -6,6 +6,7 @@
 
 mod code_list;
 mod codes;
+mod cut_digits;
 mod directory;
 mod directory_tree;
 mod examples;
@@ -15,7 +16,6 @@ mod line;
 mod load;
 mod loaded;
 mod numbers;
-mod pieces;
 mod push;
 mod record;
 mod records;
@@ -34,7 +34,6 @@ pub use examples::{law_read_files, law_worked_files};
 pub use fault::RecordsFault;
 pub use load::read_records;
 pub use loaded::Loaded;
-pub use pieces::{cut, first_line};
 pub use record::Record;
 pub use records::Records;
 pub use roam::Roam;

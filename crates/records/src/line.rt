@@ -2,17 +2,18 @@
 
 ghost use Rattle.std.specs.Prelude.{◌≡◌, ◌&&◌, is_some, IfOk};
 ghost use Rattle.hlr_types.specs.Digits.{AreSomeDigits};
-ghost use Rattle.records.specs.File.{parts};
+ghost use Rattle.texts.specs.Lines.{parts};
 ghost use Rattle.records.specs.Reading.{record_of, record_after, subscriber_from, version_in, header_in};
 
 use crate::codes::codes_field;
+use crate::cut_digits::cut_digits;
 use crate::fields::{register_field, roam_field, withdrawn_field};
 use crate::numbers::{are_octets, register_numbers};
-use crate::pieces::{cut, cut_digits};
 use crate::record::Record;
 use crate::version::Version;
 use hlr_types::{Digits, Imsi, IsdnAddress, Register};
 use std::alloc::{AllocError, Global};
+use texts::cut;
 
 /// The length of `HLR1 ` in octets.
 const MARK_LEN: usize = 5;

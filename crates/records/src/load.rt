@@ -1,7 +1,8 @@
 //! The reading of a records file.
 
 ghost use Rattle.std.specs.Prelude.{◌≡◌, ◌⊎◌, ℕ, ◌<◌, ◌≤◌, ◌+◌, ◌^◌, length, IfOk, IfSome, MatchResult, Ok};
-ghost use Rattle.records.specs.File.{lines, Contents, File, IsBadLine, IsTwice};
+ghost use Rattle.texts.specs.Lines.{lines};
+ghost use Rattle.records.specs.File.{Contents, File, IsBadLine, IsTwice};
 ghost use Rattle.records.specs.Loaded.{loaded_from};
 ghost use Rattle.records.specs.Spelling.{Each, IsRecordLine};
 ghost use Rattle.records.specs.Reading.{contents_of, below_header, Answers};
@@ -9,11 +10,11 @@ ghost use Rattle.records.specs.Reading.{contents_of, below_header, Answers};
 use crate::fault::RecordsFault;
 use crate::line::{read_header, read_record};
 use crate::loaded::{Loaded, Loading};
-use crate::pieces::first_line;
 use crate::record::Record;
 use crate::version::Version;
 use hlr_types::IsdnAddress;
 use std::alloc::{AllocError, Global};
+use texts::first_line;
 
 /// The fewest octets that the line of a record has, with its line feed.
 const LEAST_LINE: usize = 13;
@@ -57,7 +58,7 @@ pub fn read_records(alloc: Global, text: &[u8]) -> Result<Loaded, RecordsFault>
     load(alloc, text)
 }
 
-#[tactic(auto, using(crate::proofs::LinesLemmas::lines_nil), unfolding(crate::specs::Reading::contents_of))]
+#[tactic(auto, using(texts::proofs::LinesLemmas::lines_nil), unfolding(crate::specs::Reading::contents_of))]
 fn load(alloc: Global, text: &[u8]) -> Result<Loaded, RecordsFault>
     ensures { Answers result (contents_of (lines text.now)) }
 {

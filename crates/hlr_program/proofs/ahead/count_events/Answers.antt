@@ -1,6 +1,6 @@
 use Rattle.std.proofs.Common.{◌≡◌, [], ap, sym, ◌∙◌, rules, arith}
-use Rattle.records.specs.File.{lines}
-use Rattle.records.proofs.LinesLemmas.{lines_nil}
+use Rattle.texts.specs.Lines.{lines}
+use Rattle.texts.proofs.LinesLemmas.{lines_nil}
 use Rattle.hlr_program.specs.Batches.{batch_of}
 use Rattle.hlr_program.proofs.AheadLemmas.{counts_end, counts_go_on}
 use Rattle.hlr_program.proofs.CheckLaws.{batch_ends, batch_goes_on}

@@ -1,5 +1,5 @@
 use Rattle.std.proofs.Common.{ℕ, List, length}
-use Rattle.records.specs.File.{lines}
+use Rattle.texts.specs.Lines.{lines}
 use Rattle.hlr_program.specs.Batches.{batch_of}
 use Rattle.hlr_program.proofs.AheadLemmas.{Counts}
 use Rattle.hlr_program.proofs.ahead.count_events.Given as goal

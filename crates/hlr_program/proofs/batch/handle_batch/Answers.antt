@@ -1,6 +1,6 @@
 use Rattle.std.proofs.Common.{◌≡◌, ◌∙◌, [], List, ap, subst}
 use Rattle.frames.specs.Octets.{RawOut}
-use Rattle.records.specs.File.{lines}
+use Rattle.texts.specs.Lines.{lines}
 use Rattle.std.specs.Prelude.{option_map}
 use Rattle.hlr_input.specs.Octets.{ids_in}
 use Rattle.hlr_program.specs.declared.register.Register.{Register}

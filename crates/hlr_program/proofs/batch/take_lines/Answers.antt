@@ -1,6 +1,6 @@
 use Rattle.std.proofs.Common.{◌≡◌, [], length, ap, sym, ◌∙◌, rules, arith}
-use Rattle.records.specs.File.{lines}
-use Rattle.records.proofs.LinesLemmas.{lines_nil}
+use Rattle.texts.specs.Lines.{lines}
+use Rattle.texts.proofs.LinesLemmas.{lines_nil}
 use Rattle.std.specs.Prelude.{option_map}
 use Rattle.hlr_input.specs.Octets.{ids_in}
 use Rattle.hlr_program.specs.Batches.{batch_of, behind_batch}

@@ -1,5 +1,5 @@
 use Rattle.std.proofs.Common.{◌≡◌, ◌≤◌, ◌+◌, length}
-use Rattle.records.specs.File.{lines}
+use Rattle.texts.specs.Lines.{lines}
 use Rattle.std.specs.Prelude.{option_map}
 use Rattle.hlr_input.specs.Octets.{ids_in}
 use Rattle.hlr_program.specs.Batches.{batch_of, behind_batch}

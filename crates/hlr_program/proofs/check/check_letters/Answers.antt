@@ -1,6 +1,6 @@
 use Rattle.std.proofs.Common.{◌≡◌, ℕ, length, rules, subst}
 use Rattle.std.specs.Prelude.{option_map}
-use Rattle.records.specs.File.{lines}
+use Rattle.texts.specs.Lines.{lines}
 use Rattle.hlr_input.specs.Octets.{ids_in}
 use Rattle.hlr_program.specs.Batches.{HasIds, IsFirst, LacksId, batch_of}
 use Rattle.hlr_program.proofs.check.check_letters.Goals as goal

@@ -1,8 +1,8 @@
 use Rattle.std.proofs.Common.{◌≡◌, Bool, List, [], ℕ, ap, subst, sym, ◌∙◌, rules}
 use Rattle.std.specs.Prelude.{Some}
 use Rattle.std.specs.List.{AllByRecursion}
-use Rattle.records.specs.File.{lines}
-use Rattle.records.proofs.LinesLemmas.{lines_nil}
+use Rattle.texts.specs.Lines.{lines}
+use Rattle.texts.proofs.LinesLemmas.{lines_nil}
 use Rattle.hlr_program.specs.Batches.{HasIds, IsGood, IsBad}
 use Rattle.hlr_program.proofs.CheckLaws.{Completes, begins, ends, goes_on, lettered_goes_on}
 use Rattle.hlr_program.proofs.check.check_script.Goals as goal

@@ -1,5 +1,5 @@
 use Rattle.std.proofs.Common.{length}
-use Rattle.records.specs.File.{lines}
+use Rattle.texts.specs.Lines.{lines}
 use Rattle.hlr_program.specs.Batches.{IsGood, IsBad}
 use Rattle.hlr_program.proofs.CheckLaws.{Completes, Lettered}
 use Rattle.hlr_program.proofs.check.check_script.Given as goal

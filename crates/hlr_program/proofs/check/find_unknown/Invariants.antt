@@ -1,6 +1,6 @@
 use Rattle.std.proofs.Common.{length}
 use Rattle.std.specs.List.{AllByRecursion}
-use Rattle.records.specs.File.{lines}
+use Rattle.texts.specs.Lines.{lines}
 use Rattle.hlr_program.specs.Batches.{HasIds, IsGood, LacksId, batch_of}
 use Rattle.hlr_program.proofs.CheckLaws.{Completes}
 use Rattle.hlr_program.proofs.check.find_unknown.Given as goal

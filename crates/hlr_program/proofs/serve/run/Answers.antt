@@ -1,7 +1,7 @@
 use Rattle.std.proofs.Common.{◌≡◌, ◌++◌, ◌<◌, ℕ, List, length, refl, sym, ap, subst, ◌∙◌, rules}
 use Rattle.std.specs.Prelude.{option_map}
 use Rattle.std.specs.List.{AllByRecursion}
-use Rattle.records.specs.File.{lines}
+use Rattle.texts.specs.Lines.{lines}
 use Rattle.hlr_program.specs.Registers.{state_known}
 use Rattle.hlr_program.specs.declared.fault.Fault.TheVariants.{Memory}
 use Rattle.hlr_program.specs.Batches.{HasIds, IsGood, batch_of}

@@ -1,6 +1,6 @@
 use Rattle.std.proofs.Common.{◌≡◌, false, [], length}
 use Rattle.std.specs.List.{AllByRecursion}
-use Rattle.records.specs.File.{lines}
+use Rattle.texts.specs.Lines.{lines}
 use Rattle.hlr_program.specs.Batches.{HasIds}
 use Rattle.hlr_program.specs.Registers.{part_of}
 use Rattle.hlr_program.proofs.ScriptLemmas.{AtPlace}

@@ -1,9 +1,10 @@
 use Rattle.std.proofs.Common.{◌≡◌, [], length, sym, ap, ◌∙◌, true, false, rules}
 use Rattle.std.specs.Prelude.{Some, option_map, ◌==◌, nat_lt}
 use Rattle.std.specs.List.{list_any}
-use Rattle.records.specs.File.{parts}
-use Rattle.records.specs.Reading.{codes_after, octet_in, parts_left}
-use Rattle.records.proofs.PartsLemmas.{codes_after-repeated, codes_after-next}
+use Rattle.texts.specs.Lines.{parts}
+use Rattle.texts.specs.Lines.{parts_left}
+use Rattle.records.specs.Reading.{codes_after, octet_in}
+use Rattle.records.proofs.CodeLemmas.{codes_after-repeated, codes_after-next}
 use Rattle.records.proofs.codes.listed_codes.Goals as goal
 
 pub returns-then-is_among : goal.returns-then-is_among

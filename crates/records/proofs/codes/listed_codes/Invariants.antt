@@ -1,7 +1,8 @@
 use Rattle.std.proofs.Common.{◌≡◌, ◌+◌, length, [], unwrap_or}
 use Rattle.std.specs.Prelude.{option_map}
-use Rattle.records.specs.File.{parts}
-use Rattle.records.specs.Reading.{codes_after, parts_left}
+use Rattle.texts.specs.Lines.{parts}
+use Rattle.texts.specs.Lines.{parts_left}
+use Rattle.records.specs.Reading.{codes_after}
 use Rattle.records.proofs.codes.listed_codes.Given as goal
 
 abbrev pub invariant-loop-rest : goal.invariant-loop-rest

@@ -1,7 +1,8 @@
 use Rattle.std.proofs.Common.{◌≡◌, ◌+◌, length, [], unwrap_or}
 use Rattle.std.specs.Prelude.{option_map}
-use Rattle.records.specs.File.{parts}
-use Rattle.records.specs.Reading.{prefixes_after, parts_left}
+use Rattle.texts.specs.Lines.{parts}
+use Rattle.texts.specs.Lines.{parts_left}
+use Rattle.records.specs.Reading.{prefixes_after}
 use Rattle.records.proofs.fields.listed_prefixes.Given as goal
 
 abbrev pub invariant-loop-rest : goal.invariant-loop-rest

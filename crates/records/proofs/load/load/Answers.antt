@@ -1,9 +1,9 @@
 use Rattle.std.proofs.Common.{◌≡◌, [], ap, ◌∙◌, arith}
 use Rattle.std.proofs.lemmas.List.{nil_from_length}
 use Rattle.std.proofs.lemmas.Grind.{common_steps}
-use Rattle.records.specs.File.{lines}
+use Rattle.texts.specs.Lines.{lines}
 use Rattle.records.specs.Reading.{contents_of}
-use Rattle.records.proofs.LinesLemmas.{lines_nil}
+use Rattle.texts.proofs.LinesLemmas.{lines_nil}
 use Rattle.records.proofs.load.load.Goals as goal
 
 pub returns-then-text-eq0 : goal.returns-then-text-eq0

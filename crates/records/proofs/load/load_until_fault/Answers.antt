@@ -1,8 +1,8 @@
 use Rattle.std.proofs.Common.{◌≡◌, [], sym, ap, ◌∙◌, arith}
 use Rattle.std.proofs.lemmas.List.{nil_from_length}
 use Rattle.std.proofs.lemmas.Grind.{common_steps}
-use Rattle.records.specs.File.{lines}
-use Rattle.records.proofs.LinesLemmas.{lines_nil}
+use Rattle.texts.specs.Lines.{lines}
+use Rattle.texts.proofs.LinesLemmas.{lines_nil}
 use Rattle.records.proofs.LoadLemmas.{on_true, begins, line_is_bad, stands_twice, line_goes_on, lines_end}
 use Rattle.records.proofs.FreshLemmas.{read_unmarked}
 use Rattle.records.proofs.load.load_until_fault.Goals as goal

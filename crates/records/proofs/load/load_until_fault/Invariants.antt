@@ -1,5 +1,5 @@
 use Rattle.std.proofs.Common.{◌+◌, ◌≤◌, length}
-use Rattle.records.specs.File.{lines}
+use Rattle.texts.specs.Lines.{lines}
 use Rattle.records.proofs.LoadLemmas.{IsAtLine}
 use Rattle.records.proofs.load.load_until_fault.Given as goal
 

@@ -1,8 +1,8 @@
 use Rattle.std.proofs.Common.{◌≡◌, [], sym, ap, ◌∙◌, arith}
 use Rattle.std.proofs.lemmas.List.{nil_from_length}
 use Rattle.std.proofs.lemmas.Grind.{common_steps}
-use Rattle.records.specs.File.{lines}
-use Rattle.records.proofs.LinesLemmas.{lines_nil}
+use Rattle.texts.specs.Lines.{lines}
+use Rattle.texts.proofs.LinesLemmas.{lines_nil}
 use Rattle.records.proofs.FaultlessLemmas.{one_read, all_read}
 use Rattle.records.proofs.load.read_each.Goals as goal
 

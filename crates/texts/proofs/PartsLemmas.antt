@@ -1,13 +1,12 @@
 -- Where a text is cut.
-use Rattle.std.proofs.Common.{◌≡◌, ℕ, zero, suc, ◌+◌, ◌<◌, true, false, List, [], ◌∷◌, ◌++◌, length, get_or, take, drop, refl, sym, ap, ◌∙◌, arith, add-one}
-use Rattle.std.specs.Prelude.{◌==◌, nat_lt}
-use Rattle.std.specs.List.{onto_first, count_by, list_any}
+use Rattle.std.proofs.Common.{◌≡◌, ℕ, zero, suc, ◌+◌, ◌<◌, List, [], ◌∷◌, length, get_or, take, drop, refl, ap, ◌∙◌, arith, add-one}
+use Rattle.std.specs.Prelude.{◌==◌}
+use Rattle.std.specs.List.{onto_first, count_by}
 use Rattle.std.proofs.lemmas.Bool.{eq-eqb, eqb-true, ne_eqb}
 use Rattle.memchr.specs.Find.{IsFirstByte, is_byte}
 use Rattle.std.proofs.lemmas.List.Splits.{slice_split-cons_yes, slice_split-cons_no, length-slice_split}
-use Rattle.std.specs.Prelude.{None, Some, Option}
-use Rattle.records.specs.File.{parts}
-use Rattle.records.specs.Reading.{octet_in, codes_after}
+use Rattle.std.specs.Prelude.{None, Some}
+use Rattle.texts.specs.Lines.{parts}
 
 at_first : (at : ℕ) (text : List ℕ) (i : ℕ) → i < length text → ((k : ℕ) → k < i → get_or text k 0 ≡ at → ⊥) → get_or text i 0 ≡ at
     → parts at text ≡ take i text ∷ parts at (drop (suc i) text)
@@ -44,21 +43,3 @@ parts_cons at text =
       | [] ↦ λ e. absurd (omega arith)
       | x ∷ xs ↦ λ e. (x, xs, refl)
     ] long
-
--- a code that occurs twice
-pub codes_after-repeated : (found : List ℕ) (part : List ℕ) (more : List (List ℕ)) (code : ℕ) (total : Option (List ℕ)) → octet_in part ≡ Some code
-    → list_any (λ c. c == code) found ≡ true
-    → codes_after found (part ∷ more) ≡ total → None ≡ total
-unfolding codes_after
-codes_after-repeated found part more code total is has so_far =
-    let one : codes_after found (part ∷ more) ≡ None = rw (is, has) refl in
-    sym one ∙ so_far
-
--- a code that is new
-pub codes_after-next : (found : List ℕ) (part : List ℕ) (more : List (List ℕ)) (code : ℕ) (total : Option (List ℕ)) → octet_in part ≡ Some code
-    → list_any (λ c. c == code) found ≡ false → nat_lt (length found) 32 ≡ true
-    → codes_after found (part ∷ more) ≡ total → codes_after (found ++ code ∷ []) more ≡ total
-unfolding codes_after
-codes_after-next found part more code total is fresh room so_far =
-    let one : codes_after found (part ∷ more) ≡ codes_after (found ++ code ∷ []) more = rw (is, fresh, room) refl in
-    sym one ∙ so_far

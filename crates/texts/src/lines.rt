@@ -1,9 +1,9 @@
 //! The lines of a text.
 
 ghost use Rattle.std.specs.Prelude.{◌≡◌, ◌<◌, ◌+◌, ◌^◌, ◌∷◌, [], length, IsNone, IfSome, ◌↔◌};
-ghost use Rattle.records.specs.File.{lines};
+ghost use Rattle.texts.specs.Lines.{lines};
 
-use records::first_line;
+use crate::cutting::cut;
 
 /// A line, without its line feed, and its number, counted from 1.
 #[derive(Clone, Copy)]
@@ -34,7 +34,7 @@ impl<'a> Lines<'a> {
     }
 
     /// The next line, and those after it.
-    #[tactic(auto, using(records::proofs::LinesLemmas::lines_nil))]
+    #[tactic(auto, using(crate::proofs::LinesLemmas::lines_nil))]
     pub fn next(self) -> Option<(Numbered<'a>, Lines<'a>)>
         ensures end { IsNone result ↔ (self.entry.rest.now ≡ []) }
         ensures line { IfSome result (λ p. lines self.entry.rest.now
@@ -56,5 +56,18 @@ impl<'a> Lines<'a> {
             before: line.number,
         };
         Some((line, behind))
+    }
+}
+
+/// The first line, without its line feed, and what follows it.
+#[tactic(auto, using(crate::proofs::LinesLemmas::lines_more, crate::proofs::LinesLemmas::lines_last), unfolding(crate::specs::Lines::lines))]
+pub fn first_line(text: &[u8]) -> (&[u8], &[u8])
+    requires { 0 < length text.now }
+    ensures lines { lines text.now ≡ result.0.now ∷ lines result.1.now }
+    ensures shorter { length result.1.now < length text.now }
+{
+    match cut(text, b'\n') {
+        (line, Some(rest)) => (line, rest),
+        (line, None) => (line, &[]),
     }
 }

@@ -4,8 +4,8 @@ use Rattle.std.specs.Prelude.{◌==◌}
 use Rattle.std.specs.List.{join_with_byte}
 use Rattle.std.proofs.lemmas.Bool.{ne_eqb, cond-false}
 use Rattle.std.proofs.lemmas.List.Splits.{join_with_byte-slice_split}
-use Rattle.records.specs.File.{parts, lines}
-use Rattle.records.proofs.PartsLemmas.{parts_cons}
+use Rattle.texts.specs.Lines.{parts, lines}
+use Rattle.texts.proofs.PartsLemmas.{parts_cons}
 
 pub lines_nil : lines [] ≡ []
 unfolding lines

@@ -1,7 +1,7 @@
 use Rattle.std.proofs.Common.{◌+◌}
 use Rattle.std.proofs.lemmas.List.{take_rest}
-use Rattle.records.proofs.PartsLemmas.{parts_found, parts_missing}
-use Rattle.records.proofs.pieces.cut.Goals as goal
+use Rattle.texts.proofs.PartsLemmas.{parts_found, parts_missing}
+use Rattle.texts.proofs.cutting.cut.Goals as goal
 
 pub returns-in-Some-clause-parts : goal.returns-in-Some-clause-parts
 returns-in-Some-clause-parts c =

@@ -1,5 +1,5 @@
 use Rattle.records.proofs.DigitParts.{cut_is}
-use Rattle.records.proofs.pieces.cut_digits.Goals as goal
+use Rattle.records.proofs.cut_digits.cut_digits.Goals as goal
 
 pub returns-clause-parts : goal.returns-clause-parts
 returns-clause-parts c =
