@@ -18,7 +18,7 @@ use crate::listing::closing_lines;
 use crate::octet_digits::OctetDigits;
 use crate::printed::{print, tell};
 use crate::register::Register;
-use hlr_input::{InputFault, Lines, Options, read_all};
+use hlr_input::{InputFault, Options, read_all};
 use hlr_types::Tid;
 use records::{Loaded, read_records};
 use std::alloc::Global;
@@ -26,6 +26,7 @@ use std::io::{Read, Write};
 use std::mem;
 use std::sync::Wait;
 use std::thread::Threads;
+use texts::Lines;
 
 /// How many workers may share a register (profile).
 const MAX_WORKERS: u8 = 16;
