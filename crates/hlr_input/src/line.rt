@@ -26,7 +26,9 @@ use texts::cut;
 /// says nothing; anyone who looks at them finds that, since octets have none.
 #[tactic(auto, using(crate::proofs::LineLaws::line_found, crate::proofs::LineLaws::line_only))]
 pub fn read_line<'a>(line: &'a [u8]) -> Option<Item<'a>>
-    // The result is exactly what the line says.
+    // Exactly what is written, whatever the octets of a frame are.
+    ensures written { Reads (IsWritten line.now) result }
+    // Of a frame whose octets have no space, and of every other line, it is what the line says.
     ensures found { IfSome result (λ item. is_closed (line_of item) ≡ true
         → IsLine line.now (line_of item)) }
     ensures only { (said : Line) → IsLine line.now said

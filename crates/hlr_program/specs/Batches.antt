@@ -1,5 +1,6 @@
 -- The batches of a script, and what is checked before anything is handled (profile).
-use Rattle.std.specs.Prelude.{◌≡◌, ◌⊎◌, ℕ, ◌+◌, Bool, true, false, List, [], ◌∷◌, Option, Some, None, if◌then◌else◌, codes as text}
+use Rattle.std.specs.Prelude.{◌≡◌, ◌⊎◌, ℕ, ◌+◌, ◌<◌, Bool, true, false, List, [], ◌∷◌, length, Option, Some, None, if◌then◌else◌, codes as text}
+use Rattle.texts.specs.Lines.{lines}
 use Rattle.records.specs.Reading.{is_text}
 use Rattle.hlr_input.specs.declared.group.Group.{Group}
 use Rattle.hlr_input.specs.Octets.{IsOctets, are_known}
@@ -24,6 +25,12 @@ with_line line (batch ∷ more) = (line ∷ batch) ∷ more
 abbrev pub batches_of : List (List ℕ) → List (List (List ℕ))
 batches_of [] = []
 batches_of (line ∷ more) = if is_text line (text "W") then [] ∷ batches_of more else with_line line (batches_of more)
+
+-- What a batch leaves of a text: the lines after it, of fewer octets, and the number of lines before these, if there are any.
+pub record IsBehind (text : List ℕ) (before : ℕ) (left : List ℕ) (left_before : ℕ) : Type 0 where
+  pub lines_are : lines left ≡ behind_batch (lines text)
+  pub shorter : 0 < length text → length left < length text
+  pub number : 0 < length left → left_before ≡ before + length (batch_of (lines text)) + 1
 
 -- The line with this number, counted from 1, is the first bad one, if `before` lines precede these.
 abbrev pub IsFirst : (Good Bad : List ℕ → Type 0) → List (List ℕ) → ℕ → ℕ → Type 0

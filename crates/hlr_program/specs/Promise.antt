@@ -13,10 +13,12 @@ use Rattle.shardlog.specs.Log.{Log}
 use Rattle.wholenode.specs.Keeping.{NodeKeeps}
 use Rattle.wholenode.specs.Nodes.{node, whole}
 use Rattle.workers.specs.Shared.{HandsOut}
+use Rattle.hlr_program.specs.declared.check.Script.{Script}
 use Rattle.hlr_program.specs.declared.fault.Fault.{Fault}
 use Rattle.hlr_program.specs.declared.register.Register.{Register}
 use Rattle.hlr_program.specs.declared.fault.Fault.TheVariants.{CommandLine, UnreadableRecords, BadRecord, TwiceRecord, UnreadableScript, BadLine, NoRoom, Memory, Unaccounted, Output}
 use Rattle.hlr_program.specs.Batches.{IsGood, IsBad, IsFirst, batches_of}
+use Rattle.hlr_program.specs.Checked.{IsChecked}
 use Rattle.hlr_program.specs.Closing.{Closes}
 use Rattle.hlr_program.specs.Journals.{IsAtEnd}
 use Rattle.hlr_program.specs.Printed.{WritesFront}
@@ -182,6 +184,23 @@ StopsRunning options loaded script fault printed =
     ⊎ StopsBatches script (known_with options.workers (opening_of loaded)) fault printed
     ⊎ StopsAtListing script (known_with options.workers (opening_of loaded)) fault printed
     ⊎ BreaksOffListing options loaded script fault printed
+
+-- ---- a script that was checked, on what was loaded
+
+-- What is owed before: at most sixteen workers are asked for, each line has one of the forms, and what was loaded is sound.
+pub record MayRun (options : Options) (loaded : Subscribers) (script : Script) : Type 0 where
+  pub checked : IsChecked script
+  pub sound : Sound (opening_of loaded)
+  pub workers : options.workers ≤ 16
+
+-- It is run, and what it prints follows what was written before.
+abbrev pub HasRun : Options → Subscribers → (script : List ℕ) → (old new : Option (List ℕ)) → Type 0
+HasRun options loaded script old new = (printed : List ℕ) × RunsAndLists options loaded script printed × Appends old new printed
+
+-- It is not run to its end, and what was printed until then follows what was written before.
+abbrev pub HasStopped : Options → Subscribers → (script : List ℕ) → (old new : Option (List ℕ)) → Fault → Type 0
+HasStopped options loaded script old new fault =
+    (printed : List ℕ) × StopsRunning options loaded script fault printed × Appends old new printed
 
 -- ---- the program
 

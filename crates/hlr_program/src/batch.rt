@@ -1,6 +1,6 @@
 //! One batch of a script.
 
-ghost use Rattle.std.specs.Prelude.{◌≡◌, ◌<◌, ◌∷◌, ◌+◌, [], ℕ, List, length, Some, IsNone, option_map, IfOk, IfErr, OnOk};
+ghost use Rattle.std.specs.Prelude.{◌≡◌, ◌∷◌, [], ℕ, List, length, Some, IsNone, option_map, IfOk, IfErr, OnOk};
 ghost use Rattle.std.specs.List.{AllByRecursion};
 ghost use Rattle.frames.specs.Octets.{RawEvent as Event, RawFrame, RawOut};
 ghost use Rattle.texts.specs.Lines.{lines};
@@ -9,7 +9,7 @@ ghost use Rattle.hlr_input.specs.declared.group.Group.{Group};
 ghost use Rattle.hlr_input.specs.Octets.{IsOctets, ids_in, octets_of};
 ghost use Rattle.hlr_input.specs.Script.{Frame, line_of};
 ghost use Rattle.hlr_program.specs.Answered.{so_far};
-ghost use Rattle.hlr_program.specs.Batches.{IsGood, HasIds, batch_of, behind_batch};
+ghost use Rattle.hlr_program.specs.Batches.{IsGood, HasIds, IsBehind, batch_of};
 ghost use Rattle.hlr_program.specs.Gathering.{AddsSaid, AddsLine, AddsLines, SaidStops, LineStops, LinesStop, Handles, progress};
 ghost use Rattle.hlr_program.specs.Printed.{Prints};
 ghost use Rattle.hlr_program.specs.Registers.{part_of, state_known};
@@ -50,12 +50,8 @@ pub fn handle_batch<'a, R: Threads + Wait + Sync>(
         (batch_of (lines from.entry.rest.now)) sent register.new
         × Prints (so_far answers.old) sent (so_far answers.new)) }
     ensures none { OnOk result (part_of register.new ≡ []) }
-    ensures behind { IfOk result (λ left. lines left.rest.now
-        ≡ behind_batch (lines from.entry.rest.now)) }
-    ensures shorter { 0 < length from.entry.rest.now
-        → IfOk result (λ left. length left.rest.now < length from.entry.rest.now) }
-    ensures number { IfOk result (λ left. 0 < length left.rest.now
-        → left.before ≡ from.entry.before + length (batch_of (lines from.entry.rest.now)) + 1) }
+    ensures behind { IfOk result (λ left.
+        IsBehind from.entry.rest.now from.entry.before left.rest.now left.before) }
     ensures stops { IfErr result (BatchStops (ids_in (option_map (λ i. i.now) ids.entry))
         from.entry.before (state_known register.old) (batch_of (lines from.entry.rest.now))) }
 {
@@ -90,12 +86,8 @@ fn take_lines<'a, R: Threads + Wait + Sync>(
     ensures adds { OnOk result (AddsLines (ids_in (option_map (λ i. i.now) ids.entry))
         (progress register.old answers.old) (batch_of (lines from.entry.rest.now))
         (progress register.new answers.new)) }
-    ensures behind { IfOk result (λ left. lines left.rest.now
-        ≡ behind_batch (lines from.entry.rest.now)) }
-    ensures shorter { 0 < length from.entry.rest.now
-        → IfOk result (λ left. length left.rest.now < length from.entry.rest.now) }
-    ensures number { IfOk result (λ left. 0 < length left.rest.now
-        → left.before ≡ from.entry.before + length (batch_of (lines from.entry.rest.now)) + 1) }
+    ensures behind { IfOk result (λ left.
+        IsBehind from.entry.rest.now from.entry.before left.rest.now left.before) }
     ensures stops { IfErr result (LinesStop (ids_in (option_map (λ i. i.now) ids.entry))
         (progress register.old answers.old) (batch_of (lines from.entry.rest.now))) }
 {

@@ -8,7 +8,7 @@ ghost use Rattle.hlr_program.specs.Batches.{ArePassed};
 ghost use Rattle.hlr_program.specs.Checked.{IsChecked};
 ghost use Rattle.hlr_program.specs.Registers.{part_of, state_known};
 ghost use Rattle.hlr_program.specs.Runs.{BatchRun, IsLoadedFrom, opening_of, printed_of};
-ghost use Rattle.hlr_program.specs.Promise.{Ends, RunsAndLists, RunsScript, StopsRecords, StopsScript, StopsRunning, StopsBatches, Tells, status_at};
+ghost use Rattle.hlr_program.specs.Promise.{Ends, HasRun, HasStopped, MayRun, RunsScript, StopsRecords, StopsScript, StopsBatches, Tells, status_at};
 
 use crate::answers::Answers;
 use crate::batch::handle_batch;
@@ -138,15 +138,11 @@ fn run_loaded<R: Threads + Wait + Sync, W: Write>(
     script: &Script,
     out: &mut W,
 ) -> Result<(), Fault>
-    requires checked { IsChecked script.now }
-    requires sound { Sound (opening_of loaded) }
-    requires workers { options.now.workers ≤ 16 }
-    ensures ran { OnOk result ((printed : List ℕ)
-        × RunsAndLists options.now loaded script.now.text.items printed
-        × Appends (W.contents out.old) (W.contents out.new) printed) }
-    ensures stops { IfErr result (λ fault.
-        (printed : List ℕ) × StopsRunning options.now loaded script.now.text.items fault printed
-        × Appends (W.contents out.old) (W.contents out.new) printed) }
+    requires { MayRun options.now loaded script.now }
+    ensures ran { OnOk result (HasRun options.now loaded script.now.text.items
+        (W.contents out.old) (W.contents out.new)) }
+    ensures stops { IfErr result (HasStopped options.now loaded script.now.text.items
+        (W.contents out.old) (W.contents out.new)) }
 {
     let ran = run_and_list(rt, alloc, options, loaded, script, out);
     // Nothing is written after a failed write: the buffer would be written a second time.
@@ -174,15 +170,11 @@ fn run_and_list<R: Threads + Wait + Sync, W: Write>(
     script: &Script,
     out: &mut W,
 ) -> Result<(), Fault>
-    requires checked { IsChecked script.now }
-    requires sound { Sound (opening_of loaded) }
-    requires workers { options.now.workers ≤ 16 }
-    ensures ran { OnOk result ((printed : List ℕ)
-        × RunsAndLists options.now loaded script.now.text.items printed
-        × Appends (W.contents out.old) (W.contents out.new) printed) }
-    ensures stops { IfErr result (λ fault.
-        (printed : List ℕ) × StopsRunning options.now loaded script.now.text.items fault printed
-        × Appends (W.contents out.old) (W.contents out.new) printed) }
+    requires { MayRun options.now loaded script.now }
+    ensures ran { OnOk result (HasRun options.now loaded script.now.text.items
+        (W.contents out.old) (W.contents out.new)) }
+    ensures stops { IfErr result (HasStopped options.now loaded script.now.text.items
+        (W.contents out.old) (W.contents out.new)) }
 {
     let digits = OctetDigits::new(alloc)?;
     let mut register = Register::new(alloc, loaded, options.workers, options.list)?;

@@ -50,4 +50,8 @@ pub returns-clause-behind : goal.returns-clause-behind
 returns-clause-behind g c =
     let none : c.lines.left.rest.now ≡ [] = search rules in
     let empty : lines c.lines.left.rest.now ≡ [] = ap lines none ∙ lines_nil in
-    empty ∙ sym (ap behind_batch empty) ∙ c.lines.invariant.behind
+    record {
+      lines_are = empty ∙ sym (ap behind_batch empty) ∙ c.lines.invariant.behind;
+      shorter = λ some. omega (arith, ap length none, some);
+      number = λ some. absurd (omega (ap length none, some));
+    }

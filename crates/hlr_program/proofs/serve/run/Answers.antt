@@ -80,7 +80,7 @@ returns-in_err-print-clause-stops g c =
     sent.0 c.handle_batch.new.register) ids
     (passed_handles c.args.script.now.lettered (option_map (λ i. i.now) c.ids_for-letters.result) c.deref-in-batches.result.now c.batches.register
     c.handle_batch.new.register (batch_of (lines c.batches.left.rest.now)) sent.0 c.ids_for-letters.ensures sent.1))
-    c.in_ok-left.ensures.behind c.in_ok-left.ensures.number sent.2.ids written c.in_err-print.ensures.failed c.in_err-print.ensures.front)
+    c.in_ok-left.ensures.behind.lines_are c.in_ok-left.ensures.behind.number sent.2.ids written c.in_err-print.ensures.failed c.in_err-print.ensures.front)
 
 pub batches-preserved : goal.batches-preserved
 batches-preserved g c =
@@ -99,8 +99,8 @@ batches-preserved g c =
           sent.0 c.handle_batch.new.register) ids
           (passed_handles c.args.script.now.lettered (option_map (λ i. i.now) c.ids_for-letters.result) c.deref-in-batches.result.now c.batches.register
           c.handle_batch.new.register (batch_of (lines c.batches.left.rest.now)) sent.0 c.ids_for-letters.ensures sent.1))
-          c.in_ok-left.ensures.behind c.in_ok-left.ensures.number sent.2.ids written c.in_ok-print.ensures.printed;
-      plain = λ none. subst (AllByRecursion (HasIds 0)) (sym c.in_ok-left.ensures.behind)
+          c.in_ok-left.ensures.behind.lines_are c.in_ok-left.ensures.behind.number sent.2.ids written c.in_ok-print.ensures.printed;
+      plain = λ none. subst (AllByRecursion (HasIds 0)) (sym c.in_ok-left.ensures.behind.lines_are)
           (all_behind (HasIds 0) (lines c.batches.left.rest.now) (c.batches.invariant.plain none));
       none = c.in_ok-left.ensures.none;
       blank = c.clear-in-batches.ensures.items;
