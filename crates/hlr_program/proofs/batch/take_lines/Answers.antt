@@ -53,5 +53,5 @@ returns-clause-behind g c =
     record {
       lines_are = empty ∙ sym (ap behind_batch empty) ∙ c.lines.invariant.behind;
       shorter = λ some. omega (arith, ap length none, some);
-      number = λ some. absurd (omega (ap length none, some));
+      number = λ some. absurd (omega (arith, ap length none, some));
     }
