@@ -85,6 +85,7 @@ impl Model for Transactions {
 impl Transactions {
     ghost use Rattle.tidalloc.specs.LiveIds.{next_use};
     ghost use Rattle.tsl.specs.Transactions.{MayBegin, Begins, IsActive, IsInitiated, HaveIdsOfShard, transaction_of, known_as, initiated, active, at, count, none_open, with_transaction, closed, slot_if_open, HaveOwnSlots};
+    ghost use Rattle.tsl.specs.Opening.{Opens};
     ghost use Rattle.tsl.specs.Received.{received, after, told_continue, told_close, activated};
 
     /// How many transactions can be open at once.
@@ -106,13 +107,7 @@ impl Transactions {
     /// Opens a transaction for an own Begin (TR-BEGIN), in Initiation Sent. `NoRoom` if 4,096 are open, `Memory` if an
     /// allocation fails; on error nothing changes.
     pub fn begin(&mut self, to: Peer) -> Result<Tid, TslFault>
-        ensures begun { IfOk result (λ id. Begins self.old id (initiated to) self.new) }
-        ensures table { IfOk result (λ id. transact (at self.old id) (OwnBegin to)
-            ≡ row (at self.new id) IsSent) }
-        ensures no_room { result ≡ Err TslFault.NoRoom ↔ (count self.old ≡ 4096) }
-        ensures had_room { 0 < self.old.room → IsOk result }
-        ensures room { OnOk result (self.old.room ≤ self.new.room + 1) }
-        ensures err { OnErr result (self.new ≡ self.old) }
+        ensures { Opens self.old (OwnBegin to) (initiated to) result self.new }
     {
         self.reserve()?;
         Ok(self.begin_reserved(to))
@@ -120,13 +115,7 @@ impl Transactions {
 
     /// Opens an Active transaction for a received Begin that is answered with a Continue (TR-CONTINUE). Fails as `begin` does.
     pub fn continue_(&mut self, from: Peer, origin: RemoteId) -> Result<Tid, TslFault>
-        ensures begun { IfOk result (λ id. Begins self.old id (active from origin) self.new) }
-        ensures table { IfOk result (λ id. transact (at self.old id) (Answered from origin)
-            ≡ row (at self.new id) IsSent) }
-        ensures no_room { result ≡ Err TslFault.NoRoom ↔ (count self.old ≡ 4096) }
-        ensures had_room { 0 < self.old.room → IsOk result }
-        ensures room { OnOk result (self.old.room ≤ self.new.room + 1) }
-        ensures err { OnErr result (self.new ≡ self.old) }
+        ensures { Opens self.old (Answered from origin) (active from origin) result self.new }
     {
         self.reserve()?;
         Ok(self.continue_reserved(from, origin))
