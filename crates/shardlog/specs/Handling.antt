@@ -1,11 +1,14 @@
 -- How handling an event changes a shard.
-use Rattle.std.specs.Prelude.{◌≡◌, ℕ, List, [], ◌∷◌, ◌++◌, length, Some}
+use Rattle.std.specs.Prelude.{◌≡◌, ◌≢◌, ◌↔◌, ℕ, List, [], ◌∷◌, ◌++◌, length, Some, Result, Err, OnOk}
+use Rattle.machine.specs.declared.numbers.TheConstants.{MAX_ENTRIES}
 use Rattle.machine.specs.Events.{Event}
 use Rattle.machine.specs.Holders.{IsNamed}
 use Rattle.machine.specs.State.{Dialogue, State}
 use Rattle.frames.specs.Octets.{RawEvent, RawEntry, IsEvent, StepOctets}
 use Rattle.hlrcore.specs.Shards.{IsSameShard, ShardState, state_of}
 use Rattle.shardlog.specs.declared.entry.Handled.{Handled}
+use Rattle.shardlog.specs.declared.fault.ShardFault.{ShardFault}
+use Rattle.shardlog.specs.declared.fault.ShardFault.TheVariants.{JournalFull, NoRoom, NotMine}
 use Rattle.shardlog.specs.declared.keep.Keep.{Keep}
 use Rattle.shardlog.specs.declared.keep.Keep.TheVariants.{Entries, Nothing}
 use Rattle.shardlog.specs.Log.{Log, fresh, log}
@@ -32,3 +35,11 @@ pub record Handles (old : Log) (raw : RawEvent) (handled : Handled) (new : Log) 
   pub position : handled.position ≡ length old.entries
   pub step : StepOctets (state_of old.state) entry (state_of new.state)
   pub unnamed : LeavesUnnamed (state_of old.state) raw (state_of new.state)
+
+-- Why an event of a shard that needs no reading is refused, memory apart: exactly if the shard is another, and exactly if the journal is
+-- full, which comes first. No dialogue has to open.
+pub record RefusesOwn (old : Log) (shard : ℕ) (result : Result Handled ShardFault) : Type 0 where
+  pub not_mine : (result ≡ Err NotMine) ↔ (shard ≢ old.state.shard)
+  pub full : (result ≡ Err JournalFull) ↔ ((shard ≡ old.state.shard) × (old.keep ≡ Entries) × (length old.entries ≡ MAX_ENTRIES))
+  pub room : length old.entries ≡ MAX_ENTRIES → OnOk result ⊥
+  pub has_room : result ≢ Err NoRoom

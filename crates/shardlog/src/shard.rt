@@ -12,7 +12,7 @@ ghost use Rattle.hlrcore.specs.Addressees.{IsAddressee};
 ghost use Rattle.hlrcore.specs.Events.{event_of, raw_event, raw_of};
 ghost use Rattle.hlrcore.specs.Spent.{spent};
 ghost use Rattle.shardlog.specs.Entries.{raw_entries};
-ghost use Rattle.shardlog.specs.Handling.{Handles};
+ghost use Rattle.shardlog.specs.Handling.{Handles, RefusesOwn};
 ghost use Rattle.shardlog.specs.Log.{LogKeeps, base_of, fresh, log};
 ghost use Rattle.shardlog.specs.Chains.{LeadTo, raw_epoch};
 
@@ -124,11 +124,7 @@ impl Shard {
             (RawExpire shard) handled self.new) }
         // The invariant of every journal.
         ensures keeps { LogKeeps self.new }
-        ensures not_mine { (result ≡ Err ShardFault.NotMine) ↔ (shard ≢ self.old.state.shard) }
-        ensures full { (result ≡ Err ShardFault.JournalFull) ↔ ((shard ≡ self.old.state.shard)
-            × (self.old.keep ≡ Keep.Entries) × (length self.old.entries ≡ MAX_ENTRIES)) }
-        ensures room { length self.old.entries ≡ MAX_ENTRIES → OnOk result ⊥ }
-        ensures has_room { result ≢ Err ShardFault.NoRoom }
+        ensures refused { RefusesOwn self.old shard result }
         ensures err { OnErr result (self.new ≡ self.old) }
     {
         self.own(shard.number())?;
@@ -149,11 +145,7 @@ impl Shard {
             (RawClock shard now) handled self.new) }
         // The invariant of every journal.
         ensures keeps { LogKeeps self.new }
-        ensures not_mine { (result ≡ Err ShardFault.NotMine) ↔ (shard ≢ self.old.state.shard) }
-        ensures full { (result ≡ Err ShardFault.JournalFull) ↔ ((shard ≡ self.old.state.shard)
-            × (self.old.keep ≡ Keep.Entries) × (length self.old.entries ≡ MAX_ENTRIES)) }
-        ensures room { length self.old.entries ≡ MAX_ENTRIES → OnOk result ⊥ }
-        ensures has_room { result ≢ Err ShardFault.NoRoom }
+        ensures refused { RefusesOwn self.old shard result }
         ensures enough { result ≡ Err ShardFault.Memory → self.old.keep ≡ Keep.Entries }
         ensures err { OnErr result (self.new ≡ self.old) }
     {

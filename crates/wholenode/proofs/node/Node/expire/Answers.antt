@@ -15,7 +15,7 @@ refusal-requires c =
     c.index_mut-shard.result.now c.expire.result
     (named (arc_value c.self.inside.directory) c.self.inside.shards.items c.args.number c.from-place.result c.index_mut-shard.result.now
     c.self.invariant place small c.index_mut-shard.ensures.value)
-    c.in-Err.why c.in-Err.is c.expire.ensures.not_mine.0
+    c.in-Err.why c.in-Err.is c.expire.ensures.refused.not_mine.0
 
 shard_is : (c : goal.Joined-expire)
     → IsNamed (arc_value c.self.inside.directory) c.self.inside.shards.items c.args.number c.from-place.result c.index_mut-shard.result.now
@@ -47,7 +47,7 @@ returns-clause-refused c = elim c.match-expire.branch [
       (named_refuses (arc_value c.self.inside.directory) c.self.inside.shards.items c.args.number c.from-place.result
       c.index_mut-shard.result.now c.expire.result (shard_is c) c.args.self.now (RawExpire c.args.number) (Expire c.args.number) w.in-Err.why
       w.refusal.result c.self.view_is refl refl w.in-Err.is w.refusal.ensures
-      (λ full. let all = c.expire.ensures.full.0 full in (all.1, all.2)) c.expire.ensures.has_room)
+      (λ full. let all = c.expire.ensures.refused.full.0 full in (all.1, all.2)) c.expire.ensures.refused.has_room)
 ]
 
 pub returns-clause-keeps : goal.returns-clause-keeps

@@ -15,7 +15,7 @@ refusal-requires c =
     c.index_mut-shard.result.now c.tick.result
     (named (arc_value c.self.inside.directory) c.self.inside.shards.items c.args.number c.from-place.result c.index_mut-shard.result.now
     c.self.invariant place small c.index_mut-shard.ensures.value)
-    c.in-Err.why c.in-Err.is c.tick.ensures.not_mine.0
+    c.in-Err.why c.in-Err.is c.tick.ensures.refused.not_mine.0
 
 shard_is : (c : goal.Joined-tick)
     → IsNamed (arc_value c.self.inside.directory) c.self.inside.shards.items c.args.number c.from-place.result c.index_mut-shard.result.now
@@ -47,7 +47,7 @@ returns-clause-refused c = elim c.match-tick.branch [
       (named_refuses (arc_value c.self.inside.directory) c.self.inside.shards.items c.args.number c.from-place.result
       c.index_mut-shard.result.now c.tick.result (shard_is c) c.args.self.now (RawClock c.args.number c.args.now) (Clock c.args.number c.args.now) w.in-Err.why
       w.refusal.result c.self.view_is (refl, refl) refl w.in-Err.is w.refusal.ensures
-      (λ full. let all = c.tick.ensures.full.0 full in (all.1, all.2)) c.tick.ensures.has_room)
+      (λ full. let all = c.tick.ensures.refused.full.0 full in (all.1, all.2)) c.tick.ensures.refused.has_room)
 ]
 
 pub returns-clause-keeps : goal.returns-clause-keeps
