@@ -8,3 +8,4 @@ pub mod Replacing
 pub mod Invoking
 pub mod Expiry
 pub mod Parameters
+pub mod First

@@ -3,3 +3,4 @@ pub mod Endings
 pub mod Effects
 pub mod Tables
 pub mod Expiring
+pub mod First

@@ -6,10 +6,12 @@ ghost use Rattle.std.specs.FinMap as finite;
 ghost use Rattle.machine.specs.Effect.{AreRising, effect};
 ghost use Rattle.machine.specs.Expiries.{without};
 ghost use Rattle.machine.specs.Outcome.{invoked};
+ghost use Rattle.machine.specs.Deadlines.{IsFirst};
 ghost use Rattle.machine.specs.Turns.{invocation_of};
 ghost use Rattle.csl.specs.Seen.{heard, told_of, was};
 ghost use Rattle.csl.specs.Effects.{IsEffect, offered};
 ghost use Rattle.csl.specs.Expiring.{Expires, IsNext, NoneDue};
+ghost use Rattle.csl.specs.First.{IsTimerOf};
 ghost use Rattle.csl.specs.Tables.{first_invoked, invocations_at, put_list, with_one};
 
 use crate::effect::receive_each;
@@ -174,6 +176,14 @@ impl Invocations {
             invoke,
             was: list[place].was(),
         })
+    }
+
+    /// The first deadline of an invocation, whether it is due or not.
+    pub fn first_deadline(&self) -> Option<u64>
+        ensures { IsFirst (IsTimerOf self.now) result }
+    {
+        self.lists.law_rising();
+        self.timers.first_deadline()
     }
 
     /// Handles the least timer that is due (Q.774): its invocation, and no other, becomes Idle. Does not allocate.

@@ -1,6 +1,6 @@
 //! The invocations of each dialogue.
 
-ghost use Rattle.std.specs.Prelude.{◌≡◌, OnOk, OnErr, IfSome, IfNone, IfOk, IfErr, []};
+ghost use Rattle.std.specs.Prelude.{◌≡◌, ℕ, List, OnOk, OnErr, IfSome, IfNone, IfOk, IfErr, []};
 ghost use Rattle.std.specs.FinMap as finite;
 ghost use Rattle.machine.specs.Effect.{AreRising};
 ghost use Rattle.machine.specs.Expiries.{without};
@@ -53,6 +53,13 @@ impl Lists {
             Some(list) => list.as_slice(),
             None => &[],
         }
+    }
+
+    /// Law: the invocations of each dialogue ascend, which is the invariant.
+    pub(crate) fn law_rising(&self)
+        ensures { (id : List ℕ) → AreRising (invocations_at self.now id) }
+    {
+        let _lists = &self.by_dialogue;
     }
 
     /// Makes these the invocations of a dialogue, and returns those that it had. If it had some, this does not allocate. A

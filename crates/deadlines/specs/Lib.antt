@@ -1,2 +1,3 @@
 pub mod Timers
 pub mod Index
+pub mod First

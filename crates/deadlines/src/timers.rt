@@ -2,6 +2,7 @@
 
 ghost use Rattle.std.specs.Prelude.{◌≡◌, OnOk, OnErr, IfOk, IfSome, IfNone, not};
 ghost use Rattle.std.specs.FinSet as set;
+ghost use Rattle.deadlines.specs.First.{IsFirst};
 ghost use Rattle.deadlines.specs.Timers.{IsIn, IsLeastOf, NoneDueOf};
 
 use crate::timer::Timer;
@@ -66,6 +67,16 @@ impl Timers {
         } else {
             None
         }
+    }
+
+    /// The first deadline: the least of the timers, whether it is due or not.
+    pub fn first_deadline(&self) -> Option<u64>
+        ensures { IsFirst (IsIn self.now) result }
+    {
+        let Some(first) = self.by_deadline.first() else {
+            return None;
+        };
+        Some(first.deadline)
     }
 
     /// An equal copy.

@@ -17,18 +17,18 @@ use Rattle.dialogues.proofs.NewIdLemmas.{machine_id}
 
 module _ (t : OpenTransactions) (lists : InvocationLists) (talks : List Talk) (tied : AreTied t lists talks) where
   -- if there is an invocation, a transaction is open
-  standing_open : (i : List ℕ) (j : ℤ) (v : Invocation) → invocation_of j (invocations_at lists i) ≡ Some v → at t i ≢ None
+  pub standing_open : (i : List ℕ) (j : ℤ) (v : Invocation) → invocation_of j (invocations_at lists i) ≡ Some v → at t i ≢ None
   standing_open i j v stands none =
       let gone : None ≡ Some v = sym (ap (invocation_of j) (tied.only_open i none)) ∙ stands in cc
 
-  some_open : (i : List ℕ) → at t i ≢ None → (s : Transaction) × (at t i ≡ Some s)
+  pub some_open : (i : List ℕ) → at t i ≢ None → (s : Transaction) × (at t i ≡ Some s)
   some_open i some = by (at t i) refl
     where
       by : (o : Option Transaction) → at t i ≡ o → (s : Transaction) × (at t i ≡ Some s)
       by None e = absurd (some e)
       by (Some s) e = (s, e)
 
-  open_as : (i : List ℕ) (s : Transaction) → at t i ≡ Some s → dialogues_of (joined t lists talks) i ≡ Some (dialogue_at lists talks i s)
+  pub open_as : (i : List ℕ) (s : Transaction) → at t i ≡ Some s → dialogues_of (joined t lists talks) i ≡ Some (dialogue_at lists talks i s)
   open_as i s there = dialogues-joined t lists talks i ∙ ap (option_map (dialogue_at lists talks i)) there
 
   module _ (S : State) (now : ℕ) (has : HasDialogues S (joined t lists talks) now) where

@@ -6,3 +6,4 @@ pub mod NewIdLemmas
 pub mod FullLemmas
 pub mod LookLemmas
 pub mod DueLemmas
+pub mod FirstLemmas

@@ -3,6 +3,7 @@
 ghost use Rattle.std.specs.Prelude.{◌≡◌, ◌≢◌, ◌<◌, ◌≤◌, ◌^◌, ◌-◌, ◌↔◌, ℕ, List, Some, None, IfOk, IfSome, IsNone, IsTrue, OnOk, OnErr, FitsSigned, map, option_map};
 ghost use Rattle.std.specs.Int.{w8};
 ghost use Rattle.std.specs.FinMap as finite;
+ghost use Rattle.machine.specs.Deadlines.{IsFirst, IsTimer};
 ghost use Rattle.machine.specs.Effect.{effect};
 ghost use Rattle.machine.specs.Keys.{put};
 ghost use Rattle.machine.specs.State.{State, IsFull, IsIdOf};
@@ -115,6 +116,14 @@ impl Dialogues {
         ensures fits { IfSome result (λ due. FitsSigned w8 due.invoke) }
     {
         self.invocations.least_due(now)
+    }
+
+    /// The first deadline of an invocation, whether it is due or not.
+    pub fn first_deadline(&self) -> Option<u64>
+        ensures { (S : State) → S.dialogues ≡ dialogues_of self.now
+            → IsFirst (IsTimer S self.now.shard) result }
+    {
+        self.invocations.first_deadline()
     }
 
     /// The id for the next dialogue that opens. `None` exactly if the shard is full.

@@ -16,6 +16,7 @@ pub mod Expiries
 pub mod Changes
 pub mod Routing
 pub mod Turns
+pub mod Deadlines
 pub mod Step
 pub mod Run
 pub mod Tables

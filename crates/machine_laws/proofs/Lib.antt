@@ -26,6 +26,7 @@ pub mod Bounding
 pub mod Within
 pub mod Starting
 pub mod Timing
+pub mod Deadlines
 pub mod Progress
 pub mod FullShard
 pub mod Opened
