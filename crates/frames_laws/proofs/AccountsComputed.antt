@@ -1,5 +1,5 @@
 -- The worked examples of accounts.
-use Rattle.std.proofs.Common.{◌≡◌, ℕ, zero, suc, ◌<◌, eqb, eq-eqb, false, List, [], ◌∷◌, filter, refl, sym, ap, ◌∙◌, subst, arith, Some, None}
+use Rattle.std.proofs.Common.{◌≡◌, ℕ, zero, suc, ◌<◌, ◌≤◌, ⊎_elim, eqb, eq-eqb, false, List, [], ◌∷◌, filter, refl, sym, ap, ◌∙◌, subst, arith, Some, None}
 use Rattle.std.specs.Prelude.{◌==◌}
 use Rattle.std.proofs.lemmas.Bool.{both_ways, ltb-true}
 use Rattle.std.proofs.lemmas.List.Elements.{All-nil, All-cons, All-head, Contains-push, Contains-append_left}
@@ -105,4 +105,10 @@ accounts = record {
       let b = first_too (ltb-true 1 2 refl) in
       let none : [] ≡ b.receipt ∷ [] = b.one_receipt in absurd (cc none);
   entry_left_over = λ a. a.none_stray 0 1 (record { entry = clock_entry 7; stands = refl; unnamed = refl });
+  number_0 = λ u. ⊎_elim
+      (λ fault. let low : 1 ≤ 0 = fault.0 in absurd (omega (arith, low)))
+      (λ stray.
+      let b : Account journals (clock_job 0 5 ∷ []) [] 0 = All-head (Account journals (clock_job 0 5 ∷ []) []) 0 [] stray.1 in
+      let none : [] ≡ b.receipt ∷ [] = b.one_receipt in absurd (cc none))
+      u;
 }

@@ -19,3 +19,4 @@ pub mod Totals
 pub mod MergedJobs
 pub mod IdentitiesComputed
 pub mod TagsComputed
+pub mod TreesComputed

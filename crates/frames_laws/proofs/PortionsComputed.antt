@@ -1,5 +1,5 @@
 -- The worked examples of portions, computed in the same way.
-use Rattle.std.proofs.Common.{◌≡◌, refl}
+use Rattle.std.proofs.Common.{◌≡◌, [], ◌∷◌, refl}
 use Rattle.x690.specs.Identifier.{identifier, number_octets}
 use Rattle.x690.specs.Length.{length_octets}
 use Rattle.frames.specs.Components.{coded, invoke, outcome, error, reject, component_of}
@@ -78,4 +78,5 @@ events_from_outside = record {
   expiry = refl;
   change = (refl, refl);
   another_event = λ none. none;
+  another_source = λ e. let other : [] ≡ 1 ∷ [] = e.0 in absurd (cc other);
 }

@@ -1,7 +1,7 @@
 -- Worked examples of accounts: two jobs of shard 0, two entries, and what receipts make of them.
 use Rattle.std.specs.Prelude.{ℕ, List, [], ◌∷◌, Some, None}
 use Rattle.frames.specs.Octets.{RawClock, RawOut, RawEntry}
-use Rattle.frames.specs.Account.{Job, Receipt, Account, Reconciles, IsLeastFault}
+use Rattle.frames.specs.Account.{Job, Receipt, Account, Reconciles, IsLeastFault, Unaccounts}
 use Rattle.frames_laws.specs.Written.{hex, digits}
 
 -- a job that sets the clock of shard 0
@@ -42,3 +42,4 @@ pub record Accounts : Type 0 where
   pub no_receipts : IsLeastFault journals jobs [] 1
   pub no_receipts_not : IsLeastFault journals jobs [] 2 → ⊥
   pub entry_left_over : Reconciles journals (clock_job 1 5 ∷ []) (receipt_at 1 0 ∷ []) → ⊥
+  pub number_0 : Unaccounts journals (clock_job 0 5 ∷ []) [] 0 → ⊥

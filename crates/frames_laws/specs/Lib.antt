@@ -9,3 +9,4 @@ pub mod AccountLaws
 pub mod MergedJobs
 pub mod IdentityExamples
 pub mod TagExamples
+pub mod TreeExamples

@@ -1,13 +1,13 @@
 -- Worked examples of portions, octet for octet: what a dialogue portion and a component may be and may not be.
 use Rattle.std.specs.Prelude.{◌≡◌, pos, negsuc, [], ◌∷◌, Some, None}
 use Rattle.x690.specs.Spelling.{enc}
-use Rattle.machine.specs.Received.{OfError, Number, Invoke, ReturnError, Bad, OfUser, Abrt, Begin, Continue, Refuse, Read}
+use Rattle.machine.specs.Received.{OfError, Number, Invoke, ReturnError, Bad, OfUser, Abrt, Begin, Continue, Discard, Refuse, Read}
 use Rattle.machine.specs.Sent.{NoCause, SentContinue, SentAbort}
-use Rattle.machine.specs.Events.{Withdraw, Clock, Expire, Operator}
+use Rattle.machine.specs.Events.{Withdraw, Clock, Expire, Frame, Operator}
 use Rattle.frames.specs.Dialogues.{dialogue_of}
 use Rattle.frames.specs.DialogueForms.{portion_tree}
 use Rattle.frames.specs.Frames.{IsVerdict}
-use Rattle.frames.specs.Octets.{RawClock, RawExpire, RawChange, IsEvent, spelled_out}
+use Rattle.frames.specs.Octets.{RawFrame, RawClock, RawExpire, RawChange, IsEvent, spelled_out}
 use Rattle.frames.specs.SentTrees.{abrt_tree, octets_of_sent}
 use Rattle.frames_laws.specs.Written.{hex, digits}
 
@@ -76,10 +76,11 @@ pub record SentAddress : Type 0 where
   pub out : spelled_out (record { to = digits "447700900011"; message = SentAbort (hex "00 00 00 0B") NoCause })
       ≡ record { to = digits "447700900011"; octets = hex "67 06 49 04 00 00 00 0B" }
 
--- What comes from outside is the event of the machine that has the same shard and clock value, or subscriber and change.
+-- What comes from outside is the event of the machine that has the same shard and clock value, or subscriber and change, or source.
 pub record EventsFromOutside : Type 0 where
   pub clock : IsEvent (RawClock 1 5) (Clock 1 5)
   pub exchanged : IsEvent (RawClock 1 5) (Clock 5 1) → ⊥
   pub expiry : IsEvent (RawExpire 1) (Expire 1)
   pub change : IsEvent (RawChange (digits "234150000000001") Withdraw) (Operator (digits "234150000000001") Withdraw)
   pub another_event : IsEvent (RawExpire 1) (Clock 1 5) → ⊥
+  pub another_source : IsEvent (RawFrame (1 ∷ []) []) (Frame [] Discard) → ⊥

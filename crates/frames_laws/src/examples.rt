@@ -4,6 +4,7 @@ ghost use Rattle.frames_laws.specs.Examples.{FirstRoute, IndefiniteRoute, RouteE
 ghost use Rattle.frames_laws.specs.AccountExamples.{Accounts};
 ghost use Rattle.frames_laws.specs.IdentityExamples.{DigitOctets, ImsiOctets, AddressOctets, OctetStrings};
 ghost use Rattle.frames_laws.specs.TagExamples.{TagOctets, NumbersOfFrames, ElementsRead};
+ghost use Rattle.frames_laws.specs.TreeExamples.{MessagesRead, ComponentsRead};
 ghost use Rattle.frames_laws.specs.PortionExamples.{UserInformation, NamesOfContexts, Versions, DialogueAborts, CodesOfComponents, LongTagNumbers, SentAddress, EventsFromOutside};
 
 /// The first example: where a short message is routed to.
@@ -181,13 +182,13 @@ pub fn sent_address()
     ensures { SentAddress }
 {}
 
-/// A clock value, an expiry and a change are each the event of the machine with the same parts.
+/// A clock value, an expiry and a change are each the event of the machine with the same parts, and a frame has its source.
 pub fn events_from_outside()
     ensures { EventsFromOutside }
 {}
 
 /// What accounts for a job and what does not: an entry of another event or with other octets, a place that is named twice or
-/// has no entry, two receipts or two jobs with one number, and a refusal. Without receipts the least number is at fault.
+/// has no entry, two receipts or two jobs with one number, and a refusal. Without receipts the least number is at fault, and it is not 0.
 pub fn accounts()
     ensures { Accounts }
 {}
@@ -225,4 +226,14 @@ pub fn numbers_of_frames()
 /// Versions, codes, names, syntaxes and priorities that are read, and those that are not.
 pub fn elements_read()
     ensures { ElementsRead }
+{}
+
+/// After an Abort's id a cause or a dialogue portion may follow. A Begin with an unreadable dialogue portion is refused.
+pub fn messages_read()
+    ensures { MessagesRead }
+{}
+
+/// Results, parts of results and Rejects of both, and what becomes of ill-formed ones.
+pub fn components_read()
+    ensures { ComponentsRead }
 {}

@@ -18,3 +18,4 @@ pub mod ReceivingLemmas
 pub mod SoundLemmas
 pub mod RunningLemmas
 pub mod SteppingLemmas
+pub mod DeadlineLemmas

@@ -3,6 +3,7 @@
 ghost use Rattle.std.specs.Prelude.{◌≡◌, ◌≢◌, ◌<◌, ◌↔◌, IfOk, OnOk, OnErr, Err, IsTrue};
 ghost use Rattle.std.specs.Arc.{arc_value};
 ghost use Rattle.frames.specs.Octets.{IsRouted, RawClock, RawExpire};
+ghost use Rattle.machine.specs.Deadlines.{HasDue, IsFirst, IsTimer};
 ghost use Rattle.machine.specs.Opening.{opening};
 ghost use Rattle.machine.specs.Parts.{part};
 ghost use Rattle.machine.specs.Routing.{route as shard_for};
@@ -89,6 +90,30 @@ impl State {
         ensures { result ≡ self.now.shard }
     {
         self.parts.number()
+    }
+
+    /// The clock.
+    pub fn clock(&self) -> u64
+        ensures { result ≡ self.now.clock }
+    {
+        self.parts.clock()
+    }
+
+    /// The first deadline of a timer, whether it is due or not; `None` if no timer runs.
+    pub fn first_deadline(&self) -> Option<u64>
+        ensures { IsFirst (IsTimer (state_of self.now) self.now.shard) result }
+    {
+        self.parts.dialogues().first_deadline()
+    }
+
+    /// Whether a timer is due: its deadline is not after the clock.
+    pub fn is_due(&self) -> bool
+        ensures { IsTrue result ↔ HasDue (state_of self.now) self.now.shard }
+    {
+        match self.first_deadline() {
+            Some(deadline) => deadline <= self.clock(),
+            None => false,
+        }
     }
 
     /// The HLR number.

@@ -10,10 +10,10 @@ ghost use Rattle.machine.specs.Events.{Codes, Frame, Withdraw};
 ghost use Rattle.machine.specs.Turns.{Dismissed, triple_cmp, turn_of_verdict};
 ghost use Rattle.machine.specs.declared.numbers.TheConstants.{MAX_DIALOGUES, MAX_ENTRIES, SHARDS};
 ghost use Rattle.machine.specs.Contexts.{name_of};
-ghost use Rattle.machine.specs.Transactions.{CloseComes, ContinueComes, ForIt, Nothing, Unassigned, row, transact};
+ghost use Rattle.machine.specs.Transactions.{CloseComes, ContinueComes, ForIt, IsSent, Nothing, OwnClose, OwnEnd, Unassigned, row, transact};
 ghost use Rattle.machine.specs.Effect.{rejection};
 ghost use Rattle.machine.specs.Routing.{route};
-ghost use Rattle.machine_laws.specs.Worked.{at_a, at_b, begin_in, continue_to, directory, first_imsi, first_msisdn, first_record, gateway, hlr, id_a, id_b, id_c, id_d, one, result_of, route_of, second_imsi, start, theirs, update_of, vlr_a, vlr_b};
+ghost use Rattle.machine_laws.specs.Worked.{at_a, at_b, begin_in, continue_to, directory, first_imsi, first_msisdn, first_record, gateway, hlr, id_a, id_b, id_c, id_d, one, result_of, route_of, second_imsi, second_record, start, theirs, update_of, vlr_a, vlr_b};
 ghost use Rattle.machine_laws.specs.Play.{expires_at, is_changed, receives, waits};
 
 // Components (Q.774, component sublayer)
@@ -177,7 +177,8 @@ pub fn unknown_dialogues()
 {}
 
 /// What becomes of a transaction: the first Continue sets its peer; a later one with another id is for none, from whatever
-/// address, and leaves the transaction unchanged. An End or an Abort closes it.
+/// address, and leaves the transaction unchanged. An End or an Abort closes it. The register ends it without a frame only before the
+/// first Continue.
 pub fn rows_of_transactions()
     ensures { let initiated : Transaction = record { peer = vlr_a; remote = None } in
         let active : Transaction = record { peer = vlr_a; remote = Some theirs } in
@@ -189,7 +190,11 @@ pub fn rows_of_transactions()
         × (transact None (ContinueComes vlr_a theirs) ≡ row None Unassigned)
         × (transact (Some initiated) CloseComes ≡ row None ForIt)
         × (transact (Some active) CloseComes ≡ row None ForIt)
-        × (transact None CloseComes ≡ row None Nothing) }
+        × (transact None CloseComes ≡ row None Nothing)
+        × (transact (Some initiated) OwnClose ≡ row None Nothing)
+        × (transact (Some active) OwnClose ≡ None)
+        × (transact (Some initiated) OwnEnd ≡ None)
+        × (transact (Some active) OwnEnd ≡ row None IsSent) }
 {}
 
 /// A context that is not accepted is refused before the components are checked.
@@ -201,8 +206,8 @@ pub fn refused_before_components()
 
 // Timers, clocks and shards
 
-/// The register waits 20 ticks for an answer, and then 5 for a Reject of it; then it forgets this invocation alone. A clock never
-/// goes back, and never beyond 2^62.
+/// The register waits 20 ticks for an answer, and then 5 for a Reject of it; then it forgets this invocation alone, and the update
+/// stays the current one. A clock never goes back, and never beyond 2^62.
 pub fn timers_and_clocks()
     ensures timers { let begun = receives start vlr_b
         (begin_in NetworkLocUp (update_of second_imsi at_b ∷ [])) id_d in
@@ -224,6 +229,11 @@ pub fn timers_and_clocks()
           invocations = record { id = pos 1; was = OperationSent; deadline = 20 } ∷ [];
           kind = Updates at_b (pos 1);
         }) }
+    ensures marked { let begun = receives start vlr_b
+        (begin_in NetworkLocUp (update_of second_imsi at_b ∷ [])) id_d in
+        let half = receives begun.state vlr_b (continue_to id_d (result_of (pos 2) ∷ [])) id_a in
+        (expires_at (waits half.state 2 5) id_d (pos 2) id_a).state.records second_imsi
+        ≡ Some (record second_record { current = Some id_d }) }
     ensures clocks { ((waits (waits start 1 9) 1 4).clocks 1 ≡ 9)
         × ((waits start 1 (2 ^ 63)).clocks 1 ≡ 2 ^ 62) }
 {}

@@ -3,7 +3,7 @@
 //! opens is given.
 
 ghost use Rattle.std.specs.Prelude.{◌≡◌, ℕ, pos, List, Some, None, [], ◌∷◌, ◌++◌, true, false};
-ghost use Rattle.machine.specs.Received.{BadValue, Component, End, Invoke, Mistyped, Number, OfInvoke, Register, ResultNotLast, ReturnError, Route, Typed, Update};
+ghost use Rattle.machine.specs.Received.{Abort, BadValue, Component, End, Invoke, Mistyped, Number, OfInvoke, Register, ResultNotLast, ReturnError, Route, Typed, Update};
 ghost use Rattle.machine.specs.Sent.{Cancel, Insert, LocationCancellation, MsPurging, NetworkLocUp, Out, RouteResult, SentBegin, SentContinue, SentEnd, SentError, ShortMsgGateway, UpdateProcedure, UpdateResult};
 ghost use Rattle.machine.specs.State.{Cancels, OperationSent, State};
 ghost use Rattle.machine.specs.Events.{Withdraw};
@@ -127,6 +127,21 @@ pub fn same_update_twice()
           message = SentBegin id_c LocationCancellation
               (Cancel (pos 1) first_imsi UpdateProcedure ∷ []);
         } ∷ []) }
+{}
+
+/// An End or an Abort closes an update, which then is no longer the current one. Nothing is sent.
+pub fn closed_updates()
+    ensures { let begun = receives start vlr_b
+        (begin_in NetworkLocUp (update_of first_imsi at_b ∷ [])) id_a in
+        let ended = receives begun.state vlr_b (End id_a None []) id_b in
+        let aborted = receives begun.state vlr_b (Abort id_a) id_b in
+        (begun.state.records first_imsi ≡ Some (record first_record { current = Some id_a }))
+        × (ended.answer.sent ≡ [])
+        × (ended.state.dialogues id_a ≡ None)
+        × (ended.state.records first_imsi ≡ Some first_record)
+        × (aborted.answer.sent ≡ [])
+        × (aborted.state.dialogues id_a ≡ None)
+        × (aborted.state.records first_imsi ≡ Some first_record) }
 {}
 
 /// An update of a purged record completes with a cancel to the purged register all the same.
@@ -333,6 +348,22 @@ pub fn peer_of_a_cancel()
           kind = Cancels vlr_a 1 UpdateProcedure;
         }))
         × (over.answer.sent ≡ one gateway (SentEnd theirs None [] []))
+        × (over.state.dialogues id_b ≡ None) }
+{}
+
+/// A cancel that expires after its peer has answered once: an End goes to the peer, and then the next attempt to the register.
+pub fn active_cancel_repeated()
+    ensures { let begun = receives start vlr_b
+        (begin_in NetworkLocUp (update_of first_imsi at_b ∷ [])) id_a in
+        let done = receives begun.state vlr_b (continue_to id_a (result_of (pos 1) ∷ [])) id_b in
+        let met = receives done.state gateway (continue_to id_b (ResultNotLast (pos 1) ∷ [])) id_c in
+        let over = expires_at (waits met.state 1 20) id_b (pos 1) id_c in
+        (over.answer.sent ≡ record { to = gateway; message = SentEnd theirs None [] [] }
+        ∷ record {
+          to = vlr_a;
+          message = SentBegin id_c LocationCancellation
+              (Cancel (pos 1) first_imsi UpdateProcedure ∷ []);
+        } ∷ [])
         × (over.state.dialogues id_b ≡ None) }
 {}
 

@@ -4,3 +4,4 @@ pub mod Faults
 pub mod Log
 pub mod Handling
 pub mod Chains
+pub mod Ticking

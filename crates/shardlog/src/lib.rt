@@ -13,4 +13,4 @@ pub use fault::ShardFault;
 pub use hlrcore::RawEvent;
 pub use keep::Keep;
 pub use laws::joined_journals_keep;
-pub use shard::Shard;
+pub use shard::{Shard, tick_all};

@@ -15,6 +15,7 @@ ghost use Rattle.shardlog.specs.Entries.{raw_entries};
 ghost use Rattle.shardlog.specs.Handling.{Handles, RefusesOwn};
 ghost use Rattle.shardlog.specs.Log.{LogKeeps, base_of, fresh, log};
 ghost use Rattle.shardlog.specs.Chains.{LeadTo, raw_epoch};
+ghost use Rattle.shardlog.specs.Ticking.{AreTicked, Hinders};
 
 use crate::entry::{Entry, Epoch, Handled};
 use crate::fault::ShardFault;
@@ -230,6 +231,35 @@ impl Shard {
     {
         self.base = None;
         self.entries.clear();
+    }
+}
+
+/// Handles a clock value for each of these shards, as `Shard::tick` does. `JournalFull` if the journal of one of them is full; `Memory`
+/// if an allocation fails, which can be only where entries are kept. What can fail comes first, in each of them: on error nothing changes.
+pub fn tick_all(shards: &mut [Shard], now: u64) -> Result<(), ShardFault>
+    ensures ticks { OnOk result (AreTicked now shards.old shards.new) }
+    ensures hinders { IfErr result (Hinders shards.old) }
+    ensures err { OnErr result (shards.new ≡ shards.old) }
+{
+    let Some((first, rest)) = shards.split_first_mut() else {
+        return Ok(());
+    };
+    make_room(
+        first.keep,
+        &mut first.base,
+        &mut first.entries,
+        &first.state,
+    )?;
+    tick_all(rest, now)?;
+    first.state.law_sound();
+    let shard = ShardNumber::new(first.state.number()).unwrap();
+    let answer = first.state.tick(now);
+    match first.keep {
+        Keep::Entries => {
+            append(&mut first.entries, RawEvent::Clock { shard, now }, answer);
+            Ok(())
+        }
+        Keep::Nothing => Ok(()),
     }
 }
 

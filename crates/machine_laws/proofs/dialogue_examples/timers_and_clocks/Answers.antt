@@ -14,6 +14,10 @@ pub returns-clause-forgotten : goal.returns-clause-forgotten
 unfolding put put_at local_of local_of_nobody effect conclusion_of accepted context_of refused_name shard_of shard_of_id opening
 returns-clause-forgotten c = refl
 
+pub returns-clause-marked : goal.returns-clause-marked
+unfolding put put_at local_of local_of_nobody effect conclusion_of accepted context_of refused_name shard_of shard_of_id opening
+returns-clause-marked c = refl
+
 pub returns-clause-clocks : goal.returns-clause-clocks
 unfolding put put_at local_of local_of_nobody effect conclusion_of accepted context_of refused_name shard_of shard_of_id opening
 returns-clause-clocks c = (refl, refl)
