@@ -1,5 +1,6 @@
 pub mod Jobs
 pub mod Receipts
+pub mod Answered
 pub mod Refusals
 pub mod Hands
 pub mod Lots

@@ -1,9 +1,10 @@
 //! A job in its shard, once the event is read and the shard is locked.
 
-ghost use Rattle.std.specs.Prelude.{◌≡◌, IfOk, OnErr};
+ghost use Rattle.std.specs.Prelude.{◌≡◌, IfOk, IfSome, OnErr};
 ghost use Rattle.frames.specs.Octets.{IsEvent};
 ghost use Rattle.hlrcore.specs.Events.{event_of, raw_event, raw_of};
-ghost use Rattle.workers.specs.Receipts.{IsPlaced};
+ghost use Rattle.workers.specs.Answered.{IsAnswered};
+ghost use Rattle.workers.specs.Receipts.{IsPlaced, place_of};
 
 use crate::placed::Placed;
 use crate::refusal::Refusal;
@@ -34,6 +35,7 @@ pub(crate) fn apply(
 ) -> Result<Placed, Refusal>
     ensures ok { IfOk result (λ placed. IsPlaced number shard.old
         (raw_of event.old) placed shard.new) }
+    ensures answered { IfSome (place_of result) (IsAnswered (raw_of event.old)) }
     ensures err { OnErr result (shard.new ≡ shard.old) }
 {
     let found = addressee_of(shard.state().directory(), event);

@@ -2,13 +2,13 @@
 
 use crate::apply::{apply, read};
 use crate::gate::Gate;
-use crate::job::{Job, JobNumber};
+use crate::job::Job;
 use crate::placed::Placed;
 use crate::receipt::Receipt;
 use crate::refusal::Refusal;
 use crate::swapped::first_swapped;
 use bumpalo::Bump;
-use hlrcore::{Event, ShardNumber, State, route};
+use hlrcore::{ShardNumber, State, route};
 use records::Loaded;
 use shardlog::Shard;
 use std::alloc::{AllocError, AllocFailed, Global};
@@ -74,11 +74,13 @@ impl Model for Office {
 }
 
 impl Office {
-    ghost use Rattle.std.specs.Prelude.{◌≡◌, ◌<◌, vec_len, All, IfOk, Err};
+    ghost use Rattle.std.specs.Prelude.{◌≡◌, ◌<◌, vec_len, All, IfOk, IfSome, Err};
     ghost use Rattle.records.specs.Maps.{DirectoryMap};
     ghost use Rattle.shardlog.specs.Log.{LogKeeps};
     ghost use Rattle.wholenode.specs.Keeping.{AreShards};
+    ghost use Rattle.workers.specs.Answered.{IsAnswered};
     ghost use Rattle.workers.specs.Offices.{AreBases, AreOpeningBases, bases_of};
+    ghost use Rattle.workers.specs.Receipts.{place_of};
 
     /// The register of a records file: its records, no open dialogue, and empty journals. On error the loaded value is dropped.
     pub fn new(alloc: Global, loaded: Loaded) -> Result<Office, AllocError>
@@ -143,7 +145,7 @@ impl Office {
         }
     }
 
-    /// Reads a job's event in a worker's arena, handles it in its shard, and makes the receipt.
+    /// Handles a job, and makes the receipt.
     pub(crate) fn answer<R: Wait, G: Gate>(
         &self,
         rt: &R,
@@ -152,33 +154,35 @@ impl Office {
         job: &Job,
         gate: &G,
     ) -> Receipt
-        ensures { result.job ≡ job.now.number }
+        ensures job { result.job ≡ job.now.number }
+        // A receipt with a place is for an event that some shard handled.
+        ensures place { IfSome result.place (IsAnswered job.now.event) }
     {
-        let number = job.number;
-        let answer = match read(alloc, bump, &job.event) {
-            Ok(mut event) => self.enter(rt, number, &mut event, gate),
-            Err(refusal) => Err(refusal),
-        };
+        let answer = self.enter(rt, alloc, bump, job, gate);
         let receipt = Receipt {
-            job: number,
+            job: job.number,
             answer,
         };
-        gate.done(number.get());
+        gate.done(job.number.get());
         receipt
     }
 
-    /// Handles an event in its shard, under the lock.
+    /// Reads a job's event in a worker's arena, and handles it in its shard, under the lock.
     fn enter<R: Wait, G: Gate>(
         &self,
         rt: &R,
-        job: JobNumber,
-        event: &mut Event,
+        alloc: Global,
+        bump: &mut Bump,
+        job: &Job,
         gate: &G,
-    ) -> Result<Placed, Refusal> {
-        let place = route(self.bases[0].directory(), event);
+    ) -> Result<Placed, Refusal>
+        ensures { IfSome (place_of result) (IsAnswered job.now.event) }
+    {
+        let mut event = read(alloc, bump, &job.event)?;
+        let place = route(self.bases[0].directory(), &event);
         let number = ShardNumber::new(place).unwrap();
         let mut shard = self.locks[usize::from(place)].lock(rt);
-        gate.inside(job.get());
-        apply(&mut *shard, number, event)
+        gate.inside(job.number.get());
+        apply(&mut *shard, number, &mut event)
     }
 }
