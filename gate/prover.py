@@ -82,11 +82,12 @@ class Kept:
         self.store = rt.Kept(crates) if hasattr(rt, "Kept") else None
         self.room = tempfile.TemporaryDirectory(prefix="kept-")
 
-    def taken(self, crate):
-        """The folder in which is now what was proved of the crate, whose libraries below have been taken; None where it is not kept."""
+    def taken(self, crate, of_tests=False):
+        """The folder in which is now what was proved of the crate, or of its tests, whose libraries below have been taken; None
+        where it is not kept."""
         copied = copy.copy(crate)
         copied.folder = f"{self.room.name}/{crate.name}"
-        if not self.store or not self.store.give(copied, False, self.store.key(crate)):
+        if not self.store or not self.store.give(copied, of_tests, self.store.key(crate)):
             return None
         self.store.is_built(copied)
         return f"{copied.folder}/out"

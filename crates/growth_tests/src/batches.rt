@@ -1,6 +1,6 @@
 //! Batches that workers share while memory is refused.
 
-use crate::given::{is_shown, peer};
+use crate::given::peer;
 use crate::samples::{RECORDS, ROUTE};
 use hlrcore::{RawEvent, ShardNumber};
 use records::read_records;
@@ -10,6 +10,9 @@ use std::thread::Threads;
 use workers::{
     Gate, Job, JobNumber, Office, Receipt, Refusal, Unaccounted, numbers_rise, reconcile, run_batch,
 };
+
+/// How many jobs a batch has: twenty for each worker.
+const JOBS: u64 = 80;
 
 /// A route, or a value of a clock.
 fn event(alloc: Global, number: u64) -> Option<RawEvent> {
@@ -23,10 +26,10 @@ fn event(alloc: Global, number: u64) -> Option<RawEvent> {
     }
 }
 
-/// So many jobs, from this number on.
-fn jobs_from(alloc: Global, first: u64, count: u64) -> Option<Vec<Job>> {
+/// The jobs of a batch, from this number on.
+fn jobs_from(alloc: Global, first: u64) -> Option<Vec<Job>> {
     let mut jobs = Vec::new(alloc);
-    for number in first..first.saturating_add(count) {
+    for number in first..first.saturating_add(JOBS) {
         let event = event(alloc, number)?;
         let number = JobNumber::new(number)?;
         jobs.push(Job { number, event }).ok()?;
@@ -49,7 +52,7 @@ fn refused(alloc: Global, receipts: &[Receipt]) -> Option<Vec<u64>> {
 
 /// Holds no job.
 #[derive(Drop)]
-pub(crate) struct Open;
+struct Open;
 
 impl Gate for Open {
     fn inside(&self, _job: u64) {}
@@ -57,52 +60,38 @@ impl Gate for Open {
     fn done(&self, _job: u64) {}
 }
 
-/// The receipts of a batch that so many workers share, `None` where it has none.
-pub(crate) fn run<R: Threads + Wait + Sync>(
+/// The receipts of a batch that four workers share, `None` where it has none.
+fn run<R: Threads + Wait + Sync>(
     rt: &R,
     alloc: Global,
     office: &Office,
     jobs: &[Job],
-    workers: usize,
 ) -> Option<Vec<Receipt>> {
-    if workers == 0 || workers > 16 {
-        return None;
-    }
     if !numbers_rise(jobs) {
         return None;
     }
-    run_batch(rt, alloc, office, jobs, &Open, workers).ok()
+    run_batch(rt, alloc, office, jobs, &Open, 4).ok()
 }
 
-/// Batches: how many, with how many jobs and workers each, and whether the jobs of a batch without receipts count as jobs.
-#[derive(Clone, Copy)]
-pub(crate) struct Batches {
-    pub(crate) count: u64,
-    pub(crate) jobs: u64,
-    pub(crate) workers: usize,
-    pub(crate) all_count: bool,
-}
-
-/// Whether at most one job ran out of memory in some batches (of a batch without receipts its first, if it counts), and is the least
-/// that is not accounted for. `None` if the test itself ran out of memory.
-pub(crate) fn lose_one_at_most<R: Threads + Wait + Sync>(
+/// The result of some batches: the jobs that ran out of memory (of a batch without receipts its first), and the least job that is
+/// not accounted for. `None` if the test itself ran out of memory.
+fn run_batches<R: Threads + Wait + Sync>(
     rt: &R,
     alloc: Global,
-    given: Batches,
-) -> Option<bool> {
+    batches: u64,
+) -> Option<(Vec<u64>, Option<u64>)> {
     let office = Office::new(alloc, read_records(alloc, RECORDS).ok()?).ok()?;
     let (mut all, mut receipts) = (Vec::new(alloc), Vec::new(alloc));
     let mut without = Vec::new(alloc);
-    for batch in 0..given.count {
-        let first = batch.saturating_mul(given.jobs).saturating_add(1);
-        let mut jobs = jobs_from(alloc, first, given.jobs)?;
-        match run(rt, alloc, &office, &jobs, given.workers) {
+    for batch in 0..batches {
+        let first = batch.saturating_mul(JOBS).saturating_add(1);
+        let mut jobs = jobs_from(alloc, first)?;
+        match run(rt, alloc, &office, &jobs) {
             Some(mut more) => {
                 without.append(&mut refused(alloc, &more)?).ok()?;
                 receipts.append(&mut more).ok()?;
             }
-            None if given.all_count => without.push(first).ok()?,
-            None => continue,
+            None => without.push(first).ok()?,
         }
         all.append(&mut jobs).ok()?;
     }
@@ -111,18 +100,17 @@ pub(crate) fn lose_one_at_most<R: Threads + Wait + Sync>(
         Ok(()) => None,
         Err(Unaccounted(number)) => Some(number),
     };
-    Some(without.len() <= 1 && without.first().copied() == least)
+    Some((without, least))
 }
 
-/// At most one job, or one batch, has no entry: the batches after it are unaffected. `reconcile` finds it. (A batch has twenty jobs
-/// for each worker.)
+/// At most one job, or one batch, has no entry: the batches after it are unaffected. `reconcile` finds it.
 #[test]
 fn one_batch_or_job_at_most(rt: HostRuntime) {
-    let given = Batches {
-        count: 3,
-        jobs: 80,
-        workers: 4,
-        all_count: true,
+    let Some((without, least)) = run_batches(&rt, rt.alloc(), 3) else {
+        return;
     };
-    assert!(rt; is_shown(&rt, lose_one_at_most(&rt, rt.alloc(), given)));
+    assert_eq!(rt;
+        (without.len() <= 1, without.first().copied()),
+        (true, least)
+    );
 }

@@ -1,6 +1,6 @@
 //! A procedure that runs out of memory.
 
-use crate::given::{FIRST, is_shown, peer, subscriber};
+use crate::given::{FIRST, peer, subscriber};
 use crate::samples::{INSERT_AND_REJECTS, PURGE, PURGED, RECORDS, UPDATE_AND_RESULTS};
 use bumpalo::Bump;
 use location::{Outcome, begins};
@@ -14,7 +14,7 @@ fn records(alloc: Global) -> Option<Records> {
 }
 
 /// What these octets read to.
-pub(crate) fn taken(alloc: Global, octets: &[u8]) -> Option<Indication> {
+fn taken(alloc: Global, octets: &[u8]) -> Option<Indication> {
     Round::take(alloc, &mut Bump::new(alloc), peer(b"447700900012")?, octets).ok()
 }
 
@@ -36,7 +36,7 @@ fn begun(alloc: Global, indication: &Indication, records: &Records) -> Option<Ou
     begins(alloc, indication, *origin, heard, found, 0, FIRST).ok()
 }
 
-pub(crate) fn are_alike(one: &Indication, other: &Indication) -> bool {
+fn are_alike(one: &Indication, other: &Indication) -> bool {
     one.from() == other.from() && one.octets() == other.octets() && one.verdict() == other.verdict()
 }
 
@@ -67,7 +67,9 @@ fn answers(alloc: Global, octets: &[u8], answer: &[u8]) -> Option<bool> {
 #[test]
 fn updates_and_purges(rt: HostRuntime) {
     let alloc = rt.alloc();
-    let update = answers(alloc, &UPDATE_AND_RESULTS, &INSERT_AND_REJECTS);
-    assert!(rt; is_shown(&rt, update), "an update");
-    assert!(rt; is_shown(&rt, answers(alloc, &PURGE, &PURGED)), "a purge");
+    assert!(rt;
+        answers(alloc, &UPDATE_AND_RESULTS, &INSERT_AND_REJECTS) != Some(false),
+        "an update"
+    );
+    assert!(rt; answers(alloc, &PURGE, &PURGED) != Some(false), "a purge");
 }

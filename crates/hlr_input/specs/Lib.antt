@@ -6,3 +6,4 @@ pub mod CommandLine
 pub mod Command
 pub mod Seen
 pub mod Digits
+pub mod Examples

@@ -4,6 +4,7 @@
 //! them have their ids (`Letters`, `read_octets`).
 #![tactic(auto)]
 
+mod examples;
 mod frame_octets;
 mod group;
 mod input;
@@ -14,6 +15,7 @@ mod options;
 mod ticks;
 mod words;
 
+pub use examples::{law_command_lines, law_noted_ids, law_script_lines};
 pub use frame_octets::{are_octets, read_octets};
 pub use group::Group;
 pub use input::{InputFault, MAX_FILE_OCTETS, read_all};

@@ -15,3 +15,4 @@ pub mod Closing
 pub mod Gathering
 pub mod Promise
 pub mod Operator
+pub mod Examples

@@ -9,6 +9,7 @@ mod batch;
 mod check;
 mod crew;
 mod each;
+mod examples;
 mod fault;
 mod laws;
 mod listing;
@@ -17,6 +18,7 @@ mod printed;
 mod register;
 mod serve;
 
+pub use examples::{worked_batches, worked_endings, worked_prints};
 pub use fault::Fault;
 pub use hlr_input::{Options, WordsFault, read_words};
 pub use laws::operator_gets;

@@ -1,0 +1,18 @@
+//! Worked examples of batches, of what is printed and of how a run ends.
+
+ghost use Rattle.hlr_program.specs.Examples.{Endings, PrintedLines, ScriptBatches};
+
+/// Law: the batches of a script, of which one is empty, and how many lines stand before the next one.
+pub fn worked_batches()
+    ensures { ScriptBatches }
+{}
+
+/// Law: the line of a frame, and that what is saved comes after the listings.
+pub fn worked_prints()
+    ensures { PrintedLines }
+{}
+
+/// Law: the status and the line of each fault.
+pub fn worked_endings()
+    ensures { Endings }
+{}
