@@ -11,8 +11,9 @@
  * time and always from the same thread, and leave `at` alone. kunchrol_close frees all its memory. No call keeps a pointer
  * that it was passed, blocks, starts a thread, reads a clock, opens a file or prints.
  *
- * Each call but kunchrol_close returns KUNCHROL_OK, or the reason why it did nothing. In that case the register and the frames that wait
- * are unchanged.
+ * Each call but kunchrol_close and kunchrol_version returns KUNCHROL_OK, or the reason why it did nothing. In that case the register, its
+ * clocks and the frames that wait are unchanged, and so is what the call was to write, but for the lengths after KUNCHROL_SMALL and the line
+ * of kunchrol_open. Any call with a register may return KUNCHROL_CLOSED.
  *
  * A register that is opened with KUNCHROL_KEEP_JOURNALS keeps a journal of each of its sixteen shards: an entry for each event, with the
  * whole frame that came and the frames that were sent. A journal grows until it has 65,536 entries, whether anybody reads it or not;
@@ -24,20 +25,32 @@
 #include <stddef.h>
 #include <stdint.h>
 
+#define KUNCHROL_VERSION_MAJOR 0
+#define KUNCHROL_VERSION_MINOR 1
+#define KUNCHROL_VERSION_PATCH 0
+#define KUNCHROL_VERSION_NUMBER (KUNCHROL_VERSION_MAJOR * 65536 + KUNCHROL_VERSION_MINOR * 256 + KUNCHROL_VERSION_PATCH)
+
+/* The return code of these calls is to be looked at. */
+#if defined(__GNUC__)
+#define KUNCHROL_CHECKED __attribute__((warn_unused_result))
+#else
+#define KUNCHROL_CHECKED
+#endif
+
 #ifdef __cplusplus
 extern "C" {
 #endif
 
 enum {
 	KUNCHROL_OK = 0,
-	KUNCHROL_NONE = 1,     /* kunchrol_next: no frame waits */
+	KUNCHROL_NONE = 1,     /* no frame waits; no timer is due, or runs; there is no such record */
 	KUNCHROL_SMALL = 2,    /* a buffer is too small; the lengths that are needed are stored */
 	KUNCHROL_ARGUMENT = 3, /* digits, codes, a shard or a clock value are not of their form */
 	KUNCHROL_CLOSED = 4,   /* the handle has no register */
 	KUNCHROL_OPEN = 5,     /* kunchrol_open: the handle already has a register */
-	KUNCHROL_JOURNAL = 6,  /* the journal of the event's shard has 65,536 entries: call kunchrol_cut, then give the event again */
+	KUNCHROL_JOURNAL = 6,  /* a journal in which an entry is to be made has 65,536: call kunchrol_cut, then repeat the call */
 	KUNCHROL_NO_ROOM = 7,  /* an operator's change would open a dialogue, and 4,096 are open in the shard */
-	KUNCHROL_MEMORY = 8,   /* out of memory; kunchrol_next never returns it */
+	KUNCHROL_MEMORY = 8,   /* out of memory; the call may be repeated */
 	KUNCHROL_LINE = 9,     /* kunchrol_open: a line of the records file is not of its form */
 	KUNCHROL_TWICE = 10    /* kunchrol_open: the IMSI or MSISDN of a line stands on an earlier line */
 };
@@ -45,7 +58,8 @@ enum {
 enum {
 	KUNCHROL_SHARDS = 16,       /* shards, numbered from 0 */
 	KUNCHROL_MAX_DIGITS = 16,   /* the most digits of an address */
-	KUNCHROL_MAX_OCTETS = 4096 /* a buffer of this size holds every frame that is sent */
+	KUNCHROL_MAX_OCTETS = 4096, /* a buffer of this size holds every frame that is sent */
+	KUNCHROL_MAX_LINE = 312     /* a buffer of this size holds every record */
 };
 
 struct kunchrol {
@@ -57,11 +71,14 @@ struct kunchrol {
 /* The name of a return code. */
 static inline const char *kunchrol_name(uint32_t code)
 {
-	static const char *const names[] = { "ok", "no frame", "buffer too small", "argument", "closed", "open", "journal full", "no room",
+	static const char *const names[] = { "ok", "none", "buffer too small", "argument", "closed", "open", "journal full", "no room",
 					     "memory", "records line", "records line twice" };
 
 	return code < sizeof(names) / sizeof(names[0]) ? names[code] : "unknown";
 }
+
+/* KUNCHROL_VERSION_NUMBER of the library that is linked. */
+uint32_t kunchrol_version(void);
 
 enum {
 	KUNCHROL_KEEP_JOURNALS = 1 /* kunchrol_open: keep the entries that kunchrol_cut lists */
@@ -72,46 +89,74 @@ enum {
  * at 0, and no frame waits. With KUNCHROL_KEEP_JOURNALS as journals it keeps a journal of each shard, with 0 none. If a line has a
  * fault, its number, from 1, is stored at line, otherwise 0.
  */
-uint32_t kunchrol_open(const uint8_t *records, size_t records_len, uint8_t journals, struct kunchrol *hlr, uint64_t *line);
+KUNCHROL_CHECKED uint32_t kunchrol_open(const uint8_t *records, size_t records_len, uint8_t journals, struct kunchrol *hlr, uint64_t *line);
 
 /*
- * The five calls below give one event each. Take the frames of the event before with kunchrol_next first: an event that is handled drops
- * the frames that still wait.
+ * The four calls below give one event each, and kunchrol_clock sixteen. What an event sends waits for kunchrol_next, after the frames
+ * that still wait: no event drops any.
  *
  * A frame that came: the user data of SCCP's UNITDATA (TCAP), of any octets, and the digits of the calling party's address as ASCII,
  * 1 to 16 digits in international form, without a prefix or filler.
  */
-uint32_t kunchrol_frame(struct kunchrol *hlr, const uint8_t *from, size_t from_len, const uint8_t *octets, size_t octets_len);
-
-/* Sets the clock of a shard, in ticks, at most 2^62; a lesser value than before changes nothing. This does not make any timer expire. */
-uint32_t kunchrol_clock(struct kunchrol *hlr, uint8_t shard, uint64_t now);
+KUNCHROL_CHECKED uint32_t kunchrol_frame(struct kunchrol *hlr, const uint8_t *from, size_t from_len, const uint8_t *octets,
+					 size_t octets_len);
 
 /*
- * Expires the timer of a shard that has been due longest, if any is due at its clock. One call expires one timer. What is sent does not
- * show whether there was one, since some timers send nothing; the journal's last entry does: if none was due it has no subject
- * (kunchrol_cut: a line that ends `E - 0`).
+ * Sets the clock of all sixteen shards, in ticks, at most 2^62; a lesser value than a shard's clock does not change that one. This does
+ * not make any timer expire, and sends nothing. A register without journals never refuses it for want of memory. With journals, one that
+ * is full, or memory that is refused, leaves all clocks as they were.
  */
-uint32_t kunchrol_expire(struct kunchrol *hlr, uint8_t shard);
-
-/* New teleservice codes for the subscriber with this IMSI, as a records file has them: `11,21`, or `-` for none. */
-uint32_t kunchrol_codes(struct kunchrol *hlr, const uint8_t *imsi, size_t imsi_len, const uint8_t *codes, size_t codes_len);
-
-/* The end of the subscription with this IMSI. */
-uint32_t kunchrol_withdraw(struct kunchrol *hlr, const uint8_t *imsi, size_t imsi_len);
+KUNCHROL_CHECKED uint32_t kunchrol_clock(struct kunchrol *hlr, uint64_t now);
 
 /*
- * The next frame to be sent, in the order of sending: the digits of the address that it goes to, as ASCII, and its octets, the user data
- * of a UNITDATA. If a buffer is too small the lengths are stored, and the frame still waits.
+ * Expires the timer of a shard that has been due longest. KUNCHROL_NONE, and no event, if none is due at the shard's clock. One call
+ * expires one timer: repeat it until KUNCHROL_NONE.
  */
-uint32_t kunchrol_next(struct kunchrol *hlr, uint8_t *to, size_t to_size, size_t *to_len, uint8_t *octets, size_t octets_size,
-		       size_t *octets_len);
+KUNCHROL_CHECKED uint32_t kunchrol_expire(struct kunchrol *hlr, uint8_t shard);
+
+/*
+ * Stores when the first timer of all shards is due, in ticks, also if that is past. KUNCHROL_NONE if no timer runs. Until a clock has
+ * that value, and as long as no event comes, kunchrol_expire has nothing to do.
+ */
+KUNCHROL_CHECKED uint32_t kunchrol_deadline(struct kunchrol *hlr, uint64_t *when);
+
+/*
+ * New teleservice codes for the subscriber with this IMSI, as a records file has them: `11,21`, or `-` for none. KUNCHROL_NONE, and no
+ * event, if there is no record with this IMSI.
+ */
+KUNCHROL_CHECKED uint32_t kunchrol_codes(struct kunchrol *hlr, const uint8_t *imsi, size_t imsi_len, const uint8_t *codes, size_t codes_len);
+
+/* The end of the subscription with this IMSI. KUNCHROL_NONE, and no event, if there is no record with it. */
+KUNCHROL_CHECKED uint32_t kunchrol_withdraw(struct kunchrol *hlr, const uint8_t *imsi, size_t imsi_len);
+
+/*
+ * Takes the next frame to be sent, in the order of sending: the digits of the address that it goes to, as ASCII, and its octets, the user
+ * data of a UNITDATA. KUNCHROL_NONE if none waits. If a buffer is too small, the frame still waits.
+ */
+KUNCHROL_CHECKED uint32_t kunchrol_next(struct kunchrol *hlr, uint8_t *to, size_t to_size, size_t *to_len, uint8_t *octets,
+					size_t octets_size, size_t *octets_len);
+
+/*
+ * The record with this IMSI or MSISDN, as a line of a records file of version 2, without the line feed, with its length at len.
+ * KUNCHROL_NONE if there is none.
+ */
+KUNCHROL_CHECKED uint32_t kunchrol_record(struct kunchrol *hlr, const uint8_t *imsi, size_t imsi_len, uint8_t *buffer, size_t size,
+					  size_t *len);
+KUNCHROL_CHECKED uint32_t kunchrol_record_of_number(struct kunchrol *hlr, const uint8_t *msisdn, size_t msisdn_len, uint8_t *buffer,
+						    size_t size, size_t *len);
+
+/*
+ * Lists the open dialogues of a shard, each as a line D and a line I for each of its invocations (docs/PROTOCOL.md, "The program
+ * profile"), with the length at len, which is 0 if none is open.
+ */
+KUNCHROL_CHECKED uint32_t kunchrol_dialogues(struct kunchrol *hlr, uint8_t shard, uint8_t *buffer, size_t size, size_t *len);
 
 /*
  * Writes the records as a records file of version 2 into the buffer, with its length at len. A line has at most 312 octets, the first
  * line 22. Open dialogues, clocks and journals are not in it. To make it last is the caller's job (docs/OPERATING.md). There is no limit
  * here or in kunchrol_open, but the program hlr loads no file of more than 16,777,216 octets.
  */
-uint32_t kunchrol_save(struct kunchrol *hlr, uint8_t *buffer, size_t size, size_t *len);
+KUNCHROL_CHECKED uint32_t kunchrol_save(struct kunchrol *hlr, uint8_t *buffer, size_t size, size_t *len);
 
 /*
  * Empties the journal of a shard, and writes its listing into the buffer, with its length at len: a line of at most 31 octets for each
@@ -120,7 +165,7 @@ uint32_t kunchrol_save(struct kunchrol *hlr, uint8_t *buffer, size_t size, size_
  * After a cut the next event of the shard copies the shard's state, all its records among it, as the state in which the next journal
  * begins. So do not cut after each event (docs/OPERATING.md, "What a journal costs").
  */
-uint32_t kunchrol_cut(struct kunchrol *hlr, uint8_t shard, uint8_t *buffer, size_t size, size_t *len);
+KUNCHROL_CHECKED uint32_t kunchrol_cut(struct kunchrol *hlr, uint8_t shard, uint8_t *buffer, size_t size, size_t *len);
 
 /* Frees the register's memory, and leaves the handle closed. Nothing happens to a handle that is closed. */
 void kunchrol_close(struct kunchrol *hlr);

@@ -100,20 +100,21 @@ static uint32_t give_frame(void)
 	return code ? code : take_sent();
 }
 
+/* a clock value, and one expiry of each shard: what is due later than another timer stays */
 static uint32_t give_time(uint64_t now)
 {
-	uint32_t code = KUNCHROL_OK;
+	uint32_t code = kunchrol_clock(&hlr, now);
 
+	if (code == KUNCHROL_JOURNAL && !(code = cut_all()))
+		code = kunchrol_clock(&hlr, now);
 	for (uint8_t shard = 0; shard < KUNCHROL_SHARDS && !code; shard++) {
-		code = kunchrol_clock(&hlr, shard, now);
-		if (!code)
-			code = kunchrol_expire(&hlr, shard);
-		if (!code)
-			code = take_sent();
+		code = kunchrol_expire(&hlr, shard);
+		if (code == KUNCHROL_NONE)
+			code = KUNCHROL_OK;
 		if (code == KUNCHROL_JOURNAL)
 			code = cut_all();
 	}
-	return code;
+	return code ? code : take_sent();
 }
 
 static uint32_t save_and_open(void)

@@ -1,9 +1,10 @@
 /*
- * Plays a script on records through the library, as the program `hlr` does in one thread: play RECORDS SCRIPT [--again] [--none] [--list] [--save].
- * Prints `S <to> <octets>` for each frame that is sent; with --list then the journals, which are cut, and with --save the records,
- * each line after `V `. A call that returns MEMORY changed nothing, so with --again it is made once more; if a journal is full all
- * are cut, and the event is given again. With --none the register keeps no journals. A line that is not handled is reported on
- * standard error, and the status is then 1.
+ * Plays a script on records through the library, as the program `hlr` does in one thread:
+ * play RECORDS SCRIPT [--again] [--late] [--none] [--list] [--save].
+ * Prints `S <to> <octets>` for each frame that is sent, with --late only where a batch ends; with --list then the records, which are
+ * looked up one by one, the open dialogues, and the journals, which are cut; and with --save the records, each line after `V `. A call that
+ * returns MEMORY changed nothing, so with --again it is made once more; if a journal is full all are cut, and the call is made again. With
+ * --none the register keeps no journals. A line that is not handled is reported on standard error, and the status is then 1.
  */
 #include "../../include/kunchrol.h"
 #include "libc.h"
@@ -16,7 +17,7 @@ static char script[MAX_TEXT + 1];
 static uint8_t ids[MAX_LETTERS][4];
 static size_t id_count;
 
-static int is_made_again;
+static int is_made_again, is_late;
 
 /* the call, and with --again once more where memory was refused */
 #define CALL(code, call) \
@@ -38,12 +39,27 @@ static uint32_t cut_journals(int is_listed)
 	return code;
 }
 
-/* the call of an event, and once more where a journal was full */
+static uint32_t print_dialogues(void)
+{
+	uint32_t code = KUNCHROL_OK;
+	size_t len;
+
+	for (uint8_t shard = 0; shard < KUNCHROL_SHARDS && !code; shard++) {
+		CALL(code, kunchrol_dialogues(&hlr, shard, text, sizeof(text), &len));
+		if (!code)
+			printf("%.*s", (int)len, (const char *)text);
+	}
+	return code;
+}
+
+/* the call of an event, and once more where a journal was full; one that would do nothing is none */
 #define GIVE(code, call) \
 	do { \
 		CALL(code, call); \
 		if ((code) == KUNCHROL_JOURNAL && cut_journals(0) == KUNCHROL_OK) \
 			CALL(code, call); \
+		if ((code) == KUNCHROL_NONE) \
+			(code) = KUNCHROL_OK; \
 	} while (0)
 
 /* a new id that the register took: that of a Begin or a Continue which it sends */
@@ -79,6 +95,12 @@ static uint32_t print_sent(void)
 		printf("\n");
 		note_id(octets, len);
 	}
+}
+
+/* what an event sends, unless that waits for the end of the batch */
+static uint32_t print_if_due(void)
+{
+	return is_late ? KUNCHROL_OK : print_sent();
 }
 
 static int digit(char c)
@@ -118,20 +140,25 @@ static uint32_t give_frame(const char *from, const char *field)
 
 	if (len >= 0)
 		GIVE(code, kunchrol_frame(&hlr, (const uint8_t *)from, strlen(from), octets, (size_t)len));
-	return code ? code : print_sent();
+	return code ? code : print_if_due();
 }
 
-static uint32_t give_time(const char *ticks)
+static uint32_t give_clock(const char *ticks)
+{
+	uint32_t code;
+
+	GIVE(code, kunchrol_clock(&hlr, strtoull(ticks, NULL, 10)));
+	return code ? code : print_if_due();
+}
+
+static uint32_t give_expiries(void)
 {
 	uint32_t code = KUNCHROL_OK;
 
 	for (uint8_t shard = 0; shard < KUNCHROL_SHARDS && !code; shard++) {
-		if (ticks)
-			GIVE(code, kunchrol_clock(&hlr, shard, strtoull(ticks, NULL, 10)));
-		else
-			GIVE(code, kunchrol_expire(&hlr, shard));
+		GIVE(code, kunchrol_expire(&hlr, shard));
 		if (!code)
-			code = print_sent();
+			code = print_if_due();
 	}
 	return code;
 }
@@ -144,7 +171,7 @@ static uint32_t give_change(const char *imsi, const char *codes)
 		GIVE(code, kunchrol_codes(&hlr, (const uint8_t *)imsi, strlen(imsi), (const uint8_t *)codes, strlen(codes)));
 	else
 		GIVE(code, kunchrol_withdraw(&hlr, (const uint8_t *)imsi, strlen(imsi)));
-	return code ? code : print_sent();
+	return code ? code : print_if_due();
 }
 
 /* cuts the word off that begins a text, and returns what is behind it, if anything is */
@@ -162,11 +189,11 @@ static uint32_t give_line(char *line)
 	char *first = cut_word(line), *second = cut_word(first);
 
 	if (!strcmp(line, "W"))
-		return KUNCHROL_OK;
+		return print_sent();
 	if (!strcmp(line, "E"))
-		return give_time(NULL);
+		return give_expiries();
 	if (!strcmp(line, "C") && first)
-		return give_time(first);
+		return give_clock(first);
 	if (!strcmp(line, "X") && first)
 		return give_change(first, NULL);
 	if (!strcmp(line, "O") && second)
@@ -185,6 +212,51 @@ static uint32_t print_records(void)
 	for (size_t at = 0; !code && at < len; at++)
 		printf(at == 0 || text[at - 1] == '\n' ? "V %c" : "%c", text[at]);
 	return code;
+}
+
+/* the record that is found under an IMSI, which has to be that which is found under its MSISDN */
+static uint32_t print_record(char *imsi)
+{
+	uint8_t line[KUNCHROL_MAX_LINE], same[KUNCHROL_MAX_LINE];
+	char *msisdn = cut_word(imsi);
+	size_t len, same_len;
+	uint32_t code;
+
+	cut_word(msisdn);
+	CALL(code, kunchrol_record(&hlr, (const uint8_t *)imsi, strlen(imsi), line, 0, &len));
+	if (code != KUNCHROL_SMALL)
+		return code ? code : KUNCHROL_LINE;
+	CALL(code, kunchrol_record(&hlr, (const uint8_t *)imsi, strlen(imsi), line, len, &len));
+	if (code)
+		return code;
+	printf("R %.*s\n", (int)len, (const char *)line);
+	CALL(code, kunchrol_record_of_number(&hlr, (const uint8_t *)msisdn, strlen(msisdn), same, sizeof(same), &same_len));
+	return code ? code : same_len != len || memcmp(line, same, len) ? KUNCHROL_TWICE : KUNCHROL_OK;
+}
+
+/* each record, by the IMSIs of the records file that is saved */
+static uint32_t look_up_records(void)
+{
+	uint32_t code;
+	char *line, *end;
+	size_t len;
+
+	CALL(code, kunchrol_save(&hlr, text, sizeof(text) - 1, &len));
+	text[code ? 0 : len] = 0;
+	for (line = code ? NULL : strchr((char *)text, '\n'); line && line[1] && !code; line = end) {
+		end = strchr(line + 1, '\n');
+		code = print_record(line + 1);
+	}
+	return code;
+}
+
+static uint32_t list_all(void)
+{
+	uint32_t code = look_up_records();
+
+	if (!code)
+		code = print_dialogues();
+	return code ? code : cut_journals(1);
 }
 
 static long read_file(const char *path, void *room, size_t most)
@@ -221,7 +293,7 @@ static uint32_t play(size_t len)
 			return code;
 		}
 	}
-	return KUNCHROL_OK;
+	return print_sent();
 }
 
 int main(int argc, char **argv)
@@ -236,6 +308,7 @@ int main(int argc, char **argv)
 		return 2;
 	for (int word = 3; word < argc; word++) {
 		is_made_again |= !strcmp(argv[word], "--again");
+		is_late |= !strcmp(argv[word], "--late");
 		if (!strcmp(argv[word], "--none"))
 			journals = 0;
 	}
@@ -247,7 +320,7 @@ int main(int argc, char **argv)
 	code = play((size_t)script_len);
 	for (int word = 3; word < argc && !code; word++)
 		if (!strcmp(argv[word], "--list"))
-			code = cut_journals(1);
+			code = list_all();
 		else if (!strcmp(argv[word], "--save"))
 			code = print_records();
 	kunchrol_close(&hlr);

@@ -1,4 +1,4 @@
-/* The register as a program with a clock uses it: frames, seconds, and journals that are cut. */
+/* The register as a program with a clock uses it: frames, and ticks. It keeps no journals. */
 #ifndef HLR_H
 #define HLR_H
 
@@ -12,10 +12,10 @@ typedef void (*send_function)(const char *to, const uint8_t *octets, size_t len)
 /* Opens the register on a records file. The register's own number is put at `own`. A fault is told on standard error. */
 bool hlr_open(const char *path, send_function send, char own[KUNCHROL_MAX_DIGITS + 1]);
 
-/* Gives a frame. The number of the answer; where it is not KUNCHROL_OK the register is as it was. */
+/* Gives a frame, and sends what waits. The number of the answer; where it is not KUNCHROL_OK the register is as it was. */
 uint32_t hlr_frame(const char *from, const uint8_t *octets, size_t len);
 
-/* Sets the clock of each shard, and gives expiries until no timer is due. */
+/* Sets the clock, gives expiries until no timer is due, and sends what waits. */
 uint32_t hlr_time(uint64_t now);
 
 void hlr_close(void);

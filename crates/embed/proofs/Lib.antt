@@ -1,3 +1,6 @@
 pub mod ChangeLemmas
 pub mod ImsiLemmas
+pub mod KeepingLemmas
+pub mod LookupLemmas
 pub mod RegisterLemmas
+pub mod WaitingLemmas

@@ -1,17 +1,13 @@
 -- Events, from what a program has in its hands: octets, texts and numbers.
-use Rattle.std.specs.Prelude.{◌≡◌, ◌<◌, ◌≤◌, ◌^◌, ℕ, List}
+use Rattle.std.specs.Prelude.{◌≡◌, ◌<◌, ℕ, List}
 use Rattle.machine.specs.Events.{Codes, Withdraw}
-use Rattle.frames.specs.Octets.{RawEvent, RawFrame, RawClock, RawExpire, RawChange}
+use Rattle.frames.specs.Octets.{RawEvent, RawFrame, RawExpire, RawChange}
 use Rattle.hlr_types.specs.DigitTexts.{IsText}
 use Rattle.records.specs.Spelling.{IsCodes, IsImsiNumber}
 
 -- A frame of these octets from the address with the digits of this text.
 abbrev pub IsFrame : (from octets : List ℕ) → RawEvent → Type 0
 IsFrame from octets raw = (digits : List ℕ) × IsText from digits × (raw ≡ RawFrame digits octets)
-
--- A clock value of a shard: at most 2^62 ticks (profile).
-abbrev pub IsClock : (shard now : ℕ) → RawEvent → Type 0
-IsClock shard now raw = (shard < 16) × (now ≤ 2 ^ 62) × (raw ≡ RawClock shard now)
 
 -- The expiry of a shard's least timer that is due.
 abbrev pub IsExpiry : (shard : ℕ) → RawEvent → Type 0

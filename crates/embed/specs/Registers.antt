@@ -1,5 +1,5 @@
--- A register with the frames of its last event.
-use Rattle.std.specs.Prelude.{◌≡◌, List, [], refl}
+-- A register with the frames that wait to be sent.
+use Rattle.std.specs.Prelude.{◌≡◌, ◌++◌, ℕ, List, [], Bool, true, false, refl}
 use Rattle.std.specs.Coded.{Coded, code_by, coded×, coded_list}
 use Rattle.frames.specs.Octets.{RawEvent, RawOut}
 use Rattle.records.specs.File.{Contents}
@@ -7,12 +7,16 @@ use Rattle.records.specs.Loaded.{loaded_from}
 use Rattle.hlrcore.specs.Frames.{raw_out_code}
 use Rattle.shardlog.specs.declared.entry.Handled.{Handled}
 use Rattle.shardlog.specs.declared.keep.Keep.{Keep}
+use Rattle.shardlog.specs.declared.keep.Keep.TheVariants.{Nothing}
 use Rattle.wholenode.specs.Handling.{Takes, sent_of}
 use Rattle.wholenode.specs.Keeping.{NodeKeeps}
 use Rattle.wholenode.specs.Nodes.{NodeState, node_state_code}
 use Rattle.wholenode.specs.Opening.{BeginsWith}
+use Rattle.wholenode.specs.Ticking.{TicksAll}
+use Rattle.embed.specs.Keeping.{KeepsNothing}
+use Rattle.embed.specs.Lookups.{IsIdle}
 
--- The shards with their journals, and the frames of the last event that were not taken yet, in the order in which they are sent.
+-- The shards with their journals, and the frames that were not taken yet, in the order in which they are sent.
 pub record RegisterState : Type 0 where
   pub node : NodeState
   pub waiting : List RawOut
@@ -31,10 +35,24 @@ pub record Opens (contents : Contents) (keep : Keep) (r : RegisterState) : Type 
   pub begins : BeginsWith (loaded_from contents) keep r.node
   pub keeps : NodeKeeps r.node
   pub waiting : r.waiting ≡ []
+  pub nothing : keep ≡ Nothing → KeepsNothing r.node
 
--- The event is handled, and exactly what it sends waits: frames of the event before it that were not taken are dropped.
+-- The event is handled, and exactly what it sends waits after the frames that still wait.
 pub record Answers (before : RegisterState) (raw : RawEvent) (after : RegisterState) : Type 0 where
   pub handled : Handled
   pub takes : Takes before.node raw handled after.node
   pub keeps : NodeKeeps after.node
-  pub waiting : after.waiting ≡ sent_of handled
+  pub waiting : after.waiting ≡ before.waiting ++ sent_of handled
+  pub nothing : KeepsNothing before.node → KeepsNothing after.node
+
+-- The event is handled, or it does nothing, and nothing changes.
+abbrev pub Gives : (is_handled : Bool) → (before : RegisterState) → RawEvent → (after : RegisterState) → Type 0
+Gives true before raw after = (IsIdle before.node raw → ⊥) × Answers before raw after
+Gives false before raw after = IsIdle before.node raw × (after ≡ before)
+
+-- Each of the sixteen shards handles the clock value, one after the other, and the same frames wait.
+pub record SetsClocks (before : RegisterState) (now : ℕ) (after : RegisterState) : Type 0 where
+  pub ticks : TicksAll before.node now after.node
+  pub keeps : NodeKeeps after.node
+  pub waiting : after.waiting ≡ before.waiting
+  pub nothing : KeepsNothing before.node → KeepsNothing after.node

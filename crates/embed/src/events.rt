@@ -2,14 +2,14 @@
 
 ghost use Rattle.std.specs.Prelude.{◌≡◌, ℕ, List, IfOk, IfSome, Some, option_map};
 ghost use Rattle.frames.specs.Octets as frames;
+ghost use Rattle.hlr_types.specs.DigitTexts.{IsText};
 ghost use Rattle.hlrcore.specs.Events.{raw_event};
 ghost use Rattle.records.specs.Reading.{imsi_in};
 ghost use Rattle.records.specs.Spelling.{IsImsiNumber};
-ghost use Rattle.embed.specs.Events.{IsClock, IsCodesChange, IsExpiry, IsFrame, IsWithdrawal};
+ghost use Rattle.embed.specs.Events.{IsCodesChange, IsExpiry, IsFrame, IsWithdrawal};
 
-use hlr_types::{Digits, Imsi, Peer};
+use hlr_types::{Digits, Imsi, IsdnAddress, Peer};
 use hlrcore::{Change, RawEvent, ShardNumber};
-use machine::numbers::MAX_CLOCK;
 use records::Codes;
 use std::alloc::{AllocError, Global};
 
@@ -30,19 +30,6 @@ pub fn frame_event(
     let from = Peer::new(digits);
     let octets = octets.to_vec(alloc)?;
     Ok(Some(RawEvent::Frame { from, octets }))
-}
-
-/// A clock value of a shard. `None` if there is no such shard, or the value is greater than 2^62.
-pub fn clock_event(shard: u8, now: u64) -> Option<RawEvent>
-    ensures found { IfSome result (λ event. IsClock shard now (raw_event event)) }
-    ensures only { (raw : frames.RawEvent) → IsClock shard now raw
-        → option_map raw_event result ≡ Some raw }
-{
-    if now > MAX_CLOCK {
-        return None;
-    }
-    let shard = ShardNumber::new(shard)?;
-    Some(RawEvent::Clock { shard, now })
 }
 
 /// The expiry of a shard's least timer that is due. `None` if there is no such shard.
@@ -84,8 +71,9 @@ pub fn withdrawal_event(imsi: &[u8]) -> Option<RawEvent>
     Some(RawEvent::Change { imsi, change })
 }
 
+/// The IMSI of a text. `None` if the text is none.
 #[tactic(auto, using(crate::proofs::ImsiLemmas::imsi_found, crate::proofs::ImsiLemmas::imsi_only))]
-fn read_imsi(text: &[u8]) -> Option<Imsi>
+pub fn read_imsi(text: &[u8]) -> Option<Imsi>
     ensures found { IfSome result (λ imsi. IsImsiNumber text.now imsi) }
     ensures only { (digits : List ℕ) → IsImsiNumber text.now digits → result ≡ Some digits }
 {
@@ -97,4 +85,13 @@ fn imsi_in_text(text: &[u8]) -> Option<Imsi>
 {
     let digits = Digits::from_text(text)?;
     Imsi::from_digits(digits).ok()
+}
+
+/// The number of a text: 1 to 16 digits. `None` if the text is none.
+pub fn read_number(text: &[u8]) -> Option<IsdnAddress>
+    ensures found { IfSome result (λ number. IsText text.now number) }
+    ensures only { (digits : List ℕ) → IsText text.now digits → result ≡ Some digits }
+{
+    let digits = Digits::from_text(text)?;
+    Some(IsdnAddress::new(digits))
 }

@@ -1,13 +1,18 @@
-//! The register for a program that gives it one event at a time and takes from it what is to be sent: a node with the frames of
-//! its last event, and events from octets, texts and numbers.
+//! The register for a program that gives it one event at a time and takes from it what is to be sent: a node with the frames that
+//! wait, and events from octets, texts and numbers.
 #![tactic(auto)]
 
 mod events;
 mod fault;
+mod lookups;
 mod register;
 mod room;
+mod waiting;
 
-pub use events::{clock_event, codes_event, expiry_event, frame_event, withdrawal_event};
+pub use events::{
+    codes_event, expiry_event, frame_event, read_imsi, read_number, withdrawal_event,
+};
 pub use fault::RoomFault;
 pub use register::Register;
+pub use room::write_record;
 pub use wholenode::Keep;

@@ -1,46 +1,53 @@
-//! A register, with the frames of its last event.
+//! A register, with the frames that wait to be sent.
 
-ghost use Rattle.std.specs.Prelude.{◌≡◌, ◌⊎◌, ◌<◌, ℕ, List, Err, IfOk, IfErr, OnOk, OnErr, MatchResult, drop, length, option_map, slice_get, string_bytes};
+ghost use Rattle.std.specs.Prelude.{◌≡◌, ◌⊎◌, ◌<◌, ℕ, List, Err, IfOk, IfErr, OnOk, OnErr, MatchResult, drop, length, option_copied, option_map, slice_get, string_bytes};
+ghost use Rattle.machine.specs.Deadlines.{IsFirst};
 ghost use Rattle.records.specs.File.{Contents, File, IsBadLine, IsTwice};
 ghost use Rattle.hlrcore.specs.Events.{raw_event};
 ghost use Rattle.hlrcore.specs.Frames.{raw_out};
 ghost use Rattle.wholenode.specs.Handling.{Refuses};
+ghost use Rattle.wholenode.specs.Ticking.{RefusesTicks};
 ghost use Rattle.audit.specs.Saving.{Saves};
-ghost use Rattle.embed.specs.Registers.{Answers, Opens};
-ghost use Rattle.embed.specs.Journals.{CutsOff, ListsShard};
+ghost use Rattle.embed.specs.Keeping.{KeepsNothing};
+ghost use Rattle.embed.specs.Lookups.{IsTimerOf, record_by_number, record_of};
+ghost use Rattle.embed.specs.Registers.{Answers, Gives, Opens, SetsClocks};
+ghost use Rattle.embed.specs.Journals.{CutsOff, ListsOpen, ListsShard};
 ghost use Rattle.embed.specs.Rooms.{Writes};
 
 use crate::fault::RoomFault;
+use crate::lookups::{first_deadline, is_idle, record_by_number, record_of, shard_at};
 use crate::room::{check_room, write_text};
-use audit::{list_journal, save_records};
+use crate::waiting::Waiting;
+use audit::{list_dialogues, list_journal, save_records};
 use bumpalo::Bump;
-use hlrcore::{Out, OutList, RawEvent, ShardNumber};
-use records::{RecordsFault, read_records};
+use hlr_types::{Imsi, IsdnAddress};
+use hlrcore::{Out, RawEvent, ShardNumber};
+use records::{Record, RecordsFault, read_records};
 use std::alloc::{AllocError, Global};
 use std::marker::Model;
 use std::slice;
 use wholenode::{Cause, Keep, Node};
 
-/// The sixteen shards with their journals, an arena for one frame at a time, and the frames of the last event, the first of
-/// which, `taken` in number, were taken.
+/// The sixteen shards with their journals, an arena for one frame at a time, and the frames that wait.
 #[derive(Drop)]
 pub struct Register {
     alloc: Global,
     node: Node,
     bump: Bump,
-    sent: OutList,
-    taken: usize,
+    waiting: Waiting,
 }
 
 impl Model for Register {
-    ghost use Rattle.std.specs.Prelude.{drop};
     ghost use Rattle.embed.specs.Registers.{RegisterState, register, register_state_code};
+    ghost use Rattle.embed.specs.Waiting.{IsQueue, waiting_in};
 
     ghost Value = { RegisterState };
 
     ghost coded = { register_state_code };
 
-    ghost view = { λ r. register r.node (drop r.taken r.sent) };
+    ghost view = { λ r. register r.node (waiting_in r.waiting.taken r.waiting.lists.items) };
+
+    ghost invariant = { λ r. IsQueue r.waiting.taken r.waiting.lists.items };
 }
 
 impl Register {
@@ -72,27 +79,41 @@ impl Register {
             alloc,
             node,
             bump: Bump::new(alloc),
-            sent: OutList::none(),
-            taken: 0,
+            waiting: Waiting::none(alloc),
         })
     }
 
-    /// Handles one event. The frames that it sends are then to be read by `front` and taken by `drop_front`, one after the other;
-    /// frames of the event before it that were not taken are dropped. On error nothing changes, frames that wait still do, and the event is
-    /// dropped.
+    /// Handles one event, and puts the frames that it sends after those that wait. They are to be read by `front` and taken by
+    /// `drop_front`, one after the other. An event that would do nothing is not handled, and `false` is returned: an expiry where no timer
+    /// is due, or an operator's change of a subscriber without a record. Then, and on error, nothing changes, and the event is dropped.
     ///
     /// - `JournalFull`: the journal of its shard has 65,536 entries, until `cut`.
     /// - `NoRoom`: it is an operator's change for which the machine has no step: it would open a dialogue beside 4,096.
     /// - `Memory` and `ResetRefused`: out of memory.
-    pub fn handle(&mut self, raw: RawEvent) -> Result<(), Cause>
+    pub fn handle(&mut self, raw: RawEvent) -> Result<bool, Cause>
+        ensures gives { IfOk result (λ done. Gives done self.old (raw_event raw) self.new) }
+        ensures refused { IfErr result (λ cause. Refuses self.old.node (raw_event raw) cause) }
+        ensures err { OnErr result (self.new ≡ self.old) }
+    {
+        if is_idle(&self.node, &raw) {
+            return Ok(false);
+        }
+        self.take(raw)?;
+        Ok(true)
+    }
+
+    /// Handles one event.
+    fn take(&mut self, raw: RawEvent) -> Result<(), Cause>
         ensures answers { OnOk result (Answers self.old (raw_event raw) self.new) }
         ensures refused { IfErr result (λ cause. Refuses self.old.node (raw_event raw) cause) }
         ensures err { OnErr result (self.new ≡ self.old) }
     {
+        if self.waiting.reserve().is_err() {
+            return Err(Cause::Memory);
+        }
         match self.node.take(&mut self.bump, raw) {
             Ok(handled) => {
-                self.sent = handled.outs;
-                self.taken = 0;
+                self.waiting.append(handled.outs);
                 Ok(())
             }
             Err(cause) => {
@@ -103,11 +124,46 @@ impl Register {
         }
     }
 
+    /// Sets the clock of each of the sixteen shards, as one event for each of them in turn does, or of none. No frame is sent. On error
+    /// nothing changes.
+    ///
+    /// - `JournalFull`: a journal has 65,536 entries, until `cut`.
+    /// - `Memory`: out of memory, which can be only where journals are kept.
+    pub fn set_clocks(&mut self, now: u64) -> Result<(), Cause>
+        ensures sets { OnOk result (SetsClocks self.old now self.new) }
+        ensures refused { IfErr result (RefusesTicks self.old.node now) }
+        ensures never { KeepsNothing self.old.node → OnErr result ⊥ }
+        ensures err { OnErr result (self.new ≡ self.old) }
+    {
+        self.node.tick_all(now)
+    }
+
+    /// The first deadline of the timers of all shards, whether it is due or not; `None` if no timer runs.
+    pub fn first_deadline(&self) -> Option<u64>
+        ensures { IsFirst (IsTimerOf self.now.node) result }
+    {
+        first_deadline(&self.node)
+    }
+
+    /// The record of a subscriber.
+    pub fn record(&self, imsi: &Imsi) -> Option<&Record>
+        ensures { option_copied result ≡ record_of self.now.node imsi.now }
+    {
+        record_of(&self.node, imsi)
+    }
+
+    /// The record of the subscriber with this MSISDN.
+    pub fn record_by_number(&self, msisdn: &IsdnAddress) -> Option<&Record>
+        ensures { option_copied result ≡ record_by_number self.now.node msisdn.now }
+    {
+        record_by_number(&self.node, msisdn)
+    }
+
     /// The frame that is to be taken next. It still waits.
     pub fn front(&self) -> Option<&Out>
         ensures { option_map (λ out. raw_out out.now) result ≡ slice_get self.now.waiting 0 }
     {
-        self.sent.as_slice().get(self.taken)
+        self.waiting.front()
     }
 
     /// Drops the frame that is to be taken next, if one waits.
@@ -115,9 +171,7 @@ impl Register {
         ensures rest { self.new.waiting ≡ drop 1 self.old.waiting }
         ensures node { self.new.node ≡ self.old.node }
     {
-        if self.taken < self.sent.as_slice().len() {
-            self.taken += 1;
-        }
+        self.waiting.drop_front();
     }
 
     /// Cuts the journal of a shard off, and drops it. The states stay the same. The shard's state is copied, as the base of the next
@@ -153,9 +207,32 @@ impl Register {
     fn listing(&self, shard: ShardNumber) -> Result<String, AllocError>
         ensures { IfOk result (λ text. ListsShard self.now.node shard (string_bytes text)) }
     {
-        let shards = self.node.shards();
-        let place = usize::from(shard.number());
-        list_journal(self.alloc, slice::from_ref(&shards[place]))
+        let shard = shard_at(&self.node, shard.number());
+        list_journal(self.alloc, slice::from_ref(shard))
+    }
+
+    /// Writes the listing of a shard's open dialogues (`audit::list_dialogues`) at the front of the room, and returns the number of octets
+    /// written. On error the room is unchanged.
+    pub fn list_dialogues(&self, shard: ShardNumber, room: &mut [u8]) -> Result<usize, RoomFault>
+        ensures lists { IfOk result (λ count.
+            (text : List ℕ) × ListsOpen self.now.node shard text
+            × Writes text room.old count room.new) }
+        ensures small { (n : ℕ) → result ≡ Err (RoomFault.Small n)
+            → (text : List ℕ) × ListsOpen self.now.node shard text × (length room.old < n)
+            × (n ≡ length text) }
+        ensures err { OnErr result (room.new ≡ room.old) }
+    {
+        let lines = self.open_dialogues(shard)?;
+        check_room(room, lines.as_bytes())?;
+        Ok(write_text(room, lines.as_bytes()))
+    }
+
+    /// The listing of a shard's open dialogues.
+    fn open_dialogues(&self, shard: ShardNumber) -> Result<String, AllocError>
+        ensures { IfOk result (λ text. ListsOpen self.now.node shard (string_bytes text)) }
+    {
+        let shard = shard_at(&self.node, shard.number());
+        list_dialogues(self.alloc, slice::from_ref(shard))
     }
 
     /// Writes the records as a records file (`audit::save_records`) at the front of the room, and returns the number of octets

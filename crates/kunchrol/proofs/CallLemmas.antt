@@ -1,16 +1,16 @@
 -- What a call did, put together from what its parts did.
 use Rattle.std.proofs.Common.{◌≡◌, ℕ, refl, sym, subst, inr}
-use Rattle.std.specs.Prelude.{Option, None, Some, option_map}
+use Rattle.std.specs.Prelude.{Option, None, Some, option_map, true}
 use Rattle.frames.specs.Octets.{RawEvent}
-use Rattle.embed.specs.Registers.{RegisterState, Answers}
+use Rattle.embed.specs.Registers.{RegisterState, Gives}
 use Rattle.kunchrol.specs.Calls.{Takes}
 use Rattle.kunchrol.specs.Handles.{Held}
 use Rattle.kunchrol.specs.Refusals.{Refused, RefusesKind}
 
 -- The register that was taken out is put back after it took the event.
-pub takes : {was is : RegisterState} {raw : RawEvent} {before after : Held} → before ≡ Some was → after ≡ Some is → Answers was raw is
+pub takes : {was is : RegisterState} {raw : RawEvent} {before after : Held} → before ≡ Some was → after ≡ Some is → Gives true was raw is
     → Takes (λ r. r ≡ raw) before after
-takes {was} {is} {raw} b a h = record { was = was; is = is; before_is = b; after_is = a; raw = raw; asked = refl; answers = h }
+takes {was} {is} {raw} b a h = record { was = was; is = is; before_is = b; after_is = a; raw = raw; asked = refl; does = h.0; answers = h.1 }
 
 -- What takes an event takes one of each kind that the event is of.
 pub asked_for : {IsAsked : RawEvent → Type 0} {raw : RawEvent} {before after : Held} → IsAsked raw → Takes (λ r. r ≡ raw) before after
@@ -24,6 +24,7 @@ asked_for {IsAsked} asked t =
       raw = t.raw;
       asked = subst IsAsked
           (sym t.asked) asked;
+      does = t.does;
       answers = t.answers;
     }
 

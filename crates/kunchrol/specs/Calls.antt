@@ -1,5 +1,5 @@
 -- What a call does to what a handle has.
-use Rattle.std.specs.Prelude.{◌≡◌, ℕ, zero, suc, List, drop, length, slice_get, take, Some, None}
+use Rattle.std.specs.Prelude.{◌≡◌, ◌≤◌, ◌^◌, ℕ, zero, suc, List, drop, length, slice_get, take, Some, None}
 use Rattle.frames.specs.Octets.{RawEvent, RawOut}
 use Rattle.hlr_types.specs.DigitTexts.{text_of}
 use Rattle.records.specs.File.{Contents, File}
@@ -7,7 +7,8 @@ use Rattle.audit.specs.Saving.{Saves}
 use Rattle.shardlog.specs.declared.keep.Keep.{Keep}
 use Rattle.shardlog.specs.declared.keep.Keep.TheVariants.{Entries, Nothing}
 use Rattle.embed.specs.Journals.{CutsOff, ListsShard}
-use Rattle.embed.specs.Registers.{RegisterState, Opens, Answers}
+use Rattle.embed.specs.Lookups.{IsIdle}
+use Rattle.embed.specs.Registers.{RegisterState, Opens, Answers, SetsClocks}
 use Rattle.embed.specs.Rooms.{Writes}
 use Rattle.kunchrol.specs.Handles.{Held}
 
@@ -25,7 +26,8 @@ pub record OpensText (text : List ℕ) (keep : Keep) (before after : Held) : Typ
   pub after_is : after ≡ Some is
   pub opens : Opens contents keep is
 
--- The register takes an event of the kind asked for, by a step of the machine, and exactly the frames that it sends wait.
+-- The register takes an event of the kind asked for, which does something, by a step of the machine, and exactly the frames that it sends
+-- wait after those that still wait.
 pub record Takes (IsAsked : RawEvent → Type 0) (before after : Held) : Type 0 where
   pub was : RegisterState
   pub is : RegisterState
@@ -33,7 +35,17 @@ pub record Takes (IsAsked : RawEvent → Type 0) (before after : Held) : Type 0 
   pub after_is : after ≡ Some is
   pub raw : RawEvent
   pub asked : IsAsked raw
+  pub does : IsIdle was.node raw → ⊥
   pub answers : Answers was raw is
+
+-- The clock of each shard is set: at most 2^62 ticks (profile).
+pub record SetsAll (now : ℕ) (before after : Held) : Type 0 where
+  pub early : now ≤ 2 ^ 62
+  pub was : RegisterState
+  pub is : RegisterState
+  pub before_is : before ≡ Some was
+  pub after_is : after ≡ Some is
+  pub sets : SetsClocks was now is
 
 -- The first frame that waits is written into the rooms, the digits of its destination as text, and waits no more.
 pub record SendsFrame (before : Held) (to : List ℕ) (to_len : ℕ) (octets : List ℕ) (octets_len : ℕ) (after : Held) : Type 0 where

@@ -1,3 +1,4 @@
 pub mod Calls
 pub mod Handles
+pub mod Lookups
 pub mod Refusals

@@ -1,5 +1,5 @@
 -- Why a call does nothing, and the number that it answers then.
-use Rattle.std.specs.Prelude.{◌≡◌, ◌<◌, ◌≤◌, ◌⊎◌, ℕ, List, length, slice_get, Some, None}
+use Rattle.std.specs.Prelude.{◌≡◌, ◌<◌, ◌≤◌, ◌^◌, ◌⊎◌, ℕ, List, length, slice_get, Some, None}
 use Rattle.frames.specs.Octets.{RawEvent, RawOut}
 use Rattle.hlr_types.specs.DigitTexts.{text_of}
 use Rattle.records.specs.File.{IsBadLine, IsTwice}
@@ -8,10 +8,13 @@ use Rattle.records.specs.declared.fault.RecordsFault.TheVariants as file
 use Rattle.wholenode.specs.declared.fault.Cause.{Cause}
 use Rattle.wholenode.specs.declared.fault.Cause.TheVariants.{Memory, JournalFull, ResetRefused, NoRoom}
 use Rattle.wholenode.specs.Handling.{Refuses}
+use Rattle.wholenode.specs.Ticking.{RefusesTicks}
 use Rattle.audit.specs.Saving.{Saves}
 use Rattle.embed.specs.declared.fault.RoomFault.{RoomFault}
 use Rattle.embed.specs.declared.fault.RoomFault.TheVariants as room
 use Rattle.embed.specs.Journals.{ListsShard}
+use Rattle.embed.specs.Keeping.{KeepsNothing}
+use Rattle.embed.specs.Lookups.{IsIdle}
 use Rattle.embed.specs.Registers.{RegisterState}
 use Rattle.kunchrol.specs.Handles.{Held}
 
@@ -41,20 +44,37 @@ line_of_file (file.BadLine line) = line
 line_of_file (file.Twice line) = line
 line_of_file file.Memory = 0
 
--- The number where a text is not written into a room, and the length that is put.
+-- The number where a text is not written into a room, and the length that is put, if one is.
 abbrev pub code_of_room : RoomFault → ℕ
 code_of_room (room.Small _) = 2
 code_of_room room.Memory = 8
 
-abbrev pub len_of_room : RoomFault → ℕ
-len_of_room (room.Small len) = len
-len_of_room room.Memory = 0
+abbrev pub len_of_room : (before : ℕ) → RoomFault → ℕ
+len_of_room before (room.Small len) = len
+len_of_room before room.Memory = before
 
--- The register refuses the event, and this is the cause's number.
-pub record RefusesEvent (is : RegisterState) (raw : RawEvent) (code : ℕ) : Type 0 where
+-- The register does not handle the event for this cause, and the code is its number.
+pub record Hinders (is : RegisterState) (raw : RawEvent) (code : ℕ) : Type 0 where
   pub cause : Cause
   pub refuses : Refuses is.node raw cause
   pub code_is : code ≡ code_of cause
+
+-- The event does nothing (1), or the register does not handle it.
+abbrev pub RefusesEvent : RegisterState → RawEvent → (code : ℕ) → Type 0
+RefusesEvent is raw code = (code ≡ 1) × IsIdle is.node raw ⊎ Hinders is raw code
+
+-- No clock is set for this cause, which is none if no journals are kept.
+pub record RefusesClocks (is : RegisterState) (now code : ℕ) : Type 0 where
+  pub cause : Cause
+  pub refuses : RefusesTicks is.node now cause
+  pub kept : KeepsNothing is.node → ⊥
+  pub code_is : code ≡ code_of cause
+
+-- No clock is set: the value is greater than 2^62 (3), or the handle is closed, or the register does not handle it.
+abbrev pub RefusesClock : (now : ℕ) → Held → (code : ℕ) → Type 0
+RefusesClock now held code =
+    (code ≡ 3) × (2 ^ 62 < now)
+    ⊎ (now ≤ 2 ^ 62) × (IsClosed held code ⊎ ((is : RegisterState) × (held ≡ Some is) × RefusesClocks is now code))
 
 -- The handle's register refuses it, or there is none.
 abbrev pub Refused : RawEvent → Held → (code : ℕ) → Type 0

@@ -6,25 +6,36 @@
 
 mod code;
 mod handle;
+mod lookups;
 mod next;
 mod room;
 
-ghost use Rattle.std.specs.Prelude.{◌≡◌, ◌≢◌, length, None, Some};
+ghost use Rattle.std.specs.Prelude.{◌≡◌, ◌≢◌, length, true, None, Some};
 ghost use Rattle.hlrcore.specs.Events.{raw_event};
-ghost use Rattle.embed.specs.Events.{IsFrame, IsClock, IsExpiry, IsCodesChange, IsWithdrawal};
-ghost use Rattle.embed.specs.Registers.{Answers};
-ghost use Rattle.kunchrol.specs.Calls.{OpensText, Takes, SendsFrame, SavesRecords, CutsJournal, keep_of};
-ghost use Rattle.kunchrol.specs.Refusals.{Refused, RefusesCut, RefusesEvent, RefusesKind, RefusesNext, RefusesSave, RefusesText};
+ghost use Rattle.embed.specs.Events.{IsFrame, IsExpiry, IsCodesChange, IsWithdrawal};
+ghost use Rattle.embed.specs.Registers.{Gives, SetsClocks};
+ghost use Rattle.kunchrol.specs.Calls.{OpensText, Takes, SetsAll, SendsFrame, SavesRecords, CutsJournal, keep_of};
+ghost use Rattle.kunchrol.specs.Refusals.{Refused, RefusesClock, RefusesClocks, RefusesCut, RefusesEvent, RefusesKind, RefusesNext, RefusesSave, RefusesText};
 
-use code::{ARGUMENT, CLOSED, MEMORY, OK, OPEN, code_of_cause, code_of_records, line_of};
-use embed::{
-    Keep, Register, clock_event, codes_event, expiry_event, frame_event, withdrawal_event,
-};
+use code::{ARGUMENT, CLOSED, MEMORY, NONE, OK, OPEN, code_of_cause, code_of_records, line_of};
+use embed::{Keep, Register, codes_event, expiry_event, frame_event, withdrawal_event};
 pub use handle::Handle;
 use hlrcore::{RawEvent, ShardNumber};
+pub use lookups::{
+    kunchrol_deadline, kunchrol_dialogues, kunchrol_record, kunchrol_record_of_number,
+};
+use machine::numbers::MAX_CLOCK;
 use next::next_frame;
 use room::{cut_journal, save_records};
 use std::alloc::Global;
+
+/// The release: 65,536 times its first number, 256 times its second, and its third. This is 0.1.0.
+#[unsafe(no_mangle)]
+pub extern "C" fn kunchrol_version() -> u32
+    ensures { result ≡ 256 }
+{
+    0x00_01_00
+}
 
 /// Opens a register on the text of a records file. It keeps journals, or with `journals` 0 none. If a line has a fault its number is put at
 /// `line`, else 0.
@@ -91,20 +102,36 @@ pub extern "C" fn kunchrol_frame(
     }
 }
 
-/// Gives a clock value of a shard.
+/// Sets the clock of each shard, or of none.
 #[unsafe(no_mangle)]
-pub extern "C" fn kunchrol_clock(alloc: Global, handle: &mut Handle, shard: u8, now: u64) -> u32
-    ensures handled { result ≡ 0 → Takes (IsClock shard now) handle.old.value handle.new.value }
-    ensures why { result ≢ 0 → RefusesKind (IsClock shard now) handle.old.value result }
+pub extern "C" fn kunchrol_clock(alloc: Global, handle: &mut Handle, now: u64) -> u32
+    ensures set { result ≡ 0 → SetsAll now handle.old.value handle.new.value }
+    ensures why { result ≢ 0 → RefusesClock now handle.old.value result }
     ensures refused { result ≢ 0 → handle.new.value ≡ handle.old.value }
 {
-    match clock_event(shard, now) {
-        Some(event) => give(alloc, handle, event),
-        None => ARGUMENT,
+    if now > MAX_CLOCK {
+        return ARGUMENT;
+    }
+    let Some(mut register) = handle.take(alloc) else {
+        return CLOSED;
+    };
+    let code = set_clocks(&mut register, now);
+    handle.put(register);
+    code
+}
+
+fn set_clocks(register: &mut Register, now: u64) -> u32
+    ensures set { result ≡ 0 → SetsClocks register.old now register.new }
+    ensures why { result ≢ 0 → RefusesClocks register.old now result }
+    ensures refused { result ≢ 0 → register.new ≡ register.old }
+{
+    match register.set_clocks(now) {
+        Ok(()) => OK,
+        Err(refused) => code_of_cause(refused),
     }
 }
 
-/// Gives the expiry of a shard's least timer that is due.
+/// Gives the expiry of a shard's least timer that is due, if one is.
 #[unsafe(no_mangle)]
 pub extern "C" fn kunchrol_expire(alloc: Global, handle: &mut Handle, shard: u8) -> u32
     ensures handled { result ≡ 0 → Takes (IsExpiry shard) handle.old.value handle.new.value }
@@ -117,7 +144,7 @@ pub extern "C" fn kunchrol_expire(alloc: Global, handle: &mut Handle, shard: u8)
     }
 }
 
-/// Gives new teleservice codes for a subscriber: the texts of an IMSI and of codes, as a records file has them.
+/// Gives new teleservice codes for a subscriber who has a record: the texts of an IMSI and of codes, as a records file has them.
 #[unsafe(no_mangle)]
 pub extern "C" fn kunchrol_codes(
     alloc: Global,
@@ -138,7 +165,7 @@ pub extern "C" fn kunchrol_codes(
     }
 }
 
-/// Ends a subscription.
+/// Ends the subscription of a subscriber who has a record.
 #[unsafe(no_mangle)]
 pub extern "C" fn kunchrol_withdraw(alloc: Global, handle: &mut Handle, imsi: &[u8]) -> u32
     ensures handled { result ≡ 0 → Takes (IsWithdrawal imsi.now) handle.old.value handle.new.value }
@@ -166,12 +193,13 @@ fn give(alloc: Global, handle: &mut Handle, event: RawEvent) -> u32
 }
 
 fn answer(register: &mut Register, event: RawEvent) -> u32
-    ensures handled { result ≡ 0 → Answers register.old (raw_event event) register.new }
+    ensures handled { result ≡ 0 → Gives true register.old (raw_event event) register.new }
     ensures why { result ≢ 0 → RefusesEvent register.old (raw_event event) result }
     ensures refused { result ≢ 0 → register.new ≡ register.old }
 {
     match register.handle(event) {
-        Ok(()) => OK,
+        Ok(true) => OK,
+        Ok(false) => NONE,
         Err(cause) => code_of_cause(cause),
     }
 }
@@ -192,6 +220,9 @@ pub extern "C" fn kunchrol_next(
     ensures why { result ≢ 0 → RefusesNext handle.old.value (length to.old)
         (length octets.old) to_len.new octets_len.new result }
     ensures refused { result ≢ 0 → handle.new.value ≡ handle.old.value }
+    ensures rooms { result ≢ 0 → (to.new ≡ to.old) × (octets.new ≡ octets.old) }
+    ensures lens { result ≢ 0 → result ≢ 2
+        → (to_len.new ≡ to_len.old) × (octets_len.new ≡ octets_len.old) }
 {
     let Some(mut register) = handle.take(alloc) else {
         return CLOSED;
@@ -214,6 +245,7 @@ pub extern "C" fn kunchrol_save(
     ensures why { result ≢ 0 → RefusesSave handle.old.value (length room.old) len.new result }
     ensures unchanged { handle.new.value ≡ handle.old.value }
     ensures refused { result ≢ 0 → room.new ≡ room.old }
+    ensures len { result ≢ 0 → result ≢ 2 → len.new ≡ len.old }
 {
     let Some(register) = handle.take(alloc) else {
         return CLOSED;
@@ -237,6 +269,7 @@ pub extern "C" fn kunchrol_cut(
     ensures why { result ≢ 0 → RefusesCut shard handle.old.value (length room.old) len.new result }
     ensures refused { result ≢ 0 → handle.new.value ≡ handle.old.value }
     ensures room { result ≢ 0 → room.new ≡ room.old }
+    ensures len { result ≢ 0 → result ≢ 2 → len.new ≡ len.old }
 {
     let Some(shard) = ShardNumber::new(shard) else {
         return ARGUMENT;

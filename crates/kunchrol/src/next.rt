@@ -24,6 +24,9 @@ pub(crate) fn next_frame(
         ⊎ (result ≡ 2) × TooSmall register.old (length to.old)
         (length octets.old) to_len.new octets_len.new }
     ensures refused { result ≢ 0 → register.new ≡ register.old }
+    ensures rooms { result ≢ 0 → (to.new ≡ to.old) × (octets.new ≡ octets.old) }
+    ensures lens { result ≢ 0 → result ≢ 2
+        → (to_len.new ≡ to_len.old) × (octets_len.new ≡ octets_len.old) }
 {
     let Some(out) = register.front() else {
         return NONE;

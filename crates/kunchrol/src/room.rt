@@ -1,14 +1,19 @@
 //! Texts in the caller's room.
 
-ghost use Rattle.std.specs.Prelude.{◌≡◌, ◌≢◌, ℕ, List, length};
+ghost use Rattle.std.specs.Prelude.{◌≡◌, ◌≢◌, ℕ, List, Some, length, option_copied};
 ghost use Rattle.audit.specs.Saving.{Saves};
-ghost use Rattle.embed.specs.Journals.{CutsOff, ListsShard};
+ghost use Rattle.embed.specs.Journals.{CutsOff, ListsOpen, ListsShard};
 ghost use Rattle.embed.specs.Rooms.{Writes};
+ghost use Rattle.records.specs.Subscriber.{Subscriber};
+ghost use Rattle.records.specs.Written.{record_line};
+ghost use Rattle.kunchrol.specs.Lookups.{RefusesFound};
 ghost use Rattle.kunchrol.specs.Refusals.{RefusesRoom, code_of_room, len_of_room};
 
-use crate::code::{MEMORY, OK, SMALL};
-use embed::{Register, RoomFault};
+use crate::code::{MEMORY, NONE, OK, SMALL};
+use embed::{Register, RoomFault, write_record};
 use hlrcore::ShardNumber;
+use records::{Record, Version};
+use std::alloc::Global;
 
 pub(crate) fn save_records(register: &Register, room: &mut [u8], len: &mut usize) -> u32
     ensures saved { result ≡ 0 → (text : List ℕ) × Saves register.now.node.shards text
@@ -16,6 +21,7 @@ pub(crate) fn save_records(register: &Register, room: &mut [u8], len: &mut usize
     ensures why { result ≢ 0 → RefusesRoom (Saves register.now.node.shards)
         (length room.old) len.new result }
     ensures refused { result ≢ 0 → room.new ≡ room.old }
+    ensures len { result ≢ 0 → result ≢ 2 → len.new ≡ len.old }
 {
     match register.save(room) {
         Ok(count) => {
@@ -39,6 +45,7 @@ pub(crate) fn cut_journal(
         (length room.old) len.new result }
     ensures refused { result ≢ 0 → register.new ≡ register.old }
     ensures room { result ≢ 0 → room.new ≡ room.old }
+    ensures len { result ≢ 0 → result ≢ 2 → len.new ≡ len.old }
 {
     match register.cut_listed(shard, room) {
         Ok(count) => {
@@ -49,19 +56,64 @@ pub(crate) fn cut_journal(
     }
 }
 
-/// Puts the length that is needed.
+/// Writes a record that was found.
+pub(crate) fn write_found(
+    alloc: Global,
+    found: Option<&Record>,
+    room: &mut [u8],
+    len: &mut usize,
+) -> u32
+    ensures written { result ≡ 0 → (s : Subscriber) × (option_copied found.entry ≡ Some s)
+        × Writes (record_line Version.Two s) room.old len.new room.new }
+    ensures why { result ≢ 0 → RefusesFound (option_copied found.entry) (length room.old) len.new result }
+    ensures refused { result ≢ 0 → room.new ≡ room.old }
+    ensures len { result ≢ 0 → result ≢ 2 → len.new ≡ len.old }
+{
+    let Some(record) = found else {
+        return NONE;
+    };
+    match write_record(alloc, record, room) {
+        Ok(count) => {
+            *len = count;
+            OK
+        }
+        Err(fault) => refused(fault, len),
+    }
+}
+
+pub(crate) fn list_dialogues(
+    register: &Register,
+    shard: ShardNumber,
+    room: &mut [u8],
+    len: &mut usize,
+) -> u32
+    ensures listed { result ≡ 0 → (text : List ℕ) × ListsOpen register.now.node shard text
+        × Writes text room.old len.new room.new }
+    ensures why { result ≢ 0 → RefusesRoom (ListsOpen register.now.node shard)
+        (length room.old) len.new result }
+    ensures refused { result ≢ 0 → room.new ≡ room.old }
+    ensures len { result ≢ 0 → result ≢ 2 → len.new ≡ len.old }
+{
+    match register.list_dialogues(shard, room) {
+        Ok(count) => {
+            *len = count;
+            OK
+        }
+        Err(fault) => refused(fault, len),
+    }
+}
+
+/// Puts the length that is needed, if the room is too small.
 fn refused(fault: RoomFault, len: &mut usize) -> u32
     ensures code { result ≡ code_of_room fault }
-    ensures len { len.new ≡ len_of_room fault }
+    ensures len { len.new ≡ len_of_room len.old fault }
+    ensures kept { result ≢ 2 → len.new ≡ len.old }
 {
     match fault {
         RoomFault::Small(needed) => {
             *len = needed;
             SMALL
         }
-        RoomFault::Memory => {
-            *len = 0;
-            MEMORY
-        }
+        RoomFault::Memory => MEMORY,
     }
 }

@@ -6,3 +6,4 @@ pub mod RunLemmas
 pub mod CutLemmas
 pub mod NamedLemmas
 pub mod RoomLemmas
+pub mod TickLemmas

@@ -5,3 +5,4 @@ pub mod Opening
 pub mod Reading
 pub mod Handling
 pub mod Room
+pub mod Ticking

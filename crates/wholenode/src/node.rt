@@ -1,19 +1,20 @@
 //! The sixteen shards of a register, in one thread.
 
-ghost use Rattle.std.specs.Prelude.{◌≡◌, ◌≢◌, ◌<◌, [], map, Err, IfOk, IfErr, OnErr};
+ghost use Rattle.std.specs.Prelude.{◌≡◌, ◌≢◌, ◌<◌, [], map, Err, IfOk, IfErr, OnErr, OnOk};
 ghost use Rattle.frames.specs.Octets.{IsEvent, RawClock, RawExpire};
 ghost use Rattle.hlrcore.specs.Events.{event_of, raw_event, raw_of};
 ghost use Rattle.wholenode.specs.Nodes.{whole};
 ghost use Rattle.wholenode.specs.Opening.{BeginsWith};
 ghost use Rattle.wholenode.specs.Handling.{Cuts, Drops, IsRun, Refuses, Runs, Stops, Takes, sent_of};
 ghost use Rattle.wholenode.specs.Keeping.{NodeKeeps};
+ghost use Rattle.wholenode.specs.Ticking.{RefusesTicks, TicksAll};
 
 use crate::fault::{Cause, NodeFault, refusal, unread};
 use crate::opening::opening_shards;
 use bumpalo::Bump;
 use hlrcore::{Event, RawEvent, ShardNumber, addressee_of};
 use records::{Directory, Loaded};
-use shardlog::{Epoch, Handled, Keep, Shard};
+use shardlog::{Epoch, Handled, Keep, Shard, tick_all};
 use std::alloc::{AllocError, Global};
 use std::marker::Model;
 use std::sync::Arc;
@@ -172,6 +173,22 @@ impl Node {
         let shard = &mut self.shards[place];
         match shard.tick(number, now) {
             Ok(ticked) => Ok(ticked),
+            Err(why) => Err(refusal(why)),
+        }
+    }
+
+    /// Handles a clock value of each of the sixteen shards, in the order of their numbers. On error nothing changes, in no shard.
+    ///
+    /// - `JournalFull`: a journal has 65,536 entries, until `cut`.
+    /// - `Memory`: out of memory, which can be only where entries are kept.
+    pub fn tick_all(&mut self, now: u64) -> Result<(), Cause>
+        ensures ticks { OnOk result (TicksAll self.old now self.new) }
+        ensures refused { IfErr result (RefusesTicks self.old now) }
+        ensures err { OnErr result (self.new ≡ self.old) }
+        ensures keeps { NodeKeeps self.new }
+    {
+        match tick_all(&mut self.shards, now) {
+            Ok(()) => Ok(()),
             Err(why) => Err(refusal(why)),
         }
     }
