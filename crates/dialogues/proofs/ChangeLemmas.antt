@@ -134,7 +134,7 @@ pub same_joined : (t t' : OpenTransactions) (lists : InvocationLists) (talks tal
     → ((q : List ℕ) → at t q ≢ None → talk_of talks' q ≡ talk_of talks q)
     → joined t' lists talks' ≡ joined t lists talks
 same_joined t t' lists talks talks' e kept = ap (λ (s : OpenTransactions). joined s lists talks') e
-    ∙ (λ i. record { shard = t.shard; next = t.next; open_ones = same_ones i })
+    ∙ (λ i. record { shard = t.shard; supply = t.supply; open_ones = same_ones i })
   where
     by : (q : List ℕ) (o : Option Transaction) → (o ≢ None → talk_of talks' q ≡ talk_of talks q)
         → option_map (dialogue_from (talk_of talks' q) (invocations_at lists q)) o ≡ option_map (dialogue_from (talk_of talks q) (invocations_at lists q)) o

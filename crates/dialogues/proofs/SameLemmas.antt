@@ -66,13 +66,13 @@ all_same m n ids is are at = map.same_map octets_total octets_exact m n (λ q.
           nothing m is ∙ sym (nothing n are)
     ] refl)
 
-pub same_dialogues : (a b : OpenDialogues) (ids others : List (List ℕ)) (r : Bool) → a.shard ≡ b.shard → a.next ≡ b.next
+pub same_dialogues : (a b : OpenDialogues) (ids others : List (List ℕ)) (r : Bool) → a.shard ≡ b.shard → a.supply ≡ b.supply
     → ids ≡ map.keys a.open_ones → others ≡ map.keys b.open_ones → ids ≡ others
     → Decides r ((k : ℕ) → k < length ids → dialogues_of a (get_or ids k []) ≡ dialogues_of b (get_or ids k [])) → Decides r (a ≡ b)
 unfolding dialogues_of
-same_dialogues a b ids others r shard next mine theirs same decides = (
+same_dialogues a b ids others r shard supply mine theirs same decides = (
   (λ h.
       let open_ones = all_same a.open_ones b.open_ones ids mine (same ∙ theirs) (decides.0 h) in
-      λ i. record { shard = shard i; next = next i; open_ones = open_ones i }),
+      λ i. record { shard = shard i; supply = supply i; open_ones = open_ones i }),
   λ h. decides.1 (λ k low. ap (λ (d : OpenDialogues). dialogues_of d (get_or ids k [])) h),
 )

@@ -12,7 +12,7 @@ use Rattle.machine.specs.Keys.{put, same}
 use Rattle.machine.specs.State.{Invocation, Transaction, Dialogue}
 use Rattle.machine_laws.proofs.Keys.{same_is, same_not, same_refl}
 use Rattle.tidalloc.specs.LiveIds.{slot_of}
-use Rattle.tsl.specs.Transactions.{OpenTransactions, Begins, HaveOwnSlots, MayBegin, at, closed, none_open, slot_if_open, count, with_transaction}
+use Rattle.tsl.specs.Transactions.{OpenTransactions, Begins, HaveOwnSlots, MayBegin, at, closed, next_of, none_open, slot_if_open, count, with_transaction}
 use Rattle.csl.specs.Tables.{InvocationLists, invocations_at, put_list, list_in}
 use Rattle.dialogues.specs.declared.talk.Talk.{Talk}
 use Rattle.dialogues.specs.Dialogues.{OpenDialogues, IsFresh, dialogues_of}
@@ -35,6 +35,7 @@ tied_none shard = record {
 pub fresh_none : (shard : ℕ) → IsFresh shard (joined (none_open shard) finite.empty [])
 fresh_none shard = record {
   of_shard = refl;
+  never_used = refl;
   none_open = fun_ext (λ q. dialogues-joined (none_open shard) finite.empty [] q ∙ ap (option_map (dialogue_at finite.empty [] q)) (at_none shard q));
 }
 
@@ -103,10 +104,10 @@ open_when_begun s t' id x b = ap (λ (u : OpenTransactions). at u id) b.after �
     ∙ ap (λ c. cond c (Some x) (at s id)) (same_refl id)
 
 -- the one that begins has the id that was next
-pub begun_next : (t s t' : OpenTransactions) (id begun : List ℕ) (x : Transaction) → t.next ≡ Some id → s ≡ record t { room = s.room } → Begins s begun x t'
+pub begun_next : (t s t' : OpenTransactions) (id begun : List ℕ) (x : Transaction) → next_of t ≡ Some id → s ≡ record t { room = s.room } → Begins s begun x t'
     → id ≡ begun
 begun_next t s t' id begun x next more b =
-    let known : Some begun ≡ Some id = sym b.was_next ∙ ap (λ (u : OpenTransactions). u.next) more ∙ next in cc
+    let known : Some begun ≡ Some id = sym b.was_next ∙ ap next_of more ∙ next in cc
 
 pub slot_there : (t : OpenTransactions) (id : List ℕ) (x : Transaction) (o : Option ℕ) → at t id ≡ Some x → o ≡ slot_if_open t id → o ≡ Some (slot_of id)
 slot_there t id x o there e = e ∙ ap (λ (a : Option Transaction). cond (is_some a) (Some (slot_of id)) None) there

@@ -42,7 +42,7 @@ remade {X} {Y} f m = map.from_sorted (lists.map (λ (e : List ℕ × X). (e.0, f
 -- The three tables joined.
 abbrev pub joined : OpenTransactions → InvocationLists → List Talk → OpenDialogues
 joined t lists talks =
-    record { shard = t.shard; next = t.next; open_ones = remade (dialogue_at lists talks) t.open_ones }
+    record { shard = t.shard; supply = t.supply; open_ones = remade (dialogue_at lists talks) t.open_ones }
 
 -- Each open transaction has a subscriber and a kind, only open ones have invocations, all ids are of the shard, and at most
 -- 4,096 are open.

@@ -8,7 +8,7 @@ ghost use Rattle.machine.specs.Effect.{effect};
 ghost use Rattle.machine.specs.Keys.{put};
 ghost use Rattle.machine.specs.State.{State, IsFull, IsIdOf};
 ghost use Rattle.machine.specs.Turns.{Expiry};
-ghost use Rattle.tidalloc.specs.LiveIds.{next_use};
+ghost use Rattle.tidalloc.specs.LiveIds.{after_freeing, after_taking, next_id, next_use};
 ghost use Rattle.tsl.specs.Received.{destination_of};
 ghost use Rattle.csl.specs.Effects.{IsEffect, offered};
 ghost use Rattle.csl.specs.Seen.{heard, told_of};
@@ -48,7 +48,7 @@ impl Model for Dialogues {
 }
 
 impl Dialogues {
-    ghost use Rattle.dialogues.specs.Dialogues.{IsFresh, IsNew, activated, count, dialogues_of, invocations_in, gone_on, forgotten};
+    ghost use Rattle.dialogues.specs.Dialogues.{IsFresh, IsNew, KeepsIds, activated, beginning_after, count, dialogues_of, invocations_in, gone_on, forgotten, next_of};
     ghost use Rattle.dialogues.specs.Expiring.{HasDialogues, expiry_turn};
     ghost use Rattle.dialogues.specs.Looking.{looked};
     ghost use Rattle.dialogues.specs.Seen.{dialogue_with};
@@ -128,7 +128,7 @@ impl Dialogues {
 
     /// The id for the next dialogue that opens. `None` exactly if the shard is full.
     pub fn next_id(&self) -> Option<Tid>
-        ensures value { result ≡ self.now.next }
+        ensures value { result ≡ next_of self.now }
         ensures is_new { IfSome result (IsNew self.now) }
         ensures full { (S : State) → S.dialogues ≡ dialogues_of self.now
             → IsNone result ↔ IsFull S self.now.shard }
@@ -150,7 +150,7 @@ impl Dialogues {
     pub fn is_full(&self) -> bool
         ensures full { (S : State) → S.dialogues ≡ dialogues_of self.now
             → IsTrue result ↔ IsFull S self.now.shard }
-        ensures room { IsTrue result ↔ (self.now.next ≡ None) }
+        ensures room { IsTrue result ↔ (next_of self.now ≡ None) }
     {
         self.next_id().is_none()
     }
@@ -180,6 +180,22 @@ impl Dialogues {
         self.invocations.list(id)
     }
 
+    /// Whether dialogues here and there open under the same ids, for ever, if the same ones close.
+    pub fn goes_on_as(&self, other: &Dialogues) -> bool
+        ensures { IsTrue result ↔ (self.now.supply ≡ other.now.supply) }
+    {
+        self.transactions.goes_on_as(&other.transactions)
+    }
+
+    /// From now on the first id of a slot that was never used has the generation after this one, so that a register that is started again can
+    /// take other ids than before.
+    pub fn begin_after(&mut self, generation: u16)
+        requires { generation < 4096 }
+        ensures { self.new ≡ beginning_after self.old generation }
+    {
+        self.transactions.begin_after(generation);
+    }
+
     /// An equal copy.
     pub fn try_copy(&self) -> Result<Self, AllocError>
         ensures { IfOk result (λ dialogues. dialogues ≡ self.now) }
@@ -195,6 +211,7 @@ impl Dialogues {
     pub fn close(&mut self, id: Tid)
         requires { dialogues_of self.old id ≢ None }
         ensures closed { dialogues_of self.new ≡ put (dialogues_of self.old) id None }
+        ensures freed { self.new.supply ≡ after_freeing self.old.supply id }
         ensures shard { self.new.shard ≡ self.old.shard }
     {
         close(&mut self.transactions, &mut self.invocations, id);
@@ -202,11 +219,12 @@ impl Dialogues {
 
     /// Opens a dialogue under the next id, and invokes the ids 1 to `invokes` in it. On error nothing changes.
     pub fn open(&mut self, dialogue: &Dialogue, invokes: u8, now: u64) -> Result<Tid, AllocError>
-        requires room { self.old.next ≢ None }
+        requires room { next_of self.old ≢ None }
         requires some { 0 < invokes }
         requires most { invokes < 128 }
         requires early { now ≤ 2 ^ 62 }
-        ensures next { IfOk result (λ id. self.old.next ≡ Some id) }
+        ensures next { IfOk result (λ id. next_of self.old ≡ Some id) }
+        ensures used { OnOk result (self.new.supply ≡ after_taking self.old.supply) }
         ensures opened { IfOk result (λ id. dialogues_of self.new
             ≡ put (dialogues_of self.old) id
             (Some (dialogue_with (first_invoked now (invokes - 1)) dialogue.now))) }
@@ -234,6 +252,11 @@ impl Dialogues {
         requires most { invokes < 128 }
         requires early { now ≤ 2 ^ 62 }
         ensures next { IfOk result (λ next. next ≡ next_use id) }
+        ensures other { IfOk result (λ next. next ≢ id) }
+        ensures after { IfOk result (λ next. next_id self.old.shard
+            (after_freeing self.old.supply id) ≡ Some next) }
+        ensures used { OnOk result (self.new.supply
+            ≡ after_taking (after_freeing self.old.supply id)) }
         ensures replaced { IfOk result (λ next. dialogues_of self.new
             ≡ put (put (dialogues_of self.old) id None) next
             (Some (dialogue_with (first_invoked now (invokes - 1)) dialogue.now))) }
@@ -252,7 +275,7 @@ impl Dialogues {
         requires { dialogues_of self.old id ≢ None }
         ensures ok { OnOk result (dialogues_of self.new ≡ put (dialogues_of self.old) id
             (option_map (gone_on left.now) (dialogues_of self.old id))) }
-        ensures shard { self.new.shard ≡ self.old.shard }
+        ensures ids { KeepsIds self.old self.new }
         ensures err { OnErr result (self.new ≡ self.old) }
     {
         self.invocations.leave(id, left)?;
@@ -264,7 +287,7 @@ impl Dialogues {
         requires { dialogues_of self.old id ≢ None }
         ensures active { dialogues_of self.new ≡ put (dialogues_of self.old) id
             (option_map (activated peer remote) (dialogues_of self.old id)) }
-        ensures shard { self.new.shard ≡ self.old.shard }
+        ensures ids { KeepsIds self.old self.new }
     {
         self.transactions.set(id, peer, remote);
     }
@@ -273,7 +296,7 @@ impl Dialogues {
     pub fn forget_one(&mut self, id: Tid, invoke: i8)
         ensures forgotten { dialogues_of self.new ≡ put (dialogues_of self.old) id
             (option_map (forgotten invoke) (dialogues_of self.old id)) }
-        ensures shard { self.new.shard ≡ self.old.shard }
+        ensures ids { KeepsIds self.old self.new }
     {
         self.invocations.forget_one(id, invoke);
     }

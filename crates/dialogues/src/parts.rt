@@ -2,7 +2,7 @@
 
 ghost use Rattle.std.specs.Prelude.{◌≡◌, ◌≢◌, ◌<◌, ◌≤◌, ℕ, [], None, IfSome, OnOk, length, slice_index_or, slice_set};
 ghost use Rattle.tidalloc.specs.LiveIds.{slot_of};
-ghost use Rattle.tsl.specs.Transactions.{Begins, HaveOwnSlots, at, closed, count, transaction_of};
+ghost use Rattle.tsl.specs.Transactions.{Begins, HaveOwnSlots, at, closed, count, next_of, transaction_of};
 ghost use Rattle.csl.specs.Tables.{put_list};
 ghost use Rattle.dialogues.specs.declared.talk.Talk.{Talk};
 ghost use Rattle.dialogues.specs.Joined.{talk_in};
@@ -67,7 +67,7 @@ pub(crate) fn begin(
     dialogue: &Dialogue,
 ) -> Tid
     requires room { 0 < transactions.old.room }
-    requires slot { IfSome transactions.old.next (λ id. slot_of id < length talks.old.items) }
+    requires slot { IfSome (next_of transactions.old) (λ id. slot_of id < length talks.old.items) }
     ensures begun { Begins transactions.old result
         (transaction_of dialogue.now.transaction) transactions.new }
     ensures own_slots { HaveOwnSlots transactions.new }

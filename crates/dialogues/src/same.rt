@@ -12,12 +12,12 @@ use std::alloc::AllocError;
 use tsl::Transaction;
 
 impl Dialogues {
-    /// Whether the same dialogues are open and the next id is the same. Both values are of one shard.
+    /// Whether the same dialogues are open and the same ids come next, for ever. Both values are of one shard.
     pub fn same(&self, other: &Dialogues) -> Result<bool, AllocError>
         requires { self.now.shard ≡ other.now.shard }
         ensures { IfOk result (λ same. IsTrue same ↔ (self.now ≡ other.now)) }
     {
-        if !same_next(self.next_id(), other.next_id()) {
+        if !self.goes_on_as(other) {
             return Ok(false);
         }
         let ids = self.list()?;
@@ -27,12 +27,6 @@ impl Dialogues {
         }
         same_in(self, other, &ids)
     }
-}
-
-fn same_next(left: Option<Tid>, right: Option<Tid>) -> bool
-    ensures { IsTrue result ↔ (left ≡ right) }
-{
-    left == right
 }
 
 /// Whether two lists of ids are equal.

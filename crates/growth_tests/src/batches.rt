@@ -1,9 +1,10 @@
 //! Batches that workers share while memory is refused.
 
-use crate::given::peer;
-use crate::samples::{RECORDS, ROUTE};
+use crate::given::{frame_from, is_shown, loaded};
+use crate::samples::{GATEWAY, ROUTE};
 use hlrcore::{RawEvent, ShardNumber};
-use records::read_records;
+use records::Loaded;
+use shardlog::Shard;
 use std::alloc::Global;
 use std::sync::Wait;
 use std::thread::Threads;
@@ -11,48 +12,65 @@ use workers::{
     Gate, Job, JobNumber, Office, Receipt, Refusal, Unaccounted, numbers_rise, reconcile, run_batch,
 };
 
-/// How many jobs a batch has: twenty for each worker.
-const JOBS: u64 = 80;
+fn clock_value(now: u64) -> Option<RawEvent> {
+    let shard = ShardNumber::new(3)?;
+    Some(RawEvent::Clock { shard, now })
+}
 
 /// A route, or a value of a clock.
 fn event(alloc: Global, number: u64) -> Option<RawEvent> {
     if number % 2 == 0 {
-        let from = peer(b"447700909999")?;
-        let octets = ROUTE.to_vec(alloc).ok()?;
-        Some(RawEvent::Frame { from, octets })
+        frame_from(alloc, GATEWAY, &ROUTE)
     } else {
-        let shard = ShardNumber::new(3)?;
-        Some(RawEvent::Clock { shard, now: number })
+        clock_value(number)
     }
 }
 
-/// The jobs of a batch, from this number on.
-fn jobs_from(alloc: Global, first: u64) -> Option<Vec<Job>> {
+pub(crate) fn job(number: u64, event: RawEvent) -> Option<Job> {
+    let number = JobNumber::new(number)?;
+    Some(Job { number, event })
+}
+
+/// So many jobs, from this number on.
+fn jobs_from(alloc: Global, first: u64, count: u64) -> Option<Vec<Job>> {
     let mut jobs = Vec::new(alloc);
-    for number in first..first.saturating_add(JOBS) {
-        let event = event(alloc, number)?;
-        let number = JobNumber::new(number)?;
-        jobs.push(Job { number, event }).ok()?;
+    for number in first..first.saturating_add(count) {
+        jobs.push(job(number, event(alloc, number)?)?).ok()?;
     }
     Some(jobs)
 }
 
-/// The jobs that ran out of memory by their receipts. Any other refusal counts as job 0.
-fn refused(alloc: Global, receipts: &[Receipt]) -> Option<Vec<u64>> {
-    let mut numbers = Vec::new(alloc);
-    for receipt in receipts {
-        match &receipt.answer {
-            Ok(_) => {}
-            Err(Refusal::Memory) => numbers.push(receipt.job.get()).ok()?,
-            Err(_) => numbers.push(0).ok()?,
-        }
+/// The jobs that ran out of memory: how many, and the last of them.
+#[derive(Clone, Copy)]
+struct Lost {
+    count: u64,
+    last: Option<u64>,
+}
+
+/// These and one more.
+fn and_lost(lost: Lost, number: u64) -> Lost {
+    Lost {
+        count: lost.count.saturating_add(1),
+        last: Some(number),
     }
-    Some(numbers)
+}
+
+/// These and those that ran out of memory by their receipts. Any other refusal counts as job 0.
+fn and_refused(before: Lost, receipts: &[Receipt]) -> Lost {
+    let mut lost = before;
+    for receipt in receipts {
+        lost = match &receipt.answer {
+            Ok(_) => lost,
+            Err(Refusal::Memory) => and_lost(lost, receipt.job.get()),
+            Err(_) => and_lost(lost, 0),
+        };
+    }
+    lost
 }
 
 /// Holds no job.
 #[derive(Drop)]
-struct Open;
+pub(crate) struct Open;
 
 impl Gate for Open {
     fn inside(&self, _job: u64) {}
@@ -60,57 +78,143 @@ impl Gate for Open {
     fn done(&self, _job: u64) {}
 }
 
-/// The receipts of a batch that four workers share, `None` where it has none.
-fn run<R: Threads + Wait + Sync>(
+/// The receipts of a batch that so many workers share, `None` where it has none.
+pub(crate) fn run<R: Threads + Wait + Sync>(
     rt: &R,
     alloc: Global,
     office: &Office,
     jobs: &[Job],
+    workers: usize,
 ) -> Option<Vec<Receipt>> {
+    if workers == 0 || workers > 16 {
+        return None;
+    }
     if !numbers_rise(jobs) {
         return None;
     }
-    run_batch(rt, alloc, office, jobs, &Open, 4).ok()
+    run_batch(rt, alloc, office, jobs, &Open, workers).ok()
 }
 
-/// The result of some batches: the jobs that ran out of memory (of a batch without receipts its first), and the least job that is
-/// not accounted for. `None` if the test itself ran out of memory.
-fn run_batches<R: Threads + Wait + Sync>(
+/// Batches: how many, with how many jobs and workers each, and whether the jobs of a batch without receipts count as jobs.
+#[derive(Clone, Copy)]
+pub(crate) struct Batches {
+    pub(crate) count: u64,
+    pub(crate) jobs: u64,
+    pub(crate) workers: usize,
+    pub(crate) all_count: bool,
+}
+
+/// The jobs so far, their receipts, and those that ran out of memory.
+#[derive(Drop)]
+struct Row {
+    jobs: Vec<Job>,
+    receipts: Vec<Receipt>,
+    lost: Lost,
+}
+
+fn new_row(alloc: Global) -> Row {
+    Row {
+        jobs: Vec::new(alloc),
+        receipts: Vec::new(alloc),
+        lost: Lost {
+            count: 0,
+            last: None,
+        },
+    }
+}
+
+/// Adds a batch with its receipts.
+fn add(row: &mut Row, mut jobs: Vec<Job>, mut receipts: Vec<Receipt>) -> Option<()> {
+    row.lost = and_refused(row.lost, &receipts);
+    row.receipts.append(&mut receipts).ok()?;
+    row.jobs.append(&mut jobs).ok()
+}
+
+/// Adds a batch without receipts, whose first job is this.
+fn add_without(row: &mut Row, mut jobs: Vec<Job>, first: u64) -> Option<()> {
+    row.lost = and_lost(row.lost, first);
+    row.jobs.append(&mut jobs).ok()
+}
+
+/// Has workers share a batch whose first job is this.
+fn share<R: Threads + Wait + Sync>(
     rt: &R,
     alloc: Global,
-    batches: u64,
-) -> Option<(Vec<u64>, Option<u64>)> {
-    let office = Office::new(alloc, read_records(alloc, RECORDS).ok()?).ok()?;
-    let (mut all, mut receipts) = (Vec::new(alloc), Vec::new(alloc));
-    let mut without = Vec::new(alloc);
-    for batch in 0..batches {
-        let first = batch.saturating_mul(JOBS).saturating_add(1);
-        let mut jobs = jobs_from(alloc, first)?;
-        match run(rt, alloc, &office, &jobs) {
-            Some(mut more) => {
-                without.append(&mut refused(alloc, &more)?).ok()?;
-                receipts.append(&mut more).ok()?;
-            }
-            None => without.push(first).ok()?,
-        }
-        all.append(&mut jobs).ok()?;
+    office: &Office,
+    row: &mut Row,
+    first: u64,
+    given: Batches,
+) -> Option<()> {
+    let jobs = jobs_from(alloc, first, given.jobs)?;
+    match run(rt, alloc, office, &jobs, given.workers) {
+        Some(receipts) => add(row, jobs, receipts),
+        None if given.all_count => add_without(row, jobs, first),
+        None => Some(()),
     }
-    let shards = office.into_shards().ok()?;
-    let least = match reconcile(&shards, &all, &receipts) {
-        Ok(()) => None,
-        Err(Unaccounted(number)) => Some(number),
-    };
-    Some((without, least))
 }
 
-/// At most one job, or one batch, has no entry: the batches after it are unaffected. `reconcile` finds it.
+/// The least job that is not accounted for.
+fn least_unaccounted(shards: &[Shard], row: &Row) -> Option<u64> {
+    match reconcile(shards, &row.jobs, &row.receipts) {
+        Ok(()) => None,
+        Err(Unaccounted(number)) => Some(number),
+    }
+}
+
+fn office_of(alloc: Global, loaded: Loaded) -> Option<Office> {
+    Office::new(alloc, loaded).ok()
+}
+
+pub(crate) fn office(alloc: Global) -> Option<Office> {
+    office_of(alloc, loaded(alloc)?)
+}
+
+pub(crate) fn shards_of(office: Office) -> Option<Vec<Shard>> {
+    office.into_shards().ok()
+}
+
+/// Has workers share some batches.
+fn share_all<R: Threads + Wait + Sync>(
+    rt: &R,
+    alloc: Global,
+    office: &Office,
+    row: &mut Row,
+    given: Batches,
+) -> Option<()> {
+    for batch in 0..given.count {
+        let first = batch.saturating_mul(given.jobs).saturating_add(1);
+        share(rt, alloc, office, row, first, given)?;
+    }
+    Some(())
+}
+
+/// Whether at most one job ran out of memory, and is the least that is not accounted for.
+fn is_accounted(shards: &[Shard], row: &Row) -> bool {
+    row.lost.count <= 1 && row.lost.last == least_unaccounted(shards, row)
+}
+
+/// Whether at most one job ran out of memory in some batches (of a batch without receipts its first, if it counts), and is the least
+/// that is not accounted for. `None` if the test itself ran out of memory.
+pub(crate) fn lose_one_at_most<R: Threads + Wait + Sync>(
+    rt: &R,
+    alloc: Global,
+    given: Batches,
+) -> Option<bool> {
+    let office = office(alloc)?;
+    let mut row = new_row(alloc);
+    share_all(rt, alloc, &office, &mut row, given)?;
+    Some(is_accounted(&shards_of(office)?, &row))
+}
+
+/// At most one job, or one batch, has no entry: the batches after it are unaffected. `reconcile` finds it. (A batch has twenty jobs
+/// for each worker.)
 #[test]
 fn one_batch_or_job_at_most(rt: HostRuntime) {
-    let Some((without, least)) = run_batches(&rt, rt.alloc(), 3) else {
-        return;
+    let given = Batches {
+        count: 3,
+        jobs: 80,
+        workers: 4,
+        all_count: true,
     };
-    assert_eq!(rt;
-        (without.len() <= 1, without.first().copied()),
-        (true, least)
-    );
+    assert!(rt; is_shown(&rt, lose_one_at_most(&rt, rt.alloc(), given)));
 }

@@ -2,20 +2,20 @@
 
 ghost use Rattle.std.specs.Prelude.{◌≡◌, IfSome};
 
-use crate::given::{FIRST, peer, subscriber};
-use crate::samples::RECORDS;
+use crate::given::{FIRST, is_shown, loaded, part, peer, subscriber};
+use crate::samples::{REMOTE_ID, VLR};
 use dialogues::{Dialogue, Kind};
-use hlr_types::{Peer, RemoteId, ShortList};
+use hlr_types::{Peer, RemoteId, ShortList, Tid};
 use hlrcore::{Named, Plan, ShardParts};
 use location::{After, CancelBegin, DialogueChange, Opening, Outcome};
 use mapargs_loc::CancellationType;
 use outgoing::{Addressed, Components, SentMessage};
-use records::read_records;
+use records::{Loaded, Records};
 use std::alloc::Global;
 use tsl::Transaction;
 
 fn vlr() -> Option<Peer> {
-    peer(b"447700900011")
+    peer(VLR)
 }
 
 /// A cancel in Initiation Sent.
@@ -53,7 +53,7 @@ fn end(alloc: Global) -> Option<Addressed> {
     Some(Addressed {
         to: vlr()?,
         message: SentMessage::End {
-            destination: RemoteId::read(&[0, 0, 0, 0x0B])?,
+            destination: RemoteId::read(&REMOTE_ID)?,
             context: None,
             rejects: Vec::new(alloc),
             components: Components::Nothing,
@@ -91,27 +91,41 @@ fn opens(alloc: Global, shard: &mut ShardParts) -> Option<bool> {
     Some(shard.settle(plan).is_ok())
 }
 
-/// Whether a cancel opens, or an allocation fails and nothing changes.
-fn opens_or_stays(alloc: Global, shard: &mut ShardParts) -> bool {
-    let before = (shard.dialogues().len(), shard.dialogues().next_id());
-    opens(alloc, shard) == Some(true)
-        || (shard.dialogues().len(), shard.dialogues().next_id()) == before
+/// How many dialogues are open, and the id of the next.
+fn open(shard: &ShardParts) -> (usize, Option<Tid>) {
+    (shard.dialogues().len(), shard.dialogues().next_id())
 }
 
-/// Shard 1 as it begins, without open dialogues.
-fn shard(alloc: Global) -> Option<ShardParts> {
-    let loaded = read_records(alloc, RECORDS).ok()?;
-    let part = loaded.part(1).ok()?;
+/// Whether a cancel opens, or an allocation fails and nothing changes.
+fn opens_or_stays(alloc: Global, shard: &mut ShardParts) -> bool {
+    let before = open(shard);
+    opens(alloc, shard) == Some(true) || open(shard) == before
+}
+
+/// Shard 1 with these records.
+fn shard_of(alloc: Global, part: Records, loaded: &Loaded) -> Option<ShardParts> {
     let directory = loaded.shared_directory().ok()?;
     ShardParts::of_part(alloc, 1, part, directory, *loaded.hlr()).ok()
 }
 
+/// Shard 1 as it begins, without open dialogues.
+fn shard(alloc: Global) -> Option<ShardParts> {
+    let loaded = loaded(alloc)?;
+    shard_of(alloc, part(&loaded)?, &loaded)
+}
+
+/// Whether each of four cancels opens or stays.
+fn all_open_or_stay(alloc: Global) -> Option<bool> {
+    let mut shard = shard(alloc)?;
+    for _number in 0..4 {
+        if !opens_or_stays(alloc, &mut shard) {
+            return Some(false);
+        }
+    }
+    Some(true)
+}
+
 #[test]
 fn four_cancels(rt: HostRuntime) {
-    let Some(mut shard) = shard(rt.alloc()) else {
-        return;
-    };
-    for _number in 0..4 {
-        assert!(rt; opens_or_stays(rt.alloc(), &mut shard));
-    }
+    assert!(rt; is_shown(&rt, all_open_or_stay(rt.alloc())));
 }

@@ -1,4 +1,7 @@
-//! The records file and the frames of the tests.
+//! The records file, the addresses and the frames of the tests.
+//!
+//! All octets of the tests stand in constants, here and in `frame_samples`: a literal in a function is one fact for each octet of it to
+//! the proof of that function.
 
 /// Four subscribers, of shards 1 to 4; the first has a register.
 pub(crate) const RECORDS: &[u8] = b"HLR1 447700900100
@@ -7,6 +10,21 @@ pub(crate) const RECORDS: &[u8] = b"HLR1 447700900100
 234150000000003 447700900203 21 4478 -
 234150000000004 447700900204 11 * -
 ";
+
+/// The first subscriber.
+pub(crate) const SUBSCRIBER: &[u8] = b"234150000000001";
+
+/// The first subscriber's VLR.
+pub(crate) const VLR: &[u8] = b"447700900011";
+
+/// The VLR that most frames come from.
+pub(crate) const OTHER_VLR: &[u8] = b"447700900012";
+
+/// The gateway that routes come from.
+pub(crate) const GATEWAY: &[u8] = b"447700909999";
+
+/// A remote id.
+pub(crate) const REMOTE_ID: [u8; 4] = [0x00, 0x00, 0x00, 0x0B];
 
 /// A sendRoutingInfoForSM for the first subscriber.
 pub(crate) const ROUTE: [u8; 73] = [

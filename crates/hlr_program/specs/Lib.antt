@@ -1,4 +1,3 @@
-pub mod OctetDigits
 pub mod Printed
 pub mod Statuses
 pub mod Answered

@@ -6,7 +6,6 @@ ghost use Rattle.hlrcore.specs.Frames.{raw_out};
 ghost use Rattle.hlr_program.specs.Printed.{Prints};
 ghost use Rattle.hlr_program.specs.Answered.{so_far};
 
-use crate::octet_digits::OctetDigits;
 use crate::printed::push_sent;
 use hlr_input::Letters;
 use hlrcore::{Out, OutList};
@@ -18,19 +17,17 @@ use std::alloc::{AllocError, Global};
 pub struct Answers {
     pub text: Vec<u8>,
     pub letters: Letters,
-    digits: OctetDigits,
 }
 
 impl Answers {
     /// No line, and no id.
-    pub fn new(alloc: Global, digits: OctetDigits) -> Answers
+    pub fn new(alloc: Global) -> Answers
         ensures text { result.text.items ≡ [] }
         ensures letters { result.letters ≡ [] }
     {
         Answers {
             text: Vec::new(alloc),
             letters: Letters::new(alloc),
-            digits,
         }
     }
 
@@ -59,7 +56,7 @@ impl Answers {
     fn push(&mut self, frame: &Out) -> Result<(), AllocError>
         ensures { OnOk result (Prints (so_far self.old) (raw_out frame.now ∷ []) (so_far self.new)) }
     {
-        push_sent(&self.digits, &mut self.text, frame)?;
+        push_sent(&mut self.text, frame)?;
         self.letters.note(&frame.octets)?;
         Ok(())
     }

@@ -6,7 +6,7 @@ ghost use Rattle.hlr_program.specs.Printed.{WritesFront, sent_line};
 ghost use Rattle.hlr_program.specs.Statuses.{message_of};
 
 use crate::fault::Fault;
-use crate::octet_digits::OctetDigits;
+use crate::octet_digits::push_digits;
 use arrayvec::ArrayString;
 use hlrcore::Out;
 use std::alloc::AllocError;
@@ -48,14 +48,14 @@ pub fn tell<W: Write>(fault: Fault, err: &mut W)
 }
 
 /// Appends the line of a sent frame: `S`, the address, and the octets in upper case.
-pub fn push_sent(digits: &OctetDigits, text: &mut Vec<u8>, sent: &Out) -> Result<(), AllocError>
+pub fn push_sent(text: &mut Vec<u8>, sent: &Out) -> Result<(), AllocError>
     ensures { OnOk result (text.new.items
         ≡ text.old.items ++ sent_line sent.now.to sent.now.octets.items) }
 {
     text.extend_from_slice(b"S ")?;
     text.extend_from_slice(sent.to.digits().text().as_slice())?;
     text.push(b' ')?;
-    digits.push(text, sent.octets.as_slice())?;
+    push_digits(text, sent.octets.as_slice())?;
     text.push(b'\n')?;
     Ok(())
 }

@@ -15,7 +15,6 @@ use crate::batch::handle_batch;
 use crate::check::{Script, check_script};
 use crate::fault::Fault;
 use crate::listing::closing_lines;
-use crate::octet_digits::OctetDigits;
 use crate::printed::{print, tell};
 use crate::register::Register;
 use hlr_input::{InputFault, Options, read_all};
@@ -176,9 +175,8 @@ fn run_and_list<R: Threads + Wait + Sync, W: Write>(
     ensures stops { IfErr result (HasStopped options.now loaded script.now.text.items
         (W.contents out.old) (W.contents out.new)) }
 {
-    let digits = OctetDigits::new(alloc)?;
     let mut register = Register::new(alloc, loaded, options.workers, options.list)?;
-    run(rt, alloc, digits, &mut register, script, out)?;
+    run(rt, alloc, &mut register, script, out)?;
     let shards = register.into_shards()?;
     let text = closing_lines(alloc, options, &shards)?;
     let printed = print(&text, out);
@@ -191,7 +189,6 @@ fn run_and_list<R: Threads + Wait + Sync, W: Write>(
 fn run<R: Threads + Wait + Sync, W: Write>(
     rt: &R,
     alloc: Global,
-    digits: OctetDigits,
     register: &mut Register,
     script: &Script,
     out: &mut W,
@@ -205,7 +202,7 @@ fn run<R: Threads + Wait + Sync, W: Write>(
         (printed : List ℕ) × StopsBatches script.now.text.items (state_known register.old) fault printed
         × Appends (W.contents out.old) (W.contents out.new) printed) }
 {
-    let mut answers = Answers::new(alloc, digits);
+    let mut answers = Answers::new(alloc);
     let mut ids = Vec::new(alloc);
     let mut left = Lines::new(&script.text);
     'batches: while !left.rest.is_empty() {

@@ -19,3 +19,5 @@ pub mod SoundLemmas
 pub mod RunningLemmas
 pub mod SteppingLemmas
 pub mod DeadlineLemmas
+pub mod IdsLemmas
+pub mod ReplayLemmas

@@ -13,7 +13,7 @@ use Rattle.machine.specs.Turns.{Turn, Begins, Changes, concern, named}
 use Rattle.machine.specs.Step.{if_known, known_in, outcome_in, seen, subject_of}
 use Rattle.machine_laws.proofs.Refusing.{begins_opens}
 use Rattle.smroute.specs.Seen.{machine_subscriber}
-use Rattle.dialogues.specs.Dialogues.{IsNew}
+use Rattle.dialogues.specs.Dialogues.{IsNew, next_of}
 use Rattle.location.specs.declared.outcome.After.TheVariants.{NewCodes}
 use Rattle.location.specs.declared.outcome.Outcome.{Outcome}
 use Rattle.location.specs.declared.outcome.DialogueChange.{DialogueChange}
@@ -61,7 +61,7 @@ module _ (s : ShardState) (imsi : Option (List ℕ)) (found : Option (Bor Subscr
     (plan_is : plan ≡ unnamed_plan imsi found new codes outcome)
     (found_is : option_copied found ≡ record_at s.records imsi)
     (own : IfSome found (λ f. imsi ≡ Some f.now.imsi))
-    (next : IfSome s.dialogues.next (λ id. (id ≡ new) × IsNew s.dialogues id))
+    (next : IfSome (next_of s.dialogues) (λ id. (id ≡ new) × IsNew s.dialogues id))
     (writable : CanBeWritten outcome.after (option_copied found)) where
   abbrev here : Local
   here = seen (state_of s) s.shard imsi

@@ -5,7 +5,7 @@ use Rattle.machine.specs.State as machine
 use Rattle.machine.specs.State.{local_of, local_of_nobody}
 use Rattle.machine.specs.Step.{moved, named_stays, new_opens, seen, taken}
 use Rattle.records.specs.Maps.{RecordMap}
-use Rattle.dialogues.specs.Dialogues.{OpenDialogues, IsNew, dialogues_of}
+use Rattle.dialogues.specs.Dialogues.{OpenDialogues, IsNew, dialogues_of, next_of}
 use Rattle.location.specs.declared.outcome.Outcome.{Outcome}
 use Rattle.location.specs.declared.outcome.DialogueChange.{DialogueChange}
 use Rattle.location.specs.declared.outcome.DialogueChange.TheVariants.{Closes, Opens, GoesOn, Forgets}
@@ -24,7 +24,7 @@ next_alone None d new h = h
 next_alone (Some id) d new h = h.0
 
 pub is_next : (s : ShardState) (named : Named) (new : List ℕ) → IsNextId s named new → IsNext s.dialogues (id_of named) new
-is_next s Nothing new h = next_alone s.dialogues.next s.dialogues new h
+is_next s Nothing new h = next_alone (next_of s.dialogues) s.dialogues new h
 is_next s (Open id) new h = h.0
 is_next s (Continued id peer remote) new h = h.0
 

@@ -11,7 +11,7 @@ use Rattle.machine.specs.Keys.{shard_of}
 use Rattle.machine.specs.Routing.{route}
 use Rattle.machine.specs.Step.{Answer, Full, HasNoRoom, IsNewId, WouldOverflow, moved, outcome_in, taken, ticked}
 use Rattle.frames.specs.Octets.{RawEvent}
-use Rattle.dialogues.specs.Dialogues.{IsNew}
+use Rattle.dialogues.specs.Dialogues.{IsNew, next_of}
 use Rattle.location.specs.declared.outcome.DialogueChange.{DialogueChange}
 use Rattle.location.specs.declared.outcome.DialogueChange.TheVariants.{Closes, Opens, GoesOn, Forgets}
 use Rattle.location.specs.Seen.{opens_of}
@@ -43,8 +43,8 @@ opens_out clock (Forgets invoke) e = absurd e
 
 -- ---- the id that it takes is new
 
-next_new : (s : ShardState) (named : Named) (new : List ℕ) → IsNextId s named new → (id_of named ≡ None → s.dialogues.next ≢ None) → IsNew s.dialogues new
-next_new s Nothing new is room = at s.dialogues.next is (room refl)
+next_new : (s : ShardState) (named : Named) (new : List ℕ) → IsNextId s named new → (id_of named ≡ None → next_of s.dialogues ≢ None) → IsNew s.dialogues new
+next_new s Nothing new is room = at (next_of s.dialogues) is (room refl)
   where
     at : (o : Option (List ℕ)) → IfSome o (λ id. (id ≡ new) × IsNew s.dialogues id) → o ≢ None → IsNew s.dialogues new
     at None is some = absurd (some refl)

@@ -4,7 +4,7 @@ use Rattle.machine.specs.Keys.{put}
 use Rattle.machine.specs.State as machine
 use Rattle.machine.specs.Step.{named_stays, new_opens}
 use Rattle.tidalloc.specs.LiveIds.{next_use}
-use Rattle.dialogues.specs.Dialogues.{OpenDialogues, activated}
+use Rattle.dialogues.specs.Dialogues.{OpenDialogues, activated, next_of}
 use Rattle.location.specs.declared.outcome.After.{After}
 use Rattle.location.specs.declared.outcome.DialogueChange.{DialogueChange}
 use Rattle.location.specs.Seen.{after_of, stays_of, opens_of}
@@ -30,5 +30,5 @@ changed clock named stays new open_ones =
 
 -- The id for a dialogue that opens, beside the open ones or in place of one.
 abbrev pub IsNext : OpenDialogues → (place : Option (List ℕ)) → (new : List ℕ) → Type 0
-IsNext d None new = IfSome d.next (λ id. id ≡ new)
+IsNext d None new = IfSome (next_of d) (λ id. id ≡ new)
 IsNext d (Some id) new = new ≡ next_use id

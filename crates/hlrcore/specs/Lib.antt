@@ -15,3 +15,5 @@ pub mod Leading
 pub mod Receiving
 pub mod Sound
 pub mod Running
+pub mod Ids
+pub mod Replaying

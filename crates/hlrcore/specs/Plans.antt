@@ -5,7 +5,7 @@ use Rattle.machine.specs.State.{Local, IsFull}
 use Rattle.machine.specs.Outcome.{Outcome}
 use Rattle.machine.specs.Step.{moved, seen}
 use Rattle.tidalloc.specs.LiveIds.{next_use}
-use Rattle.dialogues.specs.Dialogues.{IsNew, activated, dialogues_of}
+use Rattle.dialogues.specs.Dialogues.{IsNew, activated, dialogues_of, next_of}
 use Rattle.records.specs.Subscriber.{AreAllowed}
 use Rattle.location.specs.declared.outcome.After.TheVariants.{NewCodes}
 use Rattle.location.specs.declared.outcome.DialogueChange.{DialogueChange}
@@ -57,7 +57,7 @@ abbrev pub IsNextId : ShardState → Named → (new : List ℕ) → Type 0
 IsNextId s named new = after (id_of named)
   where
     after : Option (List ℕ) → Type 0
-    after None = IfSome s.dialogues.next (λ id. (id ≡ new) × IsNew s.dialogues id)
+    after None = IfSome (next_of s.dialogues) (λ id. (id ≡ new) × IsNew s.dialogues id)
     after (Some id) = (new ≡ next_use id) × IsNew s.dialogues new
 
 -- The plan can be carried out: the dialogue is open; the record may be written so; the new codes are allowed; what opens or
@@ -72,7 +72,7 @@ pub record CanSettle (s : ShardState) (plan : Plan) : Type 0 where
 
 -- There is room: a dialogue that would open beside the open ones has an id.
 abbrev pub HasRoom : ShardState → Plan → Type 0
-HasRoom s plan = IsOpening plan.outcome.dialogue → id_of plan.named ≡ None → s.dialogues.next ≢ None
+HasRoom s plan = IsOpening plan.outcome.dialogue → id_of plan.named ≡ None → next_of s.dialogues ≢ None
 
 -- A dialogue would open beside the open ones, and the shard is full.
 pub record Overflows (s : ShardState) (plan : Plan) : Type 0 where

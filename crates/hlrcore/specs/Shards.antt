@@ -5,6 +5,7 @@ use Rattle.std.specs.Coded.{Coded, code_by, coded×, coded_ℕ}
 use Rattle.records.specs.Subscriber.{Subscriber, coded_digits}
 use Rattle.records.specs.Maps.{RecordMap, record_map_code, DirectoryMap, directory_map_code}
 use Rattle.smroute.specs.Seen.{machine_subscriber}
+use Rattle.tidalloc.specs.LiveIds.{unused}
 use Rattle.dialogues.specs.Dialogues.{OpenDialogues, open_dialogues_code, dialogues_of}
 use Rattle.machine.specs.declared.numbers.TheConstants.{SHARDS, MAX_CLOCK}
 use Rattle.machine.specs.State as machine
@@ -63,6 +64,7 @@ pub record IsOpening (shard : ℕ) (records : RecordMap) (directory : DirectoryM
   pub clock : s.clock ≡ 0
   pub records_are : s.records ≡ records
   pub none_open : dialogues_of s.dialogues ≡ (λ _. None)
+  pub no_id_used : s.dialogues.supply ≡ unused 0
   pub directory_is : s.directory ≡ directory
   pub hlr_is : s.hlr ≡ hlr
 

@@ -3,8 +3,10 @@
 ghost use Rattle.std.specs.Prelude.{◌≡◌, ◌≢◌, ◌≤◌, ◌^◌, ℕ, List, Some, None, IfOk, IfSome, OnOk, OnErr, option_map};
 ghost use Rattle.machine.specs.Keys.{put};
 ghost use Rattle.machine.specs.Step.{named_stays, taken};
-ghost use Rattle.dialogues.specs.Dialogues.{dialogues_of, forgotten, gone_on};
+ghost use Rattle.dialogues.specs.Dialogues.{KeepsIds, dialogues_of, forgotten, freed, gone_on, next_of};
+ghost use Rattle.tidalloc.specs.LiveIds.{after_taking, next_id};
 ghost use Rattle.location.specs.Seen.{opening_of, opens_of};
+ghost use Rattle.hlrcore.specs.Ids.{MovesIds};
 ghost use Rattle.hlrcore.specs.Changing.{IsNext, changed, named_among};
 ghost use Rattle.hlrcore.specs.Plans.{IsForgetting, IsOpening, id_of};
 
@@ -24,11 +26,16 @@ fn open(
 ) -> Result<Tid, AllocError>
     requires early { clock ≤ 2 ^ 62 }
     requires is_open { IfSome place (λ id. dialogues_of dialogues.old id ≢ None) }
-    requires room { place ≡ None → dialogues.old.next ≢ None }
+    requires room { place ≡ None → next_of dialogues.old ≢ None }
     ensures next { IfOk result (λ id. (new : List ℕ) → IsNext dialogues.old place new → id ≡ new) }
     ensures opened { IfOk result (λ id. dialogues_of dialogues.new
         ≡ put (named_stays place None (dialogues_of dialogues.old)) id
         (Some (opening_of clock opening.now))) }
+    ensures other { IfOk result (λ id. place ≢ Some id) }
+    ensures taken { IfOk result (λ id. next_id dialogues.old.shard
+        (freed place dialogues.old.supply) ≡ Some id) }
+    ensures used { OnOk result (dialogues.new.supply
+        ≡ after_taking (freed place dialogues.old.supply)) }
     ensures shard { dialogues.new.shard ≡ dialogues.old.shard }
     ensures err { OnErr result (dialogues.new ≡ dialogues.old) }
 {
@@ -42,6 +49,7 @@ fn open(
 fn close(dialogues: &mut Dialogues, id: Option<Tid>)
     requires { IfSome id (λ id. dialogues_of dialogues.old id ≢ None) }
     ensures closed { dialogues_of dialogues.new ≡ named_stays id None (dialogues_of dialogues.old) }
+    ensures freed { dialogues.new.supply ≡ freed id dialogues.old.supply }
     ensures shard { dialogues.new.shard ≡ dialogues.old.shard }
 {
     if let Some(id) = id {
@@ -55,7 +63,7 @@ fn go_on(dialogues: &mut Dialogues, named: Named, left: &Remaining) -> Result<()
     ensures ok { OnOk result (dialogues_of dialogues.new
         ≡ named_stays (id_of named) (option_map (gone_on left.now)
         (named_among named (dialogues_of dialogues.old))) (dialogues_of dialogues.old)) }
-    ensures shard { dialogues.new.shard ≡ dialogues.old.shard }
+    ensures ids { KeepsIds dialogues.old dialogues.new }
     ensures err { OnErr result (dialogues.new ≡ dialogues.old) }
 {
     match named {
@@ -75,7 +83,7 @@ fn forget(dialogues: &mut Dialogues, named: Named, invoke: InvokeId)
     ensures forgotten { dialogues_of dialogues.new
         ≡ named_stays (id_of named) (option_map (forgotten invoke)
         (named_among named (dialogues_of dialogues.old))) (dialogues_of dialogues.old) }
-    ensures shard { dialogues.new.shard ≡ dialogues.old.shard }
+    ensures ids { KeepsIds dialogues.old dialogues.new }
 {
     if let Named::Open(id) = named {
         dialogues.forget_one(id, invoke.number());
@@ -93,12 +101,13 @@ pub(crate) fn change(
     requires early { clock ≤ 2 ^ 62 }
     requires is_open { IfSome (id_of named) (λ id. dialogues_of dialogues.old id ≢ None) }
     requires forgetting { IsForgetting named stays.now }
-    requires room { IsOpening stays.now → id_of named ≡ None → dialogues.old.next ≢ None }
+    requires room { IsOpening stays.now → id_of named ≡ None → next_of dialogues.old ≢ None }
     ensures taken { IfOk result (λ id. (new : List ℕ) → IsNext dialogues.old (id_of named) new
         → id ≡ taken new (opens_of clock stays.now)) }
     ensures changed { OnOk result ((new : List ℕ) → IsNext dialogues.old (id_of named) new
         → dialogues_of dialogues.new ≡ changed clock named stays.now new
         (dialogues_of dialogues.old)) }
+    ensures ids { IfOk result (λ id. MovesIds dialogues.old id dialogues.new) }
     ensures shard { dialogues.new.shard ≡ dialogues.old.shard }
     ensures err { OnErr result (dialogues.new ≡ dialogues.old) }
 {

@@ -10,6 +10,7 @@ ghost use Rattle.q773_comp.specs.Seen.{component};
 ghost use Rattle.location.specs.Asking.{IsBeginOf};
 ghost use Rattle.hlrcore.specs.Shards.{IsSameShard, directory_of};
 ghost use Rattle.hlrcore.specs.Addressees.{subject_of_message, subject_of_verdict};
+ghost use Rattle.hlrcore.specs.Ids.{MovesIds};
 ghost use Rattle.hlrcore.specs.Receiving.{Receives, IsForMe, IsClosing, IsContinueOf};
 
 use crate::answer::StepAnswer;
@@ -36,6 +37,7 @@ impl ShardParts {
         requires about { subject
             ≡ subject_of_verdict (directory_of self.old.directory) indication.now.verdict }
         ensures received { IfOk result (λ a. Receives self.old indication.now a self.new) }
+        ensures ids { IfOk result (λ a. MovesIds self.old.dialogues a.id self.new.dialogues) }
         ensures judged { IsVerdict indication.now.octets indication.now.verdict }
         ensures err { OnErr result (self.new ≡ self.old) }
         ensures same_shard { IsSameShard self.old self.new }
@@ -61,6 +63,7 @@ impl ShardParts {
         requires about { subject
             ≡ subject_of_message (directory_of self.old.directory) (message_of message.now) }
         ensures received { IfOk result (λ a. Receives self.old indication.now a self.new) }
+        ensures ids { IfOk result (λ a. MovesIds self.old.dialogues a.id self.new.dialogues) }
         ensures err { OnErr result (self.new ≡ self.old) }
         ensures same_shard { IsSameShard self.old self.new }
     {
@@ -97,6 +100,7 @@ impl ShardParts {
         requires about { subject ≡ subject_of_begin (directory_of self.old.directory)
             (map (component parameter) components.now) }
         ensures received { IfOk result (λ a. Receives self.old indication.now a self.new) }
+        ensures ids { IfOk result (λ a. MovesIds self.old.dialogues a.id self.new.dialogues) }
         ensures err { OnErr result (self.new ≡ self.old) }
         ensures same_shard { IsSameShard self.old self.new }
     {
@@ -120,6 +124,7 @@ impl ShardParts {
         requires continues { IsContinueOf indication.now.verdict origin destination
             (map (component parameter) components.now) }
         ensures received { IfOk result (λ a. Receives self.old indication.now a self.new) }
+        ensures ids { IfOk result (λ a. MovesIds self.old.dialogues a.id self.new.dialogues) }
         ensures err { OnErr result (self.new ≡ self.old) }
         ensures same_shard { IsSameShard self.old self.new }
     {
@@ -143,6 +148,7 @@ impl ShardParts {
         requires mine { IsForMe self.old indication.now }
         requires closes { IsClosing indication.now.verdict destination }
         ensures received { IfOk result (λ a. Receives self.old indication.now a self.new) }
+        ensures ids { IfOk result (λ a. MovesIds self.old.dialogues a.id self.new.dialogues) }
         ensures err { OnErr result (self.new ≡ self.old) }
         ensures same_shard { IsSameShard self.old self.new }
     {

@@ -3,6 +3,7 @@
 ghost use Rattle.std.specs.Prelude.{◌≡◌, ◌↔◌, IfOk, OnOk, OnErr, IsTrue, false};
 ghost use Rattle.machine.specs.Step.{taken};
 ghost use Rattle.hlrcore.specs.Answers.{Says};
+ghost use Rattle.hlrcore.specs.Ids.{MovesIds};
 ghost use Rattle.hlrcore.specs.Plans.{CanSettle, HasRoom, Overflows, plan_outcome, state_after_plan};
 ghost use Rattle.hlrcore.specs.Shards.{IsSameShard, state_of};
 
@@ -36,6 +37,7 @@ impl ShardParts {
         ensures settled { OnOk result (state_of self.new ≡ state_after_plan self.old plan) }
         ensures says { IfOk result (λ a. Says a (taken plan.new (plan_outcome self.old plan).opens)
             plan.subject (plan_outcome self.old plan).sent) }
+        ensures ids { IfOk result (λ a. MovesIds self.old.dialogues a.id self.new.dialogues) }
         // Its dialogues have ids of its own number.
         ensures own { self.old.dialogues.shard ≡ self.old.shard }
         ensures err { OnErr result (self.new ≡ self.old) }

@@ -13,6 +13,7 @@ ghost use Rattle.records.specs.Maps.{RecordMap, part_of};
 ghost use Rattle.hlrcore.specs.Shards.{IsOpening, IsSameShard, state_of, records_of, directory_of};
 ghost use Rattle.hlrcore.specs.Addressees.{IsAddressee};
 ghost use Rattle.hlrcore.specs.Events.{event_of, raw_of};
+ghost use Rattle.hlrcore.specs.Ids.{MovesIds};
 ghost use Rattle.hlrcore.specs.Leading.{Leads, Steps};
 ghost use Rattle.hlrcore.specs.Sound.{IsSoundShard};
 
@@ -180,6 +181,7 @@ impl State {
         // It is a step of the machine over octets.
         ensures stepped { IfOk result (λ a. Leads self.old
             (RawExpire self.old.shard) a self.new) }
+        ensures ids { IfOk result (λ a. MovesIds self.old.dialogues a.id self.new.dialogues) }
         ensures err { OnErr result (self.new ≡ self.old) }
         ensures same_shard { IsSameShard self.old self.new }
     {
@@ -191,6 +193,7 @@ impl State {
     pub fn tick(&mut self, now: u64) -> StepAnswer
         // It is a step of the machine over octets.
         ensures stepped { Leads self.old (RawClock self.old.shard now) result self.new }
+        ensures ids { MovesIds self.old.dialogues result.id self.new.dialogues }
         ensures same_shard { IsSameShard self.old self.new }
     {
         self.parts.tick(now);

@@ -9,6 +9,7 @@ ghost use Rattle.machine.specs.Turns.{Changes};
 ghost use Rattle.hlrcore.specs.Shards.{IsSameShard, directory_of, state_of};
 ghost use Rattle.hlrcore.specs.Addressees.{IsAddressee};
 ghost use Rattle.hlrcore.specs.Events.{change as said, event_of, raw_of};
+ghost use Rattle.hlrcore.specs.Ids.{MovesIds};
 ghost use Rattle.hlrcore.specs.Leading.{IsMine, Leads, Steps};
 ghost use Rattle.hlrcore.specs.Planning.{IsPlan};
 
@@ -52,6 +53,7 @@ impl ShardParts {
     /// Handles the expiry of the least timer that is due, if any.
     pub(crate) fn expire(&mut self) -> Result<StepAnswer, AllocError>
         ensures expired { IfOk result (λ a. Leads self.old (RawExpire self.old.shard) a self.new) }
+        ensures ids { IfOk result (λ a. MovesIds self.old.dialogues a.id self.new.dialogues) }
         ensures err { OnErr result (self.new ≡ self.old) }
         ensures same_shard { IsSameShard self.old self.new }
     {
@@ -66,6 +68,7 @@ impl ShardParts {
     #[inline(never)]
     fn expire_due(&mut self) -> Result<StepAnswer, AllocError>
         ensures expired { IfOk result (λ a. Leads self.old (RawExpire self.old.shard) a self.new) }
+        ensures ids { IfOk result (λ a. MovesIds self.old.dialogues a.id self.new.dialogues) }
         ensures err { OnErr result (self.new ≡ self.old) }
         ensures same_shard { IsSameShard self.old self.new }
     {
@@ -81,6 +84,7 @@ impl ShardParts {
             (machine.Operator imsi (said change.now)) }
         ensures changed { IfOk result (λ a. Leads self.old
             (RawChange imsi (said change.now)) a self.new) }
+        ensures ids { IfOk result (λ a. MovesIds self.old.dialogues a.id self.new.dialogues) }
         ensures mine { result ≢ Err StepFault.NotMine }
         ensures no_room { result ≡ Err StepFault.NoRoom
             → HasNoRoom (state_of self.old) (machine.Operator imsi (said change.now)) }

@@ -1,5 +1,5 @@
 -- The id that is taken is a step's only free choice.
-use Rattle.std.proofs.Common.{◌≡◌, ◌+◌, ℕ, ℤ, List, [], ◌∷◌, Bool, true, false, cond, refl, sym, ap, ◌∙◌, subst, Option, Some, None, is_some, nat_cmp, int_cmp, is_gt, Ordering, Less, Equal, Greater}
+use Rattle.std.proofs.Common.{◌≡◌, ◌≢◌, ◌+◌, ℕ, ℤ, List, [], ◌∷◌, Bool, true, false, cond, refl, sym, ap, ◌∙◌, subst, Option, Some, None, is_some, IsTrue, nat_cmp, int_cmp, is_gt, Ordering, Less, Equal, Greater}
 use Rattle.std.specs.Ordering.{ordering_then, ordering_reverse}
 use Rattle.std.specs.Cmp.{nat_cmp_total, int_cmp_total}
 use Rattle.std.specs.Cmp.Lexicographic.{slice_cmp, nat_list_cmp_total}
@@ -21,19 +21,20 @@ use Rattle.machine.specs.Dialogues.{continues_as, offer_to, update_completes, up
 use Rattle.machine.specs.declared.numbers.TheConstants.{RESOURCE_LIMITATION, ROAMING_NOT_ALLOWED, UNKNOWN_SUBSCRIBER}
 use Rattle.machine.specs.Keys.{put, same}
 use Rattle.machine.specs.Routing.{route}
-use Rattle.machine_laws.proofs.Keys.{none_some, some_inj}
+use Rattle.machine_laws.proofs.Keys.{none_some, put-other, some_inj}
 
--- two outcomes with two new ids: both open a dialogue or neither does, and if neither does they are equal
+-- two outcomes with two new ids: both open a dialogue or neither does, the named dialogue stays so in both, and if none opens they are equal
 
 pub record Free (o p : Outcome) : Type 0 where
   pub opens : is_some o.opens ≡ is_some p.opens
+  pub stays : o.stays ≡ p.stays
   pub alike : o.opens ≡ None → o ≡ p
 
 one : (o p : Outcome) → o ≡ p → Free o p
-one o p e = record { opens = ap (λ (q : Outcome). is_some q.opens) e; alike = λ n. e }
+one o p e = record { opens = ap (λ (q : Outcome). is_some q.opens) e; stays = ap (λ (q : Outcome). q.stays) e; alike = λ n. e }
 
-both_open : (o p : Outcome) (d f : Dialogue) → o.opens ≡ Some d → p.opens ≡ Some f → Free o p
-both_open o p d f q r = record { opens = ap (λ x. is_some x) q ∙ sym (ap (λ x. is_some x) r); alike = λ n. absurd (none_some d _ n q) }
+both_open : (o p : Outcome) (d f : Dialogue) → o.opens ≡ Some d → p.opens ≡ Some f → o.stays ≡ p.stays → Free o p
+both_open o p d f q r s = record { opens = ap (λ x. is_some x) q ∙ sym (ap (λ x. is_some x) r); stays = s; alike = λ n. absurd (none_some d _ n q) }
 
 module _ (L : Local) (new old : List ℕ) where
   free_update : (a : Initiator) (k : ℤ) (reg : Register) (R : Option Subscriber) → Free (update_begins L a k reg R new) (update_begins L a k reg R old)
@@ -46,7 +47,7 @@ module _ (L : Local) (new old : List ℕ) where
           (cond w (unchanged L (end_of_begin a (SentError k UNKNOWN_SUBSCRIBER ∷ [])))
           (cond t (update_opened L a k reg s old) (unchanged L (end_of_begin a (SentError k ROAMING_NOT_ALLOWED ∷ [])))))
       by true t = one _ _ refl
-      by false true = both_open _ _ _ _ refl refl
+      by false true = both_open _ _ _ _ refl refl refl
       by false false = one _ _ refl
 
   free_procedure : (a : Initiator) (k : ℤ) (p : Argument) → Free (procedure L a k p new) (procedure L a k p old)
@@ -88,7 +89,7 @@ module _ (L : Local) (new old : List ℕ) where
               (update_done L reg s (end_in_dialogue d.transaction d.transaction.remote rejects (UpdateResult k L.hlr ∷ [])) old (Some g))
           same_digits true q = one _ _ (rw q refl)
           same_digits false q = both_open _ _ _ _ (ap (λ b. cond b None (Some (cancel L g.vlr 1 UpdateProcedure))) q)
-              (ap (λ b. cond b None (Some (cancel L g.vlr 1 UpdateProcedure))) q)
+              (ap (λ b. cond b None (Some (cancel L g.vlr 1 UpdateProcedure))) q) refl
 
       by : (t : Bool) → Free
           (cond t (update_done L reg s (end_in_dialogue d.transaction d.transaction.remote rejects (UpdateResult k L.hlr ∷ [])) new s.register)
@@ -115,7 +116,7 @@ module _ (L : Local) (new old : List ℕ) where
       again : (vlr : List ℕ) (attempt : ℕ) (cancellation : CancellationType) (t : Bool) → (is_repeated L vlr attempt) ≡ t
           → Free (cancel_expires L d vlr attempt cancellation new) (cancel_expires L d vlr attempt cancellation old)
       again vlr attempt cancellation true q = both_open _ _ _ _ (ap (λ b. cond b (Some (cancel L vlr (attempt + 1) cancellation)) None) q)
-          (ap (λ b. cond b (Some (cancel L vlr (attempt + 1) cancellation)) None) q)
+          (ap (λ b. cond b (Some (cancel L vlr (attempt + 1) cancellation)) None) q) refl
       again vlr attempt cancellation false q = one _ _ (rw q refl)
 
       by : (kind : Kind) → Free (sent_expires L i d kind new) (sent_expires L i d kind old)
@@ -133,11 +134,11 @@ module _ (L : Local) (new old : List ℕ) where
         where
           at_purged : (t : Bool) → s.purged ≡ t → Free (codes_to L s cs new (Some reg)) (codes_to L s cs old (Some reg))
           at_purged true q = one _ _ (rw q refl)
-          at_purged false q = record { opens = refl; alike = λ n. absurd (none_some _ _ n (ap (λ b. cond b None (Some (data_to L reg cs))) q)) }
+          at_purged false q = record { opens = refl; stays = refl; alike = λ n. absurd (none_some _ _ n (ap (λ b. cond b None (Some (data_to L reg cs))) q)) }
 
       gone : (g : Option Register) → Free (withdraw_from L s new g) (withdraw_from L s old g)
       gone None = one _ _ refl
-      gone (Some reg) = both_open _ _ _ _ refl refl
+      gone (Some reg) = both_open _ _ _ _ refl refl refl
 
       of : (k : Change) → Free (change_to L s k new) (change_to L s k old)
       of (Codes cs) = codes cs s.register
@@ -298,3 +299,83 @@ determined S e T U a b (Full turn new c t) (Full come old d u) i =
     let same_came : come ≡ turn = comes_one S e come turn d c in
     away_one S e turn new old T U a b t (let P : Turn → Type 0 = λ k. TurnedAway S (route S.directory e) k
     (outcome_in S (route S.directory e) k old) U b in subst P same_came u)
+
+-- ---- what does not depend on the id
+
+-- a step that takes an id has a new one
+has_new : (S : State) (n : ℕ) (turn : Turn) (new : List ℕ) (o : Outcome) (T : State) (a : Answer) → Moves S n turn new o T a → (id : List ℕ)
+    → S.dialogues id ≢ None → IsTrue (is_some o.opens) → new ≡ id → ⊥
+has_new S n turn new o T a m id here opens same = here (ap S.dialogues (sym same) ∙ (m.opens opens).is_new)
+
+-- a dialogue that was open is after the step as the named one stays
+still_as : (S : State) (n : ℕ) (turn : Turn) (new : List ℕ) (o : Outcome) (T : State) (a : Answer) → Moves S n turn new o T a → (id : List ℕ)
+    → S.dialogues id ≢ None
+    → (T.dialogues id ≡ (moved S (concern S.directory turn) (named turn) new (record o { opens = None })).dialogues id)
+still_as S n turn new o T a m id here =
+    ap (λ (V : State). V.dialogues id) m.state ∙ unticked turn _ ∙ by (concern S.directory turn)
+  where
+    unticked : (t : Turn) (V : State) → (ticked t V).dialogues id ≡ V.dialogues id
+    unticked (Ticks shard now) V = refl
+    unticked (Dismissed out) V = refl
+    unticked (Begins from r p cs) V = refl
+    unticked (Continues i d cs) V = refl
+    unticked (Closes i d) V = refl
+    unticked (Expires i d j was) V = refl
+    unticked (Changes x c) V = refl
+
+    past : (q : Option Dialogue) (D : List ℕ → Option Dialogue) → (IsTrue (is_some q) → new ≡ id → ⊥) → new_opens new q D id ≡ D id
+    past None D apart = refl
+    past (Some d) D apart = put-other D new (Some d) id (apart refl)
+
+    by : (c : Option (List ℕ)) → (moved S c (named turn) new o).dialogues id ≡ (moved S c (named turn) new (record o { opens = None })).dialogues id
+    by None = refl
+    by (Some x) = past o.opens (named_stays (named turn) o.stays S.dialogues) (λ opens. has_new S n turn new o T a m id here opens)
+
+stays_alone : (S : State) (turn : Turn) (new old : List ℕ) (o p : Outcome) (id : List ℕ) → o.stays ≡ p.stays
+    → (moved S (concern S.directory turn) (named turn) new (record o { opens = None })).dialogues id
+    ≡ (moved S (concern S.directory turn) (named turn) old (record p { opens = None })).dialogues id
+stays_alone S turn new old o p id same = by (concern S.directory turn)
+  where
+    by : (c : Option (List ℕ)) → (moved S c (named turn) new (record o { opens = None })).dialogues id
+        ≡ (moved S c (named turn) old (record p { opens = None })).dialogues id
+    by None = refl
+    by (Some x) = ap (λ s. named_stays (named turn) s S.dialogues id) same
+
+is_taken : (new : List ℕ) (q : Option Dialogue) → is_some (taken new q) ≡ is_some q
+is_taken new None = refl
+is_taken new (Some d) = refl
+
+-- whether an id is taken
+pub takes_alike : (S : State) (e : Event) (T U : State) (a b : Answer) → Step S e T a → Step S e U b → is_some a.id ≡ is_some b.id
+takes_alike S e T U a b (Taken turn new c m) (Taken come old d w) =
+    let same_came : come ≡ turn = comes_one S e come turn d c in
+    let w' : Moves S (route S.directory e) turn old (outcome_in S (route S.directory e) turn old) U b =
+    (let P : Turn → Type 0 = λ k. Moves S (route S.directory e) k old (outcome_in S (route S.directory e) k old) U b in subst P same_came w) in
+    ap (λ o. is_some o) m.id ∙ is_taken new _ ∙ (free_here S e turn new old).opens ∙ sym (ap (λ o. is_some o) w'.id ∙ is_taken old _)
+takes_alike S e T U a b (Taken turn new c m) (Full come old d t) =
+    let same_came : come ≡ turn = comes_one S e come turn d c in
+    absurd (not_both S e turn new old T U a b m (let P : Turn → Type 0 = λ k. TurnedAway S (route S.directory e) k
+    (outcome_in S (route S.directory e) k old) U b in subst P same_came t))
+takes_alike S e T U a b (Full turn new c t) (Taken come old d w) =
+    let same_came : turn ≡ come = comes_one S e turn come c d in
+    absurd (not_both S e come old new U T b a w (let P : Turn → Type 0 = λ k. TurnedAway S (route S.directory e) k
+    (outcome_in S (route S.directory e) k new) T a in subst P same_came t))
+takes_alike S e T U a b (Full turn new c t) (Full come old d u) = ap (λ o. is_some o) t.id ∙ sym (ap (λ o. is_some o) u.id)
+
+-- which open dialogue closes
+pub closes_alike : (S : State) (e : Event) (T U : State) (a b : Answer) → Step S e T a → Step S e U b → (id : List ℕ) → S.dialogues id ≢ None
+    → T.dialogues id ≡ None → U.dialogues id ≡ None
+closes_alike S e T U a b (Taken turn new c m) (Taken come old d w) id here gone =
+    let same_came : come ≡ turn = comes_one S e come turn d c in
+    let w' : Moves S (route S.directory e) turn old (outcome_in S (route S.directory e) turn old) U b =
+    (let P : Turn → Type 0 = λ k. Moves S (route S.directory e) k old (outcome_in S (route S.directory e) k old) U b in subst P same_came w) in
+    let o = outcome_in S (route S.directory e) turn new in
+    let p = outcome_in S (route S.directory e) turn old in
+    still_as S (route S.directory e) turn old p U b w' id here
+    ∙ sym (stays_alone S turn new old o p id (free_here S e turn new old).stays)
+    ∙ sym (still_as S (route S.directory e) turn new o T a m id here) ∙ gone
+closes_alike S e T U a b (Taken turn new c m) (Full come old d t) id here gone =
+    let same_came : come ≡ turn = comes_one S e come turn d c in
+    absurd (not_both S e turn new old T U a b m (let P : Turn → Type 0 = λ k. TurnedAway S (route S.directory e) k
+    (outcome_in S (route S.directory e) k old) U b in subst P same_came t))
+closes_alike S e T U a b (Full turn new c t) step id here gone = absurd (here (ap (λ (V : State). V.dialogues id) (sym t.state) ∙ gone))

@@ -6,7 +6,7 @@ pub mod dialogue_examples;
 pub mod examples;
 pub mod update_examples;
 
-ghost use Rattle.std.specs.Prelude.{◌≡◌, ℕ, ℤ, Option, None, Some, ◌<◌, ◌≤◌, List, [], ◌∷◌, ◌++◌, ◌&&◌, ◌||◌, ◌⊎◌, true, false, length};
+ghost use Rattle.std.specs.Prelude.{◌≡◌, ◌≢◌, ℕ, ℤ, Option, None, Some, is_some, ◌<◌, ◌≤◌, List, [], ◌∷◌, ◌++◌, ◌&&◌, ◌||◌, ◌⊎◌, true, false, length};
 ghost use Rattle.machine.specs.Received.{Abort, Begin, Component, ComponentOf, Continue, End, Purge, Read, Register, Response};
 ghost use Rattle.machine.specs.Isolation.{AgreeOf, MetFullShard, NoneTurnedAway, SameAfter, SameOf, is_of, is_turned_away, only_of, own};
 ghost use Rattle.machine.specs.Step.{Answer, HasNoRoom, IsNewId, Step, TurnedAway, outcome_in, known_in};
@@ -99,6 +99,15 @@ pub fn events_have_steps()
 pub fn ids_are_the_only_choice()
     ensures { (S : State) (e : Event) (T U : State) (a b : Answer)
         → Step S e T a → Step S e U b → a.id ≡ b.id → (T ≡ U) × (a ≡ b) }
+{}
+
+/// Whether an id is taken, and which open dialogue closes, is no choice.
+pub fn ids_choose_nothing_else()
+    ensures taken { (S : State) (e : Event) (T U : State) (a b : Answer)
+        → Step S e T a → Step S e U b → is_some a.id ≡ is_some b.id }
+    ensures closed { (S : State) (e : Event) (T U : State) (a b : Answer)
+        → Step S e T a → Step S e U b → (id : List ℕ) → S.dialogues id ≢ None
+        → T.dialogues id ≡ None → U.dialogues id ≡ None }
 {}
 
 /// What the worked examples compute is a step, if there is room and the new id is a new one.

@@ -10,6 +10,7 @@ use Rattle.machine_laws.proofs.Naming.{unnamed_stays}
 use Rattle.frames.specs.Octets.{RawEvent, RawEntry, RawOut, IsRouted, StepOctets}
 use Rattle.frames.specs.OctetJournals.{ChainOctets, LegalOctets, RawEpoch, first_raw_base, joined_raws}
 use Rattle.frames_laws.proofs.OctetLaws.{chain_cut, chain_joined, event_one, holders_of_octets, isolation_of_octets, octets_push}
+use Rattle.hlrcore.specs.Ids.{MovesIds}
 use Rattle.hlrcore.specs.Shards.{ShardState, IsSameShard, directory_of, state_of}
 use Rattle.hlrcore.specs.Sound.{IsSoundShard}
 use Rattle.hlrcore.specs.declared.answer.StepAnswer.{StepAnswer}
@@ -223,10 +224,10 @@ module _ (keep : Keep) (b c : Option ShardState) (s : ShardState) (before roomy 
           none = λ nothing. absurd (let both : Entries ≡ Nothing = sym keeps ∙ nothing in cc);
         }
 
-    pub entry_handles : (after : List Entry) (handled : Handled) → keep ≡ Entries
+    pub entry_handles : MovesIds s.dialogues a.id t.dialogues → (after : List Entry) (handled : Handled) → keep ≡ Entries
         → raw_entries after ≡ raw_entries roomy ++ entry_of event a ∷ [] → handled.outs ≡ a.outs → handled.position ≡ length roomy
         → Handles old event handled (log keep (base_of c t) (raw_entries after) t)
-    entry_handles after handled keeps put outs position =
+    entry_handles ids after handled keeps put outs position =
         subst (λ (l : Log). Handles l event handled (log keep (base_of c t) (raw_entries after) t)) seen (record {
           entry = entry_of event a;
           new_is = by keep keeps (is.kept keeps) (put ∙ ap (λ (es : List Entry). raw_entries es ++ entry_of event a ∷ []) is.entries);
@@ -235,6 +236,7 @@ module _ (keep : Keep) (b c : Option ShardState) (s : ShardState) (before roomy 
           outs_are = outs;
           position = position ∙ ap (λ (es : List Entry). length es) is.entries ∙ sym (length-map before raw_entry);
           step = step;
+          ids = ids;
           unnamed = leaves_unnamed (state_of s) (state_of t) (entry_of event a) step;
         })
       where
@@ -250,9 +252,9 @@ module _ (keep : Keep) (b c : Option ShardState) (s : ShardState) (before roomy 
         (ap raw_entries is.entries ∙ is.held.begins (is.held.none nothing))
         (step_sound keep (base_of b s) s t (raw_entries before) (entry_of event a) is.held.log_is routed step same)
 
-    pub nothing_handles : (handled : Handled) → keep ≡ Nothing → handled.outs ≡ a.outs → handled.position ≡ 0
+    pub nothing_handles : MovesIds s.dialogues a.id t.dialogues → (handled : Handled) → keep ≡ Nothing → handled.outs ≡ a.outs → handled.position ≡ 0
         → Handles old event handled (log keep (base_of c t) (raw_entries roomy) t)
-    nothing_handles handled nothing outs position =
+    nothing_handles ids handled nothing outs position =
         subst (λ (l : Log). Handles l event handled (log keep (base_of c t) (raw_entries roomy) t)) seen (record {
           entry = entry_of event a;
           new_is = by keep nothing (is.left nothing ∙ is.held.none nothing) (ap raw_entries is.entries ∙ empty);
@@ -261,6 +263,7 @@ module _ (keep : Keep) (b c : Option ShardState) (s : ShardState) (before roomy 
           outs_are = outs;
           position = position ∙ sym (ap length empty);
           step = step;
+          ids = ids;
           unnamed = leaves_unnamed (state_of s) (state_of t) (entry_of event a) step;
         })
       where

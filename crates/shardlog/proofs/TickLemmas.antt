@@ -6,6 +6,7 @@ use Rattle.machine.specs.declared.numbers.TheConstants.{MAX_ENTRIES}
 use Rattle.machine.specs.Events.{Clock}
 use Rattle.frames.specs.Octets.{RawClock, StepOctets}
 use Rattle.hlrcore.specs.Answers.{entry_of}
+use Rattle.hlrcore.specs.Ids.{MovesIds}
 use Rattle.hlrcore.specs.Shards.{IsSameShard, ShardState, state_of}
 use Rattle.hlrcore.specs.declared.answer.StepAnswer.{StepAnswer}
 use Rattle.shardlog.specs.declared.entry.Entry.{Entry}
@@ -74,14 +75,14 @@ module _ (keep : Keep) (b c : Option ShardState) (s : ShardState) (before roomy 
     entry_ticked =
         entry_held keep b c s before roomy is old t (RawClock s.shard now) a seen (Clock s.shard now, (refl, refl), refl) step same after keeps few put_own
 
-    pub entry_ticks : Ticks now old (log keep (base_of c t) (raw_entries after) t)
-    entry_ticks =
+    pub entry_ticks : MovesIds s.dialogues a.id t.dialogues → Ticks now old (log keep (base_of c t) (raw_entries after) t)
+    entry_ticks ids =
         let handled : Handled = record { position = length roomy; outs = a.outs } in
         let was : Log = log keep (base_of b s) (raw_entries before) s in
         subst (λ (l : Log). Ticks now l (log keep (base_of c t) (raw_entries after) t)) seen (record {
           handled = handled;
           handles =
-              entry_handles keep b c s before roomy is was t (RawClock s.shard now) a refl (Clock s.shard now, (refl, refl), refl) step same after
+              entry_handles keep b c s before roomy is was t (RawClock s.shard now) a refl (Clock s.shard now, (refl, refl), refl) step same ids after
               handled keeps put_own refl refl;
           keeps = held_keeps keep c (raw_entries after) t entry_ticked;
         })
@@ -91,14 +92,14 @@ module _ (keep : Keep) (b c : Option ShardState) (s : ShardState) (before roomy 
     nothing_ticked =
         nothing_held keep b c s before roomy is old t (RawClock s.shard now) a seen (Clock s.shard now, (refl, refl), refl) step same nothing
 
-    pub nothing_ticks : Ticks now old (log keep (base_of c t) (raw_entries roomy) t)
-    nothing_ticks =
+    pub nothing_ticks : MovesIds s.dialogues a.id t.dialogues → Ticks now old (log keep (base_of c t) (raw_entries roomy) t)
+    nothing_ticks ids =
         let handled : Handled = record { position = 0; outs = a.outs } in
         let was : Log = log keep (base_of b s) (raw_entries before) s in
         subst (λ (l : Log). Ticks now l (log keep (base_of c t) (raw_entries roomy) t)) seen (record {
           handled = handled;
           handles =
-              nothing_handles keep b c s before roomy is was t (RawClock s.shard now) a refl (Clock s.shard now, (refl, refl), refl) step same
+              nothing_handles keep b c s before roomy is was t (RawClock s.shard now) a refl (Clock s.shard now, (refl, refl), refl) step same ids
               handled nothing refl refl;
           keeps = held_keeps keep c (raw_entries roomy) t nothing_ticked;
         })

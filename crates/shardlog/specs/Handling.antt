@@ -5,6 +5,7 @@ use Rattle.machine.specs.Events.{Event}
 use Rattle.machine.specs.Holders.{IsNamed}
 use Rattle.machine.specs.State.{Dialogue, State}
 use Rattle.frames.specs.Octets.{RawEvent, RawEntry, IsEvent, StepOctets}
+use Rattle.hlrcore.specs.Ids.{MovesIds}
 use Rattle.hlrcore.specs.Shards.{IsSameShard, ShardState, state_of}
 use Rattle.shardlog.specs.declared.entry.Handled.{Handled}
 use Rattle.shardlog.specs.declared.fault.ShardFault.{ShardFault}
@@ -24,8 +25,8 @@ abbrev pub recorded : Keep → Log → RawEntry → ShardState → Log
 recorded Entries l entry state = log Entries l.base (l.entries ++ entry ∷ []) state
 recorded Nothing l entry state = fresh Nothing state
 
--- An event is handled. Its entry has the event, what is sent, and the rest of a step from the state before to the state after; where
--- entries are kept, it is appended to the journal, whose base stays.
+-- An event is handled. Its entry has the event, what is sent, and the rest of a step from the state before to the state after, whose id is the
+-- next one; where entries are kept, it is appended to the journal, whose base stays.
 pub record Handles (old : Log) (raw : RawEvent) (handled : Handled) (new : Log) : Type 0 where
   pub entry : RawEntry
   pub new_is : new ≡ recorded old.keep old entry new.state
@@ -34,6 +35,7 @@ pub record Handles (old : Log) (raw : RawEvent) (handled : Handled) (new : Log) 
   pub outs_are : handled.outs ≡ entry.outs
   pub position : handled.position ≡ length old.entries
   pub step : StepOctets (state_of old.state) entry (state_of new.state)
+  pub ids : MovesIds old.state.dialogues entry.id new.state.dialogues
   pub unnamed : LeavesUnnamed (state_of old.state) raw (state_of new.state)
 
 -- Why an event of a shard that needs no reading is refused, memory apart: exactly if the shard is another, and exactly if the journal is

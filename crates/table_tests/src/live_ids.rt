@@ -1,7 +1,6 @@
 //! Ids taken and freed, and out of memory.
 
 use hlr_types::Tid;
-use std::alloc::AllocError;
 use std::process::Abort;
 use std::test::Fail;
 use tidalloc::{IdFault, Ids};
@@ -10,9 +9,11 @@ use tidalloc::{IdFault, Ids};
 enum Step {
     NextIs(Option<Tid>),
     Takes(Result<Tid, IdFault>),
-    Reserves(Result<(), IdFault>),
-    /// Reserves memory, and takes an id without allocating.
-    TakesReserved(Tid),
+    IsFull(bool),
+    /// Takes the next id where it is known that there is room.
+    TakesOne(Tid),
+    /// Has the slots that were never used begin after a generation.
+    BeginsAfter(u16),
     /// The id that is next after a live one is freed.
     NextAfter(Tid, Tid),
     /// Frees a live id.
@@ -22,11 +23,16 @@ enum Step {
     CountIs(usize),
 }
 
-fn takes_reserved(ids: &mut Ids, wanted: Tid) -> bool {
-    match ids.reserve() {
-        Ok(()) => ids.take_reserved() == wanted,
-        Err(_) => false,
+fn takes_one(ids: &mut Ids, wanted: Tid) -> bool {
+    !ids.is_full() && ids.take_one() == wanted
+}
+
+fn begins_after(ids: &mut Ids, generation: u16) -> bool {
+    let is_one = generation < 4096;
+    if is_one {
+        ids.begin_after(generation);
     }
+    is_one
 }
 
 fn gives_back(ids: &mut Ids, id: Tid) -> bool {
@@ -42,8 +48,9 @@ fn is_so(ids: &mut Ids, step: &Step) -> bool {
     match step {
         Step::NextIs(id) => ids.next_id() == *id,
         Step::Takes(taken) => ids.take() == *taken,
-        Step::Reserves(reserved) => ids.reserve() == *reserved,
-        Step::TakesReserved(id) => takes_reserved(ids, *id),
+        Step::IsFull(is_full) => ids.is_full() == *is_full,
+        Step::TakesOne(id) => takes_one(ids, *id),
+        Step::BeginsAfter(generation) => begins_after(ids, *generation),
         Step::NextAfter(id, next) => ids.is_live(*id) && ids.next_after(*id) == *next,
         Step::GivesBack(id) => gives_back(ids, *id),
         Step::IsLive(id, is_live) => ids.is_live(*id) == *is_live,
@@ -96,7 +103,7 @@ const AFTER_LAST: Tid = Tid([15, 0, 0x2F, 0xFF]);
 
 const OF_A_FULL_SHARD: [Step; 8] = [
     Step::Takes(Err(IdFault::NoRoom)),
-    Step::Reserves(Err(IdFault::NoRoom)),
+    Step::IsFull(true),
     Step::NextIs(None),
     Step::IsLive(LAST, true),
     Step::NextAfter(LAST, AFTER_LAST),
@@ -168,47 +175,70 @@ fn a_copy_is_a_value_of_its_own(rt: HostRuntime) -> Result<(), Fail> {
     Ok(())
 }
 
-/// After `reserve` there is room, and the id taken is the one that was next.
-const RESERVED: [Step; 3] = [
+/// Where there is room, the id taken is the one that was next.
+const WITH_ROOM: [Step; 4] = [
+    Step::IsFull(false),
     Step::NextIs(Some(Tid([3, 0, 0x10, 0]))),
-    Step::TakesReserved(Tid([3, 0, 0x10, 0])),
+    Step::TakesOne(Tid([3, 0, 0x10, 0])),
     Step::CountIs(1),
 ];
 
 #[test]
-fn reserved_room(rt: HostRuntime) -> Result<(), Fail> {
+fn taken_where_there_is_room(rt: HostRuntime) -> Result<(), Fail> {
     let mut ids = Ids::new(rt.alloc(), 3)?;
-    play(&rt, &mut ids, &RESERVED);
+    play(&rt, &mut ids, &WITH_ROOM);
     Ok(())
 }
 
-/// Whether the copy equals the ids.
-fn is_same(ids: &Ids, copy: &Ids) -> bool {
-    for slot in 0..16u32 {
-        let id = Tid::new(4, 4096 + slot);
-        if ids.slot(id) != copy.slot(id) {
-            return false;
-        }
-    }
-    ids.next_id() == copy.next_id() && ids.live_count() == copy.live_count()
-}
+/// The slots that were never used begin after the generation that was told last; slot 0 goes on by one.
+const LATER: [Step; 8] = [
+    Step::Takes(Ok(Tid([5, 0, 0x10, 0]))),
+    Step::BeginsAfter(7),
+    Step::Takes(Ok(Tid([5, 0, 0x80, 1]))),
+    Step::GivesBack(Tid([5, 0, 0x10, 0])),
+    Step::Takes(Ok(Tid([5, 0, 0x20, 0]))),
+    Step::BeginsAfter(4095),
+    Step::NextIs(Some(Tid([5, 0, 0x10, 2]))),
+    Step::IsLive(Tid([5, 0, 0x80, 1]), true),
+];
 
-/// Takes up to eight ids: after a failed allocation the ids equal a copy made before.
-fn take_some(rt: &impl Abort, ids: &mut Ids) -> Result<(), AllocError> {
-    for _number in 0..8 {
-        let copy = ids.try_copy()?;
-        if let Err(fault) = ids.take() {
-            assert!(rt; fault == IdFault::Memory && is_same(ids, &copy));
-        }
-    }
-    Ok(())
-}
-
-/// Each allocation fails in turn by `rt try --test --fail-alloc N`.
 #[test]
-fn refused_growths(rt: HostRuntime) {
+fn ids_begin_later(rt: HostRuntime) -> Result<(), Fail> {
+    let mut ids = Ids::new(rt.alloc(), 5)?;
+    play(&rt, &mut ids, &LATER);
+    Ok(())
+}
+
+/// What comes next is the same in a copy, until one of both takes an id more, or frees another one.
+#[test]
+fn the_same_ids_come_next(rt: HostRuntime) -> Result<(), Fail> {
+    let mut ids = Ids::new(rt.alloc(), 6)?;
+    let first = ids.take()?;
+    let mut copy = ids.try_copy()?;
+    assert!(&rt; ids.goes_on_as(&copy));
+    let second = copy.take()?;
+    assert!(&rt; !ids.goes_on_as(&copy));
+    let _same = ids.take()?;
+    assert!(&rt; ids.goes_on_as(&copy));
+    free(&mut ids, first);
+    free(&mut copy, second);
+    assert!(&rt; !ids.goes_on_as(&copy));
+    Ok(())
+}
+
+fn free(ids: &mut Ids, id: Tid) {
+    if ids.is_live(id) {
+        ids.give_back(id);
+    }
+}
+
+/// Takes eight ids, which allocates nothing, so it succeeds whichever allocation fails.
+#[test]
+fn no_growth(rt: HostRuntime) {
     let Ok(mut ids) = Ids::new(rt.alloc(), 4) else {
         return;
     };
-    let _refused = take_some(&rt, &mut ids);
+    for number in 0..8 {
+        assert!(&rt; ids.take() == Ok(Tid::new(4, 4096 + number)));
+    }
 }

@@ -13,7 +13,8 @@ use Rattle.tidalloc.proofs.IdLemmas.{slot_of-id_at, id_at-generation, IsIdOf-id_
 use Rattle.tidalloc.proofs.SlotLemmas.{contains-live_of, within_free}
 use Rattle.tidalloc.specs.declared.slot.Slot.{Slot}
 use Rattle.tidalloc.specs.LiveIds.{id_at, slot_of, next_generation, MayBeTaken}
-use Rattle.tidalloc.specs.Slots.{live_of, ids_of, is_at, was_at, is_free, generation_in, next_slot, next_in, AreSlots}
+use Rattle.tidalloc.specs.Slots.{live_of, ids_of, is_at, was_at, is_free, generation_in, AreSlots}
+use Rattle.tidalloc.proofs.SupplyLemmas.{slot_next, id_next}
 
 -- no id of the slot is live
 pub is_unused : Option Slot → Bool
@@ -29,38 +30,38 @@ pub unused_past : (slots : List Slot) → is_unused (slice_get slots (length slo
 unfolding is_unused
 unused_past slots = ap is_unused (slice_get_past slots (length slots) (omega arith))
 
-none_at_unused : (shard : ℕ) (q : List ℕ) (o : Option Slot) → is_unused o ≡ true → is_at shard q o ≡ false
+pub none_at_unused : (shard : ℕ) (q : List ℕ) (o : Option Slot) → is_unused o ≡ true → is_at shard q o ≡ false
 unfolding is_unused
 none_at_unused shard q None e = refl
 none_at_unused shard q (Some s) e = elim s.is_live as (λ b. cond b false true ≡ true
     → (b && eq_by_cmp octets_cmp q (id_at shard (slot_of q) s.generation)) ≡ false) [ true ↦ λ e. cc | false ↦ λ e. refl ] e
 
 -- an unused slot whose id was freed last has that id's generation
-own_unused : (shard k : ℕ) (id : List ℕ) (o : Option Slot) → is_unused o ≡ true → was_at shard id o ≡ true → slot_of id ≡ k
-    → id ≡ id_at shard k (generation_in o)
+own_unused : (shard first k : ℕ) (id : List ℕ) (o : Option Slot) → is_unused o ≡ true → was_at shard id o ≡ true → slot_of id ≡ k
+    → id ≡ id_at shard k (generation_in first o)
 unfolding is_unused
-own_unused shard k id None free was here = cc
-own_unused shard k id (Some s) free was here =
+own_unused shard first k id None free was here = cc
+own_unused shard first k id (Some s) free was here =
     elim s.is_live as (λ b. cond b false true ≡ true → cond b true (eq_by_cmp octets_cmp id (id_at shard (slot_of id) s.generation)) ≡ true
     → id ≡ id_at shard k s.generation) [
       | true ↦ λ f w. cc
       | false ↦ λ f w. same_octets id _ w ∙ ap (λ n. id_at shard n s.generation) here
     ] free was
 
-module _ (shard : ℕ) (slots : List Slot) (free : List ℕ) (freed : Option (List ℕ)) (room : ℕ) (a : AreSlots shard slots free freed room) where
+module _ (shard : ℕ) (first : ℕ) (slots : List Slot) (free : List ℕ) (freed : Option (List ℕ)) (room of_free : ℕ) (a : AreSlots shard first slots free freed room of_free) where
   -- the next id of an unused slot may be taken
   module _ (k : ℕ) (small : k < 4096) (unused : is_unused (slice_get slots k) ≡ true) where
-    another : (id : List ℕ) → freed ≡ Some id → id ≡ id_at shard k (next_generation (generation_in (slice_get slots k))) → ⊥
+    another : (id : List ℕ) → freed ≡ Some id → id ≡ id_at shard k (next_generation (generation_in first (slice_get slots k))) → ⊥
     another id e same =
-        let g = generation_in (slice_get slots k) in
+        let g = generation_in first (slice_get slots k) in
         let here : slot_of id ≡ k = ap slot_of same ∙ slot_of-id_at shard k (next_generation g) small in
         let was : was_at shard id (slice_get slots k) ≡ true = ap (λ n. was_at shard id (slice_get slots n)) (sym here) ∙ (a.freed id e).own in
-        let own = own_unused shard k id (slice_get slots k) unused was here in
+        let own = own_unused shard first k id (slice_get slots k) unused was here in
         (next_generation-is g (a.generations k)).2 (id_at-generation shard k (next_generation g) g (sym same ∙ own))
 
-    pub may_take : MayBeTaken (ids_of shard slots free freed) (id_at shard k (next_generation (generation_in (slice_get slots k))))
+    pub may_take : MayBeTaken (ids_of shard first slots free freed) (id_at shard k (next_generation (generation_in first (slice_get slots k))))
     may_take =
-        let g = generation_in (slice_get slots k) in
+        let g = generation_in first (slice_get slots k) in
         let h = next_generation g in
         let is = next_generation-is g (a.generations k) in
         record {
@@ -71,14 +72,14 @@ module _ (shard : ℕ) (slots : List Slot) (free : List ℕ) (freed : Option (Li
           not_freed_last = λ e. another (id_at shard k h) e refl;
         }
 
-pub next_slot-push : (slots : List Slot) (free : List ℕ) (k : ℕ) → next_slot slots (free ++ k ∷ []) ≡ k
-next_slot-push slots free k =
+pub slot_next-push : (slots : List Slot) (free : List ℕ) (k : ℕ) → slot_next slots (free ++ k ∷ []) ≡ k
+slot_next-push slots free k =
     let last : length (free ++ k ∷ []) - 1 ≡ length free = omega (arith, length-append free (k ∷ [])) in
     ap (λ i. get_or (free ++ k ∷ []) i (length slots)) last ∙ get_or-append_seam free k [] (length slots)
 
-pub next_in-small : (shard : ℕ) (slots : List Slot) (k : ℕ) → k < 4096
-    → next_in shard slots k ≡ Some (id_at shard k (next_generation (generation_in (slice_get slots k))))
-next_in-small shard slots k small = ap (λ b. cond b (Some (id_at shard k (next_generation (generation_in (slice_get slots k))))) None) (lt-ltb k 4096 small)
+pub id_next-small : (shard first : ℕ) (slots : List Slot) (k : ℕ) → k < 4096
+    → id_next shard first slots k ≡ Some (id_at shard k (next_generation (generation_in first (slice_get slots k))))
+id_next-small shard first slots k small = ap (λ b. cond b (Some (id_at shard k (next_generation (generation_in first (slice_get slots k))))) None) (lt-ltb k 4096 small)
 
 get_or-default : (xs : List ℕ) (i d e : ℕ) → i < length xs → get_or xs i d ≡ get_or xs i e
 get_or-default [] i d e h = absurd (omega arith)
@@ -86,18 +87,18 @@ get_or-default (x ∷ xs) zero d e h = refl
 get_or-default (x ∷ xs) (suc i) d e h = get_or-default xs i d e (omega arith)
 
 -- the slot that is used next is unused
-pub unused_next : (shard : ℕ) (slots : List Slot) (free : List ℕ) (freed : Option (List ℕ)) (room : ℕ) → AreSlots shard slots free freed room
-    → is_unused (slice_get slots (next_slot slots free)) ≡ true
-unused_next shard slots [] freed room a = unused_past slots
-unused_next shard slots (f ∷ fs) freed room a =
+pub unused_next : (shard first : ℕ) (slots : List Slot) (free : List ℕ) (freed : Option (List ℕ)) (room of_free : ℕ) → AreSlots shard first slots free freed room of_free
+    → is_unused (slice_get slots (slot_next slots free)) ≡ true
+unused_next shard first slots [] freed room of_free a = unused_past slots
+unused_next shard first slots (f ∷ fs) freed room of_free a =
     let last : length (f ∷ fs) - 1 < length (f ∷ fs) = omega arith in
     ap (λ n. is_unused (slice_get slots n)) (get_or-default (f ∷ fs) (length (f ∷ fs) - 1) (length slots) 0 last)
     ∙ unused_free _ (a.free_ones (length (f ∷ fs) - 1) last)
 
 -- there is a slot to be used next exactly if not all are live
-pub next_small : (shard : ℕ) (slots : List Slot) (free : List ℕ) (freed : Option (List ℕ)) (room : ℕ) → AreSlots shard slots free freed room
-    → ((next_slot slots free < 4096) × (set.len (live_of shard slots) ≡ 4096 → ⊥)) ⊎ ((next_slot slots free ≡ 4096) × (set.len (live_of shard slots) ≡ 4096))
-next_small shard slots [] freed room a = by_room (ltb (length slots) 4096) refl
+pub next_small : (shard first : ℕ) (slots : List Slot) (free : List ℕ) (freed : Option (List ℕ)) (room of_free : ℕ) → AreSlots shard first slots free freed room of_free
+    → ((slot_next slots free < 4096) × (set.len (live_of shard slots) ≡ 4096 → ⊥)) ⊎ ((slot_next slots free ≡ 4096) × (set.len (live_of shard slots) ≡ 4096))
+next_small shard first slots [] freed room of_free a = by_room (ltb (length slots) 4096) refl
   where
     by_room : (b : Bool) → ltb (length slots) 4096 ≡ b → ((length slots < 4096) × (set.len (live_of shard slots) ≡ 4096 → ⊥))
         ⊎ ((length slots ≡ 4096) × (set.len (live_of shard slots) ≡ 4096))
@@ -105,33 +106,33 @@ next_small shard slots [] freed room a = by_room (ltb (length slots) 4096) refl
     by_room false e =
         let most : 4096 ≤ length slots = ltb-false _ _ e in
         inr (omega (arith, a.few, most), omega (arith, a.few, most, a.counted))
-next_small shard slots (f ∷ fs) freed room a =
+next_small shard first slots (f ∷ fs) freed room of_free a =
     let last : length (f ∷ fs) - 1 < length (f ∷ fs) = omega arith in
     let at = get_or-default (f ∷ fs) (length (f ∷ fs) - 1) (length slots) 0 last in
     let within = within_free slots (get_or (f ∷ fs) (length (f ∷ fs) - 1) 0) (a.free_ones (length (f ∷ fs) - 1) last) in
     inl (omega (arith, at, within, a.few), λ all. omega (arith, a.counted, a.few, all))
 
 -- the next id, if there is one, may be taken
-pub next_may : (shard : ℕ) (slots : List Slot) (free : List ℕ) (freed : Option (List ℕ)) (room : ℕ) → AreSlots shard slots free freed room → (id : List ℕ)
-    → next_in shard slots (next_slot slots free) ≡ Some id → MayBeTaken (ids_of shard slots free freed) id
-next_may shard slots free freed room a id e = elim (next_small shard slots free freed room a) [
+pub next_may : (shard first : ℕ) (slots : List Slot) (free : List ℕ) (freed : Option (List ℕ)) (room of_free : ℕ) → AreSlots shard first slots free freed room of_free → (id : List ℕ)
+    → id_next shard first slots (slot_next slots free) ≡ Some id → MayBeTaken (ids_of shard first slots free freed) id
+next_may shard first slots free freed room of_free a id e = elim (next_small shard first slots free freed room of_free a) [
   | inl few ↦
-      let is = next_in-small shard slots (next_slot slots free) few.0 in
-      let same : id_at shard (next_slot slots free) (next_generation (generation_in (slice_get slots (next_slot slots free)))) ≡ id = cc in
-      subst (MayBeTaken (ids_of shard slots free freed)) same (may_take shard slots free freed room a (next_slot slots free) few.0
-      (unused_next shard slots free freed room a))
+      let is = id_next-small shard first slots (slot_next slots free) few.0 in
+      let same : id_at shard (slot_next slots free) (next_generation (generation_in first (slice_get slots (slot_next slots free)))) ≡ id = cc in
+      subst (MayBeTaken (ids_of shard first slots free freed)) same (may_take shard first slots free freed room of_free a (slot_next slots free) few.0
+      (unused_next shard first slots free freed room of_free a))
   | inr full ↦ absurd (none full.0)
 ]
   where
-    none : next_slot slots free ≡ 4096 → ⊥
+    none : slot_next slots free ≡ 4096 → ⊥
     none all =
-        let n : next_in shard slots (next_slot slots free) ≡ None = ap (next_in shard slots) all in
+        let n : id_next shard first slots (slot_next slots free) ≡ None = ap (id_next shard first slots) all in
         cc
 
-pub next_all_may : (shard : ℕ) (slots : List Slot) (free : List ℕ) (freed : Option (List ℕ)) (room : ℕ) → AreSlots shard slots free freed room
-    → IfSome (next_in shard slots (next_slot slots free)) (MayBeTaken (ids_of shard slots free freed))
-next_all_may shard slots free freed room a = each (next_in shard slots (next_slot slots free)) refl
+pub next_all_may : (shard first : ℕ) (slots : List Slot) (free : List ℕ) (freed : Option (List ℕ)) (room of_free : ℕ) → AreSlots shard first slots free freed room of_free
+    → IfSome (id_next shard first slots (slot_next slots free)) (MayBeTaken (ids_of shard first slots free freed))
+next_all_may shard first slots free freed room of_free a = each (id_next shard first slots (slot_next slots free)) refl
   where
-    each : (o : Option (List ℕ)) → next_in shard slots (next_slot slots free) ≡ o → IfSome o (MayBeTaken (ids_of shard slots free freed))
+    each : (o : Option (List ℕ)) → id_next shard first slots (slot_next slots free) ≡ o → IfSome o (MayBeTaken (ids_of shard first slots free freed))
     each None e = tt
-    each (Some id) e = next_may shard slots free freed room a id e
+    each (Some id) e = next_may shard first slots free freed room of_free a id e

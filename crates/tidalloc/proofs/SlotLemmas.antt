@@ -2,7 +2,6 @@
 use Rattle.std.proofs.Common.{◌≡◌, ℕ, zero, suc, ◌+◌, ◌<◌, ◌≤◌, Bool, true, false, cond, not, ◌&&◌, ◌||◌, List, [], ◌∷◌, ◌++◌, length, Option, Some, None, refl, sym, ap, ◌∙◌, arith, inl, inr}
 use Rattle.std.proofs.Math.ListN.{set, length-set, length-append}
 use Rattle.std.proofs.lemmas.Bool.{cases_eq}
-use Rattle.std.proofs.lemmas.Option.{slice_get_past}
 use Rattle.std.specs.List.{slice_get, list_any}
 use Rattle.std.specs.Ordering.{eq_by_cmp}
 use Rattle.std.specs.FinSet as set
@@ -158,18 +157,3 @@ puts-push slots s few = record {
   here = slice_get-push_last slots s;
   there = λ j apart. slice_get-push_other slots s j apart;
 }
-
--- a slot that was never used stands for no id
-pub live_of-reserve : (shard : ℕ) (slots : List Slot) → length slots < 4096
-    → live_of shard (slots ++ record { generation = 0; is_live = false } ∷ []) ≡ live_of shard slots
-live_of-reserve shard slots few =
-    let puts = puts-push slots (record { generation = 0; is_live = false }) few in
-    set.same_set octets_total octets_exact _ _ (λ q.
-    contains-live_of shard q _ puts.still_few
-    ∙ elim (cases_eq (slot_of q) (length slots)) [
-      | inl e ↦
-          ap (λ n. is_at shard q (slice_get (slots ++ record { generation = 0; is_live = false } ∷ []) n)) e ∙ ap (is_at shard q) puts.here
-          ∙ sym (ap (λ n. is_at shard q (slice_get slots n)) e ∙ ap (is_at shard q) (slice_get_past slots (length slots) (omega arith)))
-      | inr other ↦ ap (is_at shard q) (puts.there (slot_of q) other)
-    ]
-    ∙ sym (contains-live_of shard q slots puts.few))

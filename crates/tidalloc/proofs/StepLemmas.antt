@@ -1,5 +1,5 @@
 -- The table of slots, after memory is reserved, an id is taken or one is freed.
-use Rattle.std.proofs.Common.{◌≡◌, ℕ, zero, suc, ◌+◌, ◌-◌, ◌<◌, ◌≤◌, true, false, cond, ◌&&◌, List, [], ◌∷◌, ◌++◌, length, Option, Some, None, refl, sym, ap, ◌∙◌, subst, arith, inl, inr, get_or}
+use Rattle.std.proofs.Common.{◌≡◌, ℕ, ◌+◌, ◌-◌, ◌<◌, ◌≤◌, true, false, cond, ◌&&◌, List, [], ◌∷◌, ◌++◌, length, Option, Some, None, refl, sym, ap, ◌∙◌, subst, arith, inl, inr, get_or}
 use Rattle.std.proofs.Math.ListN.{set, length-set, length-append, get_or-append}
 use Rattle.std.proofs.Math.Seq.{get_or-append_seam}
 use Rattle.std.proofs.lemmas.Bool.{cases_eq}
@@ -8,20 +8,22 @@ use Rattle.std.specs.List.{slice_get}
 use Rattle.std.specs.Ordering.{eq_by_cmp}
 use Rattle.std.specs.FinSet as set
 use Rattle.hlr_types.specs.Orders.{octets_cmp}
-use Rattle.hlr_types.specs.Ids.{IsIdOf}
 use Rattle.hlr_types.proofs.OrderLemmas.{octets_total, same_octets, eq_octets, ne_octets}
 use Rattle.tidalloc.proofs.IdLemmas.{generation_of-id_at, next_generation-is}
-use Rattle.tidalloc.proofs.SlotLemmas.{contains-live_of, Puts, live_of-take, live_of-give_back, live_of-reserve, none_at_free, within_free, within_was, within_at, puts-set, puts-push}
-use Rattle.tidalloc.proofs.NextLemmas.{may_take, next_slot-push, next_in-small, unused_free}
+use Rattle.tidalloc.proofs.SlotLemmas.{contains-live_of, Puts, live_of-take, live_of-give_back, none_at_free, within_free, within_at, puts-set, puts-push}
+use Rattle.tidalloc.proofs.NextLemmas.{is_unused, may_take, none_at_unused, slot_next-push, id_next-small, unused_free, unused_past}
+use Rattle.tidalloc.proofs.SupplyLemmas.{slot_next, id_next, next_is, after_using_again, after_using_first, after_giving_back}
 use Rattle.tidalloc.specs.declared.slot.Slot.{Slot}
-use Rattle.tidalloc.specs.LiveIds.{LiveIds, id_at, slot_of, generation_of, next_generation, next_use, Takes, MayBeTaken, given_back}
-use Rattle.tidalloc.specs.Slots.{live_of, ids_of, is_at, was_at, is_free, generation_in, next_slot, next_in, WasFreed, AreSlots}
+use Rattle.tidalloc.specs.LiveIds.{id_at, slot_of, generation_of, next_generation, next_of, next_use, Takes, MayBeTaken, after_taking, given_back}
+use Rattle.tidalloc.specs.Slots.{live_of, ids_of, is_at, was_at, is_free, generation_in, supply_of, WasFreed, AreSlots}
 
-pub AreSlots-none : (shard room : ℕ) → shard < 16 → 4096 ≤ room → AreSlots shard [] [] None room
-AreSlots-none shard room small enough = record {
+pub AreSlots-none : (shard room of_free : ℕ) → shard < 16 → 4096 ≤ room → 4096 ≤ of_free → AreSlots shard 0 [] [] None room of_free
+AreSlots-none shard room of_free small enough both = record {
   in_range = small;
+  first_small = omega arith;
   few = omega arith;
-  room_for_all = enough;
+  room_for_slots = enough;
+  room_for_free = both;
   counted = omega (arith, set.len-empty octets_cmp);
   generations = λ k. omega arith;
   free_ones = λ i h. absurd (omega arith);
@@ -29,64 +31,36 @@ AreSlots-none shard room small enough = record {
   freed = λ id e. cc;
 }
 
+-- another generation before a first use
+pub AreSlots-first : (shard first other : ℕ) (slots : List Slot) (free : List ℕ) (freed : Option (List ℕ)) (room of_free : ℕ) → other < 4096
+    → AreSlots shard first slots free freed room of_free → AreSlots shard other slots free freed room of_free
+AreSlots-first shard first other slots free freed room of_free small a = record {
+  in_range = a.in_range;
+  first_small = small;
+  few = a.few;
+  room_for_slots = a.room_for_slots;
+  room_for_free = a.room_for_free;
+  counted = a.counted;
+  generations = λ k. each (slice_get slots k) (a.generations k);
+  free_ones = a.free_ones;
+  different = a.different;
+  freed = a.freed;
+}
+  where
+    each : (o : Option Slot) → generation_in first o < 4096 → generation_in other o < 4096
+    each None h = small
+    each (Some s) h = h
+
 -- the generations are those of the old slots, and the new one
-kept_generations : (old new : List Slot) (number : ℕ) (t : Slot) → Puts old new number t → t.generation < 4096
-    → ((k : ℕ) → generation_in (slice_get old k) < 4096) → (k : ℕ) → generation_in (slice_get new k) < 4096
-kept_generations old new number t puts good each k =
+kept_generations : (first : ℕ) (old new : List Slot) (number : ℕ) (t : Slot) → Puts old new number t → t.generation < 4096
+    → ((k : ℕ) → generation_in first (slice_get old k) < 4096) → (k : ℕ) → generation_in first (slice_get new k) < 4096
+kept_generations first old new number t puts good each k =
     elim (cases_eq k number) [
-      | inl same ↦ subst (λ o. generation_in o < 4096) (sym (ap (slice_get new) same ∙ puts.here)) good
-      | inr apart ↦ subst (λ o. generation_in o < 4096) (sym (puts.there k apart)) (each k)
+      | inl same ↦ subst (λ o. generation_in first o < 4096) (sym (ap (slice_get new) same ∙ puts.here)) good
+      | inr apart ↦ subst (λ o. generation_in first o < 4096) (sym (puts.there k apart)) (each k)
     ]
 
--- ---- a slot that was never used is put behind the others
-
-module _ (shard : ℕ) (slots : List Slot) (freed : Option (List ℕ)) (room : ℕ) (a : AreSlots shard slots [] freed room) (few : length slots < 4096) where
-  puts_unused : Puts slots (slots ++ record { generation = 0; is_live = false } ∷ []) (length slots) (record { generation = 0; is_live = false })
-  puts_unused = puts-push slots _ few
-
-  kept_by_reserve : (id : List ℕ) → WasFreed shard slots id → WasFreed shard (slots ++ record { generation = 0; is_live = false } ∷ []) id
-  kept_by_reserve id w =
-      let within = within_was shard id slots (slot_of id) w.own in
-      let there = puts_unused.there (slot_of id) (λ e. omega arith) in
-      record { not_live = ap (is_at shard id) there ∙ w.not_live; own = ap (was_at shard id) there ∙ w.own }
-
-  one_free : (i : ℕ) → i < length (length slots ∷ []) → is_free (slice_get (slots ++ record { generation = 0; is_live = false } ∷ [])
-      (get_or (length slots ∷ []) i 0)) ≡ true
-  one_free zero h = ap is_free puts_unused.here
-  one_free (suc i) h = absurd (omega arith)
-
-  pub AreSlots-reserve : AreSlots shard (slots ++ record { generation = 0; is_live = false } ∷ []) (length slots ∷ []) freed room
-  AreSlots-reserve = record {
-    in_range = a.in_range;
-    few = puts_unused.still_few;
-    room_for_all = a.room_for_all;
-    counted = omega (arith, a.counted, ap set.len (live_of-reserve shard slots few), length-append slots (record { generation = 0; is_live = false } ∷ []));
-    generations = kept_generations slots _ (length slots) _ puts_unused (omega arith) a.generations;
-    free_ones = one_free;
-    different = λ i j h k. absurd (omega arith);
-    freed = λ id e. kept_by_reserve id (a.freed id e);
-  }
-
-  next-reserve : next_in shard (slots ++ record { generation = 0; is_live = false } ∷ [])
-      (next_slot (slots ++ record { generation = 0; is_live = false } ∷ []) (length slots ∷ [])) ≡ next_in shard slots (next_slot slots [])
-  next-reserve =
-      ap (next_in shard (slots ++ record { generation = 0; is_live = false } ∷ []))
-      (next_slot-push (slots ++ record { generation = 0; is_live = false } ∷ []) [] (length slots))
-      ∙ next_in-small shard (slots ++ record { generation = 0; is_live = false } ∷ []) (length slots) few
-      ∙ ap (λ o. Some (id_at shard (length slots) (next_generation (generation_in o)))) (puts_unused.here)
-      ∙ sym (next_in-small shard slots (length slots) few ∙ ap (λ o. Some (id_at shard (length slots) (next_generation (generation_in o))))
-      (slice_get_past slots (length slots) (omega arith)))
-
-  pub ids_of-reserve : ids_of shard (slots ++ record { generation = 0; is_live = false } ∷ []) (length slots ∷ []) freed
-      ≡ record (ids_of shard slots [] freed) { room = 1 }
-  ids_of-reserve = same _ _ _ _ (live_of-reserve shard slots few) next-reserve
-    where
-      same : (l m : set.FinSet octets_cmp) (x y : Option (List ℕ)) → l ≡ m → x ≡ y
-          → ◌≡◌ {A = LiveIds} (record { shard = shard; live = l; freed_last = freed; next = x; room = 1 })
-          (record { shard = shard; live = m; freed_last = freed; next = y; room = 1 })
-      same l m x y e f = cc
-
--- ---- the slot on top of the free ones is taken
+-- ---- an id is taken
 
 -- the id freed last stays so when another id is taken
 kept_freed : (shard : ℕ) (old new : List Slot) (number g : ℕ) (id : List ℕ) → Puts old new number (record { generation = g; is_live = true })
@@ -108,85 +82,141 @@ last_of : (free : List ℕ) (number : ℕ) → get_or (free ++ number ∷ []) (l
 last_of free number = get_or-append_seam free number [] 0
 
 -- the number that was popped is that of a free slot
-popped_free : (shard : ℕ) (slots : List Slot) (free : List ℕ) (number : ℕ) (freed : Option (List ℕ)) (room : ℕ)
-    → AreSlots shard slots (free ++ number ∷ []) freed room → is_free (slice_get slots number) ≡ true
-popped_free shard slots free number freed room a =
+popped_free : (shard first : ℕ) (slots : List Slot) (free : List ℕ) (number : ℕ) (freed : Option (List ℕ)) (room of_free : ℕ)
+    → AreSlots shard first slots (free ++ number ∷ []) freed room of_free → is_free (slice_get slots number) ≡ true
+popped_free shard first slots free number freed room of_free a =
     ap (λ n. is_free (slice_get slots n)) (sym (last_of free number)) ∙ a.free_ones (length free) (omega (arith, length-append free (number ∷ [])))
 
-pub popped_within : (shard : ℕ) (slots : List Slot) (free : List ℕ) (number : ℕ) (freed : Option (List ℕ)) (room : ℕ)
-    → AreSlots shard slots (free ++ number ∷ []) freed room → number < length slots
-popped_within shard slots free number freed room a = within_free slots number (popped_free shard slots free number freed room a)
+pub popped_within : (shard first : ℕ) (slots : List Slot) (free : List ℕ) (number : ℕ) (freed : Option (List ℕ)) (room of_free : ℕ)
+    → AreSlots shard first slots (free ++ number ∷ []) freed room of_free → number < length slots
+popped_within shard first slots free number freed room of_free a =
+    within_free slots number (popped_free shard first slots free number freed room of_free a)
 
-module _ (shard : ℕ) (slots : List Slot) (free : List ℕ) (number : ℕ) (freed : Option (List ℕ)) (room : ℕ) (s : Slot)
-    (a : AreSlots shard slots (free ++ number ∷ []) freed room) (stands : slice_get slots number ≡ Some s) where
-  free_there : is_free (slice_get slots number) ≡ true
-  free_there = popped_free shard slots free number freed room a
-
-  pub taken_generation : s.generation < 4096
-  taken_generation = subst (λ o. generation_in o < 4096) stands (a.generations number)
-
-  pub puts_taken : Puts slots (set slots number (record { generation = next_generation s.generation; is_live = true })) number
-      (record { generation = next_generation s.generation; is_live = true })
-  puts_taken = puts-set slots number _ a.few (within_free slots number free_there)
-
-  may_taken : MayBeTaken (ids_of shard slots (free ++ number ∷ []) freed) (id_at shard number (next_generation s.generation))
+-- an unused slot is now live, at its next generation
+module _ (shard first : ℕ) (slots new : List Slot) (free left : List ℕ) (number g : ℕ) (freed : Option (List ℕ)) (room of_free : ℕ)
+    (a : AreSlots shard first slots free freed room of_free) (is_next : slot_next slots free ≡ number) (small : number < 4096)
+    (unused : is_unused (slice_get slots number) ≡ true) (coming : generation_in first (slice_get slots number) ≡ g)
+    (puts : Puts slots new number (record { generation = next_generation g; is_live = true }))
+    (supply : supply_of first new left ≡ after_taking (supply_of first slots free)) where
+  may_taken : MayBeTaken (ids_of shard first slots free freed) (id_at shard number (next_generation g))
   may_taken =
-      subst (λ o. MayBeTaken (ids_of shard slots (free ++ number ∷ []) freed) (id_at shard number (next_generation (generation_in o)))) stands
-      (may_take shard slots (free ++ number ∷ []) freed room a number puts_taken.small (unused_free _ free_there))
+      subst (λ n. MayBeTaken (ids_of shard first slots free freed) (id_at shard number (next_generation n))) coming
+      (may_take shard first slots free freed room of_free a number small unused)
 
-  live_taken : live_of shard (set slots number (record { generation = next_generation s.generation; is_live = true }))
-      ≡ set.insert (live_of shard slots) (id_at shard number (next_generation s.generation))
-  live_taken = live_of-take shard slots _ number (next_generation s.generation) puts_taken (λ q. none_at_free shard q (slice_get slots number) free_there)
+  live_taken : live_of shard new ≡ set.insert (live_of shard slots) (id_at shard number (next_generation g))
+  live_taken = live_of-take shard slots new number (next_generation g) puts (λ q. none_at_unused shard q (slice_get slots number) unused)
 
-  one_more : set.len (live_of shard (set slots number (record { generation = next_generation s.generation; is_live = true })))
-      ≡ set.len (live_of shard slots) + 1
+  one_more : set.len (live_of shard new) ≡ set.len (live_of shard slots) + 1
   one_more =
       ap set.len live_taken
-      ∙ set.len-insert octets_total (live_of shard slots) (id_at shard number (next_generation s.generation))
+      ∙ set.len-insert octets_total (live_of shard slots) (id_at shard number (next_generation g))
       ∙ ap (λ b. cond b (set.len (live_of shard slots)) (set.len (live_of shard slots) + 1)) may_taken.not_live
 
-  pub takes : Takes (ids_of shard slots (free ++ number ∷ []) freed) (id_at shard number (next_generation s.generation))
-      (ids_of shard (set slots number (record { generation = next_generation s.generation; is_live = true })) free freed)
-  takes = record {
-    was_next = ap (next_in shard slots) (next_slot-push slots free number) ∙ next_in-small shard slots number puts_taken.small
-        ∙ ap (λ o. Some (id_at shard number (next_generation (generation_in o)))) stands;
+  takes_it : Takes (ids_of shard first slots free freed) (id_at shard number (next_generation g)) (ids_of shard first new left freed)
+  takes_it = record {
+    was_next = next_is shard first slots free ∙ ap (id_next shard first slots) is_next ∙ id_next-small shard first slots number small
+        ∙ ap (λ n. Some (id_at shard number (next_generation n))) coming;
     may = may_taken;
-    after = ap (λ l. record {
-      shard = shard;
-      live = l;
-      freed_last = freed;
-      next = next_in shard (set slots number (record { generation = next_generation s.generation; is_live = true }))
-          (next_slot (set slots number (record { generation = next_generation s.generation; is_live = true })) free);
-      room = length free;
-    }) live_taken;
+    after = λ i. record { shard = shard; live = live_taken i; freed_last = freed; supply = supply i };
   }
 
-  pub AreSlots-take : AreSlots shard (set slots number (record { generation = next_generation s.generation; is_live = true })) free freed room
-  AreSlots-take = record {
+  slots_taken : length left + set.len (live_of shard new) ≡ length new
+      → ((i : ℕ) → i < length left → (get_or left i 0 ≡ number → ⊥) × (is_free (slice_get slots (get_or left i 0)) ≡ true))
+      → ((i j : ℕ) → i < j → j < length left → get_or left i 0 ≡ get_or left j 0 → ⊥)
+      → AreSlots shard first new left freed room of_free
+  slots_taken count free_ones different = record {
     in_range = a.in_range;
-    few = puts_taken.still_few;
-    room_for_all = a.room_for_all;
-    counted = omega (
-      arith,
-      a.counted,
-      one_more,
-      length-append free (number ∷ []),
-      length-set slots number
-          (record { generation = next_generation s.generation; is_live = true }),
-    );
-    generations = kept_generations slots _ number _ puts_taken (next_generation-is s.generation taken_generation).1 a.generations;
-    free_ones = λ i h.
-        let longer : i < length (free ++ number ∷ []) = omega (arith, length-append free (number ∷ [])) in
-        let at : get_or (free ++ number ∷ []) i 0 ≡ get_or free i 0 = get_or-append free (number ∷ []) 0 i h in
-        let last : length free < length (free ++ number ∷ []) = omega (arith, length-append free (number ∷ [])) in
-        let apart : get_or free i 0 ≡ number → ⊥ = λ e. a.different i (length free) h last (at ∙ e ∙ sym (last_of free number)) in
-        ap is_free (puts_taken.there (get_or free i 0) apart) ∙ ap (λ n. is_free (slice_get slots n)) (sym at) ∙ a.free_ones i longer;
-    different = λ i j h k.
-        let longer : j < length (free ++ number ∷ []) = omega (arith, length-append free (number ∷ [])) in
-        λ e. a.different i j h longer (get_or-append free (number ∷ []) 0 i (omega arith) ∙ e ∙ sym (get_or-append free (number ∷ []) 0 j k));
-    freed = λ id e. kept_freed shard slots _ number (next_generation s.generation) id puts_taken (λ same. may_taken.not_freed_last (e ∙ ap Some same))
+    first_small = a.first_small;
+    few = puts.still_few;
+    room_for_slots = a.room_for_slots;
+    room_for_free = a.room_for_free;
+    counted = count;
+    generations = kept_generations first slots new number _ puts
+        (next_generation-is g (subst (λ n. n < 4096) coming (a.generations number))).1 a.generations;
+    free_ones = λ i h. ap is_free (puts.there (get_or left i 0) (free_ones i h).0) ∙ (free_ones i h).1;
+    different = different;
+    freed = λ id e. kept_freed shard slots new number (next_generation g) id puts (λ same. may_taken.not_freed_last (e ∙ ap Some same))
         (a.freed id e);
   }
+
+-- the slot on top of the free ones
+module _ (shard first : ℕ) (slots : List Slot) (free : List ℕ) (number : ℕ) (freed : Option (List ℕ)) (room of_free : ℕ) (s : Slot)
+    (a : AreSlots shard first slots (free ++ number ∷ []) freed room of_free) (stands : slice_get slots number ≡ Some s) where
+  free_there : is_free (slice_get slots number) ≡ true
+  free_there = popped_free shard first slots free number freed room of_free a
+
+  pub taken_generation : s.generation < 4096
+  taken_generation = subst (λ o. generation_in first o < 4096) stands (a.generations number)
+
+  puts_again : Puts slots (set slots number (record { generation = next_generation s.generation; is_live = true })) number
+      (record { generation = next_generation s.generation; is_live = true })
+  puts_again = puts-set slots number _ a.few (within_free slots number free_there)
+
+  supply_again : supply_of first (set slots number (record { generation = next_generation s.generation; is_live = true })) free
+      ≡ after_taking (supply_of first slots (free ++ number ∷ []))
+  supply_again = after_using_again first slots free number s (slot_next-push slots free number) stands (within_free slots number free_there)
+
+  pub takes_again : Takes (ids_of shard first slots (free ++ number ∷ []) freed) (id_at shard number (next_generation s.generation))
+      (ids_of shard first (set slots number (record { generation = next_generation s.generation; is_live = true })) free freed)
+  takes_again =
+      takes_it shard first slots _ (free ++ number ∷ []) free number s.generation freed room of_free a (slot_next-push slots free number) puts_again.small
+      (unused_free _ free_there) (ap (generation_in first) stands) puts_again supply_again
+
+  pub slots_again : AreSlots shard first (set slots number (record { generation = next_generation s.generation; is_live = true })) free freed room of_free
+  slots_again =
+      slots_taken shard first slots _ (free ++ number ∷ []) free number s.generation freed room of_free a (slot_next-push slots free number)
+      puts_again.small (unused_free _ free_there) (ap (generation_in first) stands) puts_again supply_again
+      (omega (
+        arith,
+        a.counted,
+        one_more shard first slots _ (free ++ number ∷ []) free number s.generation freed room of_free a (slot_next-push slots free number)
+            puts_again.small (unused_free _ free_there) (ap (generation_in first) stands) puts_again supply_again,
+        length-append free (number ∷ []),
+        length-set slots number
+            (record { generation = next_generation s.generation; is_live = true }),
+      ))
+      (λ i h.
+      let longer : i < length (free ++ number ∷ []) = omega (arith, length-append free (number ∷ [])) in
+      let at : get_or (free ++ number ∷ []) i 0 ≡ get_or free i 0 = get_or-append free (number ∷ []) 0 i h in
+      let last : length free < length (free ++ number ∷ []) = omega (arith, length-append free (number ∷ [])) in (
+        λ e. a.different i (length free) h last (at ∙ e ∙ sym (last_of free number)),
+        ap (λ n. is_free (slice_get slots n)) (sym at) ∙ a.free_ones i longer,
+      ))
+      (λ i j h k.
+      let longer : j < length (free ++ number ∷ []) = omega (arith, length-append free (number ∷ [])) in
+      λ e. a.different i j h longer (get_or-append free (number ∷ []) 0 i (omega arith) ∙ e ∙ sym (get_or-append free (number ∷ []) 0 j k)))
+
+-- a slot that was never used
+module _ (shard first : ℕ) (slots : List Slot) (freed : Option (List ℕ)) (room of_free : ℕ)
+    (a : AreSlots shard first slots [] freed room of_free) (some : set.len (live_of shard slots) < 4096) where
+  pub few_slots : length slots < 4096
+  few_slots = omega (arith, a.counted, some)
+
+  puts_first : Puts slots (slots ++ record { generation = next_generation first; is_live = true } ∷ []) (length slots)
+      (record { generation = next_generation first; is_live = true })
+  puts_first = puts-push slots _ few_slots
+
+  never_used : generation_in first (slice_get slots (length slots)) ≡ first
+  never_used = ap (generation_in first) (slice_get_past slots (length slots) (omega arith))
+
+  pub takes_first : Takes (ids_of shard first slots [] freed) (id_at shard (length slots) (next_generation first))
+      (ids_of shard first (slots ++ record { generation = next_generation first; is_live = true } ∷ []) [] freed)
+  takes_first =
+      takes_it shard first slots _ [] [] (length slots) first freed room of_free a refl few_slots (unused_past slots) never_used puts_first
+      (after_using_first first slots)
+
+  pub slots_first : AreSlots shard first (slots ++ record { generation = next_generation first; is_live = true } ∷ []) [] freed room of_free
+  slots_first =
+      slots_taken shard first slots _ [] [] (length slots) first freed room of_free a refl few_slots (unused_past slots) never_used puts_first
+      (after_using_first first slots)
+      (omega (
+        arith,
+        a.counted,
+        one_more shard first slots _ [] [] (length slots) first freed room of_free a refl few_slots (unused_past slots) never_used puts_first
+            (after_using_first first slots),
+        length-append slots (record { generation = next_generation first; is_live = true } ∷ []),
+      ))
+      (λ i h. absurd (omega arith)) (λ i j h k. absurd (omega arith))
 
 -- ---- an id is given back
 
@@ -206,8 +236,8 @@ not_empty shard slots q there none =
     let e : false ≡ true = sym (set.contains-empty octets_cmp q) ∙ ap (λ s. set.contains s q) (sym (set.empty_of_len (live_of shard slots) none)) ∙ there in
     cc
 
-module _ (shard : ℕ) (slots : List Slot) (free : List ℕ) (freed : Option (List ℕ)) (room : ℕ) (id : List ℕ) (s : Slot)
-    (a : AreSlots shard slots free freed room) (stands : slice_get slots (slot_of id) ≡ Some s)
+module _ (shard first : ℕ) (slots : List Slot) (free : List ℕ) (freed : Option (List ℕ)) (room of_free : ℕ) (id : List ℕ) (s : Slot)
+    (a : AreSlots shard first slots free freed room of_free) (stands : slice_get slots (slot_of id) ≡ Some s)
     (live : is_at shard id (slice_get slots (slot_of id)) ≡ true) where
   is_own : (s ≡ record { generation = s.generation; is_live = true }) × (id ≡ id_at shard (slot_of id) s.generation)
   is_own = live_slot shard id s (ap (is_at shard id) (sym stands) ∙ live)
@@ -215,10 +245,10 @@ module _ (shard : ℕ) (slots : List Slot) (free : List ℕ) (freed : Option (Li
   contained : set.contains (live_of shard slots) id ≡ true
   contained = contains-live_of shard id slots a.few ∙ live
 
-  pub free_has_room : length free < room
+  pub free_has_room : length free < of_free
   free_has_room =
       let some : set.len (live_of shard slots) ≡ 0 → ⊥ = not_empty shard slots id contained in
-      omega (arith, a.counted, a.few, a.room_for_all)
+      omega (arith, a.counted, a.few, a.room_for_free)
 
   pub puts_spent : Puts slots (set slots (slot_of id) (record { generation = s.generation; is_live = false })) (slot_of id)
       (record { generation = s.generation; is_live = false })
@@ -243,12 +273,14 @@ module _ (shard : ℕ) (slots : List Slot) (free : List ℕ) (freed : Option (Li
       (ap (λ n. is_free (slice_get slots n)) (sym e) ∙ a.free_ones i h) in
       cc
 
-  pub AreSlots-give_back : AreSlots shard (set slots (slot_of id) (record { generation = s.generation; is_live = false })) (free ++ slot_of id ∷ [])
-      (Some id) room
+  pub AreSlots-give_back : AreSlots shard first (set slots (slot_of id) (record { generation = s.generation; is_live = false })) (free ++ slot_of id ∷ [])
+      (Some id) room of_free
   AreSlots-give_back = record {
     in_range = a.in_range;
+    first_small = a.first_small;
     few = puts_spent.still_few;
-    room_for_all = a.room_for_all;
+    room_for_slots = a.room_for_slots;
+    room_for_free = a.room_for_free;
     counted = omega (
       arith,
       a.counted,
@@ -257,7 +289,7 @@ module _ (shard : ℕ) (slots : List Slot) (free : List ℕ) (freed : Option (Li
       length-set slots (slot_of id)
           (record { generation = s.generation; is_live = false }),
     );
-    generations = kept_generations slots _ (slot_of id) _ puts_spent (subst (λ o. generation_in o < 4096) stands (a.generations (slot_of id))) a.generations;
+    generations = kept_generations first slots _ (slot_of id) _ puts_spent (subst (λ o. generation_in first o < 4096) stands (a.generations (slot_of id))) a.generations;
     free_ones = λ i h. elim (cases_eq i (length free)) [
       | inl e ↦ ap (λ j. is_free (slice_get (set slots (slot_of id) (record { generation = s.generation; is_live = false }))
           (get_or (free ++ slot_of id ∷ []) j 0))) e
@@ -293,45 +325,58 @@ module _ (shard : ℕ) (slots : List Slot) (free : List ℕ) (freed : Option (Li
       let generation : generation_of id ≡ s.generation = ap generation_of is_own.1 ∙ generation_of-id_at shard (slot_of id) s.generation puts_spent.small in
       ap (λ n. id_at n (slot_of id) (next_generation (generation_of id))) first ∙ ap (λ g. id_at shard (slot_of id) (next_generation g)) generation
 
-  next-give_back : next_in shard (set slots (slot_of id) (record { generation = s.generation; is_live = false }))
-      (next_slot (set slots (slot_of id) (record { generation = s.generation; is_live = false })) (free ++ slot_of id ∷ [])) ≡ Some (next_use id)
+  pub ids_of-give_back : ids_of shard first (set slots (slot_of id) (record { generation = s.generation; is_live = false })) (free ++ slot_of id ∷ []) (Some id)
+      ≡ given_back (ids_of shard first slots free freed) id
+  ids_of-give_back = λ i. record {
+    shard = shard;
+    live = live_spent i;
+    freed_last = Some id;
+    supply = after_giving_back first slots free id s stands i;
+  }
+
+  -- the id that is next then
+  pub next-give_back : next_of (given_back (ids_of shard first slots free freed) id) ≡ Some (next_use id)
   next-give_back =
-      ap (next_in shard (set slots (slot_of id) (record { generation = s.generation; is_live = false })))
-      (next_slot-push (set slots (slot_of id) (record { generation = s.generation; is_live = false })) free (slot_of id))
-      ∙ next_in-small shard (set slots (slot_of id) (record { generation = s.generation; is_live = false })) (slot_of id) puts_spent.small
-      ∙ ap (λ o. Some (id_at shard (slot_of id) (next_generation (generation_in o)))) puts_spent.here
+      let new = set slots (slot_of id) (record { generation = s.generation; is_live = false }) in
+      ap next_of (sym ids_of-give_back)
+      ∙ next_is shard first new (free ++ slot_of id ∷ [])
+      ∙ ap (id_next shard first new) (slot_next-push new free (slot_of id))
+      ∙ id_next-small shard first new (slot_of id) puts_spent.small
+      ∙ ap (λ o. Some (id_at shard (slot_of id) (next_generation (generation_in first o)))) puts_spent.here
       ∙ ap Some (sym next_use-own)
 
-  pub ids_of-give_back : ids_of shard (set slots (slot_of id) (record { generation = s.generation; is_live = false })) (free ++ slot_of id ∷ []) (Some id)
-      ≡ given_back (ids_of shard slots free freed) id
-  ids_of-give_back = same _ _ _ _ _ _ live_spent next-give_back (length-append free (slot_of id ∷ []))
-    where
-      same : (l m : set.FinSet octets_cmp) (x y : Option (List ℕ)) (r t : ℕ) → l ≡ m → x ≡ y → r ≡ t
-          → ◌≡◌ {A = LiveIds} (record { shard = shard; live = l; freed_last = Some id; next = x; room = r })
-          (record { shard = shard; live = m; freed_last = Some id; next = y; room = t })
-      same l m x y r t e f h = cc
-
   -- after it is freed, its slot's next id may be taken
-  pub next_use-may : MayBeTaken (given_back (ids_of shard slots free freed) id) (next_use id)
+  pub next_use-may : MayBeTaken (given_back (ids_of shard first slots free freed) id) (next_use id)
   next_use-may =
       let new = set slots (slot_of id) (record { generation = s.generation; is_live = false }) in
       let unused = unused_free (slice_get new (slot_of id)) (ap is_free puts_spent.here) in
-      let may = may_take shard new (free ++ slot_of id ∷ []) (Some id) room AreSlots-give_back (slot_of id) puts_spent.small unused in
-      let at : id_at shard (slot_of id) (next_generation (generation_in (slice_get new (slot_of id)))) ≡ next_use id =
-      ap (λ o. id_at shard (slot_of id) (next_generation (generation_in o))) puts_spent.here ∙ sym next_use-own in
-      subst (λ ids. MayBeTaken ids (next_use id)) ids_of-give_back (subst (MayBeTaken (ids_of shard new (free ++ slot_of id ∷ []) (Some id))) at may)
+      let may = may_take shard first new (free ++ slot_of id ∷ []) (Some id) room of_free AreSlots-give_back (slot_of id) puts_spent.small unused in
+      let at : id_at shard (slot_of id) (next_generation (generation_in first (slice_get new (slot_of id)))) ≡ next_use id =
+      ap (λ o. id_at shard (slot_of id) (next_generation (generation_in first o))) puts_spent.here ∙ sym next_use-own in
+      subst (λ ids. MayBeTaken ids (next_use id)) ids_of-give_back (subst (MayBeTaken (ids_of shard first new (free ++ slot_of id ∷ []) (Some id))) at may)
 
-pub next_after_may : (shard : ℕ) (slots : List Slot) (free : List ℕ) (freed : Option (List ℕ)) (room : ℕ) (id : List ℕ) → AreSlots shard slots free freed room
-    → set.contains (live_of shard slots) id ≡ true → MayBeTaken (given_back (ids_of shard slots free freed) id) (next_use id)
-next_after_may shard slots free freed room id a live = at (slice_get slots (slot_of id)) refl
+true≢false : true ≡ false → ⊥
+true≢false e = cc
+
+-- what is next after a live id is freed
+pub next_after : (shard first : ℕ) (slots : List Slot) (free : List ℕ) (freed : Option (List ℕ)) (room of_free : ℕ) (id : List ℕ)
+    → AreSlots shard first slots free freed room of_free → set.contains (live_of shard slots) id ≡ true
+    → (next_of (given_back (ids_of shard first slots free freed) id) ≡ Some (next_use id))
+    × MayBeTaken (given_back (ids_of shard first slots free freed) id) (next_use id)
+next_after shard first slots free freed room of_free id a live = at (slice_get slots (slot_of id)) refl
   where
-    differ : true ≡ false → MayBeTaken (given_back (ids_of shard slots free freed) id) (next_use id)
-    differ e = cc
-
-    at : (o : Option Slot) → slice_get slots (slot_of id) ≡ o → MayBeTaken (given_back (ids_of shard slots free freed) id) (next_use id)
-    at None e = let none : is_at shard id (slice_get slots (slot_of id))
-        ≡ false = ap (is_at shard id) e in differ (sym (sym (contains-live_of shard id slots a.few) ∙ live) ∙ none)
-    at (Some s) e = next_use-may shard slots free freed room id s a e (sym (contains-live_of shard id slots a.few) ∙ live)
+    at : (o : Option Slot) → slice_get slots (slot_of id) ≡ o
+        → (next_of (given_back (ids_of shard first slots free freed) id) ≡ Some (next_use id))
+        × MayBeTaken (given_back (ids_of shard first slots free freed) id) (next_use id)
+    at None e =
+        let none : is_at shard id (slice_get slots (slot_of id)) ≡ false = ap (is_at shard id) e in
+        let there : is_at shard id (slice_get slots (slot_of id)) ≡ true = sym (contains-live_of shard id slots a.few) ∙ live in
+        absurd (true≢false (sym there ∙ none))
+    at (Some s) e =
+        let there = sym (contains-live_of shard id slots a.few) ∙ live in (
+          next-give_back shard first slots free freed room of_free id s a e there,
+          next_use-may shard first slots free freed room of_free id s a e there,
+        )
 
 pub no_items : (xs : List ℕ) → length xs ≡ 0 → xs ≡ []
 no_items [] e = refl
@@ -361,21 +406,3 @@ live_here shard slots id n s few here stands =
 pub slot_of_live : (shard : ℕ) (slots : List Slot) (id : List ℕ) → length slots ≤ 4096 → set.contains (live_of shard slots) id ≡ true
     → is_at shard id (slice_get slots (slot_of id)) ≡ true
 slot_of_live shard slots id few live = sym (contains-live_of shard id slots few) ∙ live
-
--- the id taken after memory was reserved is the one that was next before
-pub takes_reserved : (old between : LiveIds) (id : List ℕ) (new : LiveIds) → between ≡ record old { room = between.room } → Takes between id new
-    → Takes old id new
-takes_reserved old between id new same t =
-    let next : between.next ≡ old.next = ap (λ (v : LiveIds). v.next) same in
-    let of_shard : between.shard ≡ old.shard = ap (λ (v : LiveIds). v.shard) same in
-    let live : between.live ≡ old.live = ap (λ (v : LiveIds). v.live) same in
-    let freed : between.freed_last ≡ old.freed_last = ap (λ (v : LiveIds). v.freed_last) same in
-    record {
-      was_next = sym next ∙ t.was_next;
-      may = record {
-        of_shard = subst (λ n. IsIdOf n id) of_shard t.may.of_shard;
-        not_live = ap (λ l. set.contains l id) (sym live) ∙ t.may.not_live;
-        not_freed_last = λ e. t.may.not_freed_last (freed ∙ e);
-      };
-      after = t.after ∙ ap (λ (v : LiveIds). record v { live = set.insert v.live id; next = new.next; room = new.room }) same;
-    }

@@ -1,10 +1,10 @@
 -- The table of slots behind the ids.
-use Rattle.std.specs.Prelude.{◌≡◌, ◌≢◌, ℕ, ◌+◌, ◌-◌, ◌<◌, ◌≤◌, nat_lt, List, [], ◌∷◌, Bool, true, false, cond, ◌&&◌, Option, Some, None, length, slice_get, slice_index, slice_index_or, if◌then◌else◌}
+use Rattle.std.specs.Prelude.{◌≡◌, ◌≢◌, ℕ, ◌+◌, ◌<◌, ◌≤◌, List, [], ◌∷◌, Bool, true, false, cond, ◌&&◌, Option, Some, None, length, map, slice_get, slice_index}
 use Rattle.std.specs.Ordering.{eq_by_cmp}
 use Rattle.std.specs.FinSet as set
 use Rattle.hlr_types.specs.Orders.{octets_cmp}
 use Rattle.tidalloc.specs.declared.slot.Slot.{Slot}
-use Rattle.tidalloc.specs.LiveIds.{LiveIds, id_at, slot_of, next_generation}
+use Rattle.tidalloc.specs.LiveIds.{LiveIds, Supply, id_at, slot_of}
 
 -- The live ids of these slots, numbered from this number on.
 abbrev pub ids_from : ℕ → ℕ → List Slot → List (List ℕ)
@@ -15,27 +15,22 @@ ids_from shard number (s ∷ slots) = cond s.is_live (id_at shard number s.gener
 abbrev pub live_of : ℕ → List Slot → set.FinSet octets_cmp
 live_of shard slots = set.from_list (ids_from shard 0 slots)
 
--- The generation of a slot, 0 if it was never used.
-abbrev pub generation_in : Option Slot → ℕ
-generation_in None = 0
-generation_in (Some s) = s.generation
+-- The generation of a slot, this one if it was never used.
+abbrev pub generation_in : ℕ → Option Slot → ℕ
+generation_in first None = first
+generation_in first (Some s) = s.generation
 
--- The slot used next: the one freed last, else a new one.
-abbrev pub next_slot : List Slot → List ℕ → ℕ
-next_slot slots free = slice_index_or free (length free - 1) (length slots)
-
--- The next id of a slot.
-abbrev pub next_in : ℕ → List Slot → ℕ → Option (List ℕ)
-next_in shard slots slot = if nat_lt slot 4096 then Some (id_at shard slot (next_generation (generation_in (slice_get slots slot)))) else None
+-- What decides which id is next.
+abbrev pub supply_of : ℕ → List Slot → List ℕ → Supply
+supply_of first slots free = record { first = first; generations = map (λ s. s.generation) slots; free = free }
 
 -- The ids that these slots stand for.
-abbrev pub ids_of : ℕ → List Slot → List ℕ → Option (List ℕ) → LiveIds
-ids_of shard slots free freed_last = record {
+abbrev pub ids_of : ℕ → ℕ → List Slot → List ℕ → Option (List ℕ) → LiveIds
+ids_of shard first slots free freed_last = record {
   shard = shard;
   live = live_of shard slots;
   freed_last = freed_last;
-  next = next_in shard slots (next_slot slots free);
-  room = length free;
+  supply = supply_of first slots free;
 }
 
 -- Whether the slot is live, and this is its id.
@@ -57,13 +52,16 @@ pub record WasFreed (shard : ℕ) (slots : List Slot) (id : List ℕ) : Type 0 w
   pub not_live : is_at shard id (slice_get slots (slot_of id)) ≡ false
   pub own : was_at shard id (slice_get slots (slot_of id)) ≡ true
 
--- The slots, the numbers of the free ones, the id freed last, and the room for free numbers.
-pub record AreSlots (shard : ℕ) (slots : List Slot) (free : List ℕ) (freed_last : Option (List ℕ)) (room : ℕ) : Type 0 where
+-- The generation before a first use, the slots, the numbers of the free ones, the id freed last, and how many slots and free numbers there
+-- is memory for.
+pub record AreSlots (shard first : ℕ) (slots : List Slot) (free : List ℕ) (freed_last : Option (List ℕ)) (room of_free : ℕ) : Type 0 where
   pub in_range : shard < 16
+  pub first_small : first < 4096
   pub few : length slots ≤ 4096
-  pub room_for_all : 4096 ≤ room
+  pub room_for_slots : 4096 ≤ room
+  pub room_for_free : 4096 ≤ of_free
   pub counted : length free + set.len (live_of shard slots) ≡ length slots
-  pub generations : (k : ℕ) → generation_in (slice_get slots k) < 4096
+  pub generations : (k : ℕ) → generation_in first (slice_get slots k) < 4096
   pub free_ones : (i : ℕ) → i < length free → is_free (slice_get slots (slice_index free i)) ≡ true
   pub different : (i j : ℕ) → i < j → j < length free → slice_index free i ≢ slice_index free j
   pub freed : (id : List ℕ) → freed_last ≡ Some id → WasFreed shard slots id

@@ -1,13 +1,13 @@
 //! The ids of a shard.
 
-ghost use Rattle.std.specs.Prelude.{◌≡◌, ◌+◌, ◌<◌, ◌↔◌, true, Some, None, IfOk, IfSome, OnOk, OnErr, IsNone, Err};
+ghost use Rattle.std.specs.Prelude.{◌≡◌, ◌<◌, ◌≤◌, ◌↔◌, true, Some, IfOk, IfSome, OnErr, IsNone, IsFalse, IsTrue, Err};
 ghost use Rattle.std.specs.FinSet as set;
-ghost use Rattle.tidalloc.specs.LiveIds.{LiveIds, MayBeTaken, Takes, is_live, no_ids, given_back, slot_of, slot_if_live, next_use, HaveOwnSlots};
+ghost use Rattle.tidalloc.specs.LiveIds.{LiveIds, MayBeTaken, Takes, beginning_after, is_live, next_of, no_ids, given_back, slot_of, slot_if_live, next_use, HaveOwnSlots};
 
-use crate::slot::{Slot, id_at, next_generation, next_use, slot_of};
+use crate::slot::{Slot, id_at, next_generation, next_use, same_generations, slot_of};
 use hlr_types::Tid;
 use machine::numbers::MAX_DIALOGUES;
-use std::alloc::{AllocError, AllocFailed, Global};
+use std::alloc::{AllocError, Global};
 use std::marker::Model;
 use thiserror::Error;
 
@@ -17,26 +17,14 @@ pub enum IdFault {
     /// 4,096 ids are live.
     #[error("4,096 ids are live")]
     NoRoom,
-    /// Out of memory.
-    #[error("out of memory")]
-    Memory,
 }
 
-impl<T: Drop> From<AllocFailed<T>> for IdFault {
-    ghost use Rattle.std.specs.Prelude.{◌≡◌};
-    ghost use Rattle.tidalloc.specs.declared.ids.IdFault.TheVariants.{Memory};
-
-    ghost from_gives = { λ _ fault. fault ≡ Memory };
-
-    fn from(_refused: AllocFailed<T>) -> IdFault {
-        IdFault::Memory
-    }
-}
-
-/// The ids of a shard, of which at most 4,096 are live. The next id is known before it is taken.
+/// The ids of a shard, of which at most 4,096 are live. Which id is next is a function of those that were taken and freed before.
 #[derive(Drop)]
 pub struct Ids {
     shard: u8,
+    /// The generation of a slot before its first use.
+    first: u16,
     slots: Vec<Slot>,
     free: Vec<u16>,
     freed_last: Option<Tid>,
@@ -52,69 +40,66 @@ impl Model for Ids {
 
     ghost use Rattle.tidalloc.specs.Slots.{ids_of, AreSlots};
 
-    ghost view = { λ a. ids_of a.shard a.slots.items a.free.items a.freed_last };
+    ghost view = { λ a. ids_of a.shard a.first a.slots.items a.free.items a.freed_last };
 
-    ghost invariant = { λ a. AreSlots a.shard a.slots.items a.free.items a.freed_last
-        (vec_capacity a.free) };
+    ghost invariant = { λ a. AreSlots a.shard a.first a.slots.items a.free.items a.freed_last
+        (vec_capacity a.slots) (vec_capacity a.free) };
 }
 
 impl Ids {
     /// How many ids can be live at once, one for each dialogue; also the number of slots.
     pub const MAX_IDS: usize = MAX_DIALOGUES;
 
-    /// The ids of a shard, none of which is live. Allocates what `give_back` needs.
+    /// The ids of a shard, none of which is live. Allocates all that they ever need.
     pub fn new(alloc: Global, shard: u8) -> Result<Self, AllocError>
         requires { shard < 16 }
         ensures { IfOk result (λ ids. ids ≡ no_ids shard) }
     {
         Ok(Ids {
             shard,
-            slots: Vec::new(alloc),
+            first: 0,
+            slots: Vec::with_capacity(alloc, Self::MAX_IDS)?,
             free: Vec::with_capacity(alloc, Self::MAX_IDS)?,
             freed_last: None,
         })
     }
 
-    /// Takes the next id. `NoRoom` if 4,096 are live, `Memory` if an allocation fails; on error nothing changes.
+    /// From now on the first id of a slot that was never used has the generation after this one. So a register that is started again can
+    /// take other ids than it took before.
+    pub fn begin_after(&mut self, generation: u16)
+        requires { generation < 4096 }
+        ensures { self.new ≡ beginning_after self.old generation }
+    {
+        self.first = generation;
+    }
+
+    /// Takes the next id. `NoRoom` if 4,096 are live; then nothing changes. Does not allocate.
     pub fn take(&mut self) -> Result<Tid, IdFault>
         ensures taken { IfOk result (λ id. Takes self.old id self.new) }
         ensures no_room { result ≡ Err IdFault.NoRoom ↔ (set.len self.old.live ≡ 4096) }
         ensures err { OnErr result (self.new ≡ self.old) }
     {
-        self.reserve()?;
-        Ok(self.take_reserved())
-    }
-
-    /// Reserves memory, so that the next id can be taken without allocating. Fails as `take` does, and then nothing changes.
-    /// The next id stays the same.
-    pub fn reserve(&mut self) -> Result<(), IdFault>
-        ensures ok { OnOk result (self.new ≡ record self.old { room = self.new.room }) }
-        ensures room { OnOk result (0 < self.new.room) }
-        ensures no_room { result ≡ Err IdFault.NoRoom ↔ (set.len self.old.live ≡ 4096) }
-        ensures err { OnErr result (self.new ≡ self.old) }
-    {
-        if !self.free.is_empty() {
-            return Ok(());
-        }
-        let slot = self.slots.len();
-        if slot >= Self::MAX_IDS {
+        if self.is_full() {
             return Err(IdFault::NoRoom);
         }
-        self.slots.push(Slot {
-            generation: 0,
-            is_live: false,
-        })?;
-        self.free.push_reserved(slot as u16);
-        Ok(())
+        Ok(self.take_one())
     }
 
-    /// Takes the next id, after `reserve` or `give_back` made room for it. Does not allocate.
-    pub fn take_reserved(&mut self) -> Tid
-        requires { 0 < self.old.room }
-        ensures taken { Takes self.old result self.new }
-        ensures room { self.new.room + 1 ≡ self.old.room }
+    /// Takes the next id, where there is room for one. Does not allocate.
+    pub fn take_one(&mut self) -> Tid
+        requires { set.len self.old.live < 4096 }
+        ensures { Takes self.old result self.new }
     {
-        let slot = usize::from(self.free.pop().unwrap());
+        let Some(slot) = self.free.pop() else {
+            let slot = self.slots.len();
+            let generation = next_generation(self.first);
+            self.slots.push_reserved(Slot {
+                generation,
+                is_live: true,
+            });
+            return id_at(self.shard, slot, generation);
+        };
+        let slot = usize::from(slot);
         let generation = next_generation(self.slots[slot].generation);
         self.slots[slot] = Slot {
             generation,
@@ -125,7 +110,7 @@ impl Ids {
 
     /// The id that `take` returns next. It is neither live nor the one freed last. `None` exactly if 4,096 are live.
     pub fn next_id(&self) -> Option<Tid>
-        ensures value { result ≡ self.now.next }
+        ensures value { result ≡ next_of self.now }
         ensures may { IfSome result (MayBeTaken self.now) }
         ensures none { IsNone result ↔ (set.len self.now.live ≡ 4096) }
     {
@@ -134,7 +119,7 @@ impl Ids {
     }
 
     fn unused_id(&self) -> Option<Tid>
-        ensures value { result ≡ self.now.next }
+        ensures value { result ≡ next_of self.now }
         ensures none { IsNone result ↔ (set.len self.now.live ≡ 4096) }
     {
         let slot = match self.free.last() {
@@ -144,21 +129,33 @@ impl Ids {
         if slot >= Self::MAX_IDS {
             return None;
         }
-        let generation = self.slots.get(slot).map_or(0, |slot| slot.generation);
+        let generation = self
+            .slots
+            .get(slot)
+            .map_or(self.first, |slot| slot.generation);
         Some(id_at(self.shard, slot, next_generation(generation)))
+    }
+
+    /// Whether there is no room: 4,096 ids are live.
+    pub fn is_full(&self) -> bool
+        ensures full { IsTrue result ↔ (set.len self.now.live ≡ 4096) }
+        ensures room { IsFalse result ↔ (set.len self.now.live < 4096) }
+    {
+        self.live_count() == Self::MAX_IDS
     }
 
     /// The id that `take` returns next once this live one is freed: its slot at the next generation.
     pub fn next_after(&self, id: Tid) -> Tid
         requires { is_live self.now id ≡ true }
         ensures value { result ≡ next_use id }
+        ensures next { next_of (given_back self.now id) ≡ Some result }
         ensures may { MayBeTaken (given_back self.now id) result }
     {
         let _invariant = &self.slots;
         next_use(id)
     }
 
-    /// Frees a live id; its slot is used next. Does not allocate, and the next id can be taken without allocating.
+    /// Frees a live id; its slot is used next. Does not allocate.
     pub fn give_back(&mut self, id: Tid)
         requires { is_live self.old id ≡ true }
         ensures { self.new ≡ given_back self.old id }
@@ -200,9 +197,19 @@ impl Ids {
 
     /// How many ids are live.
     pub fn live_count(&self) -> usize
-        ensures { result ≡ set.len self.now.live }
+        ensures value { result ≡ set.len self.now.live }
+        ensures most { result ≤ 4096 }
     {
         self.slots.len() - self.free.len()
+    }
+
+    /// Whether the same ids come next, for ever, if the same ones are freed.
+    pub fn goes_on_as(&self, other: &Ids) -> bool
+        ensures { IsTrue result ↔ (self.now.supply ≡ other.now.supply) }
+    {
+        self.first == other.first
+            && same_generations(&self.slots, &other.slots)
+            && same_numbers(&self.free, &other.free)
     }
 
     /// An equal copy.
@@ -210,13 +217,22 @@ impl Ids {
         ensures { IfOk result (λ ids. ids ≡ self.now) }
     {
         let alloc = *self.slots.allocator();
+        let mut slots = Vec::with_capacity(alloc, Self::MAX_IDS)?;
+        slots.extend_from_slice(&self.slots)?;
         let mut free = Vec::with_capacity(alloc, Self::MAX_IDS)?;
         free.extend_from_slice(&self.free)?;
         Ok(Ids {
             shard: self.shard,
-            slots: Vec::from_slice(alloc, &self.slots)?,
+            first: self.first,
+            slots,
             free,
             freed_last: self.freed_last,
         })
     }
+}
+
+fn same_numbers(left: &[u16], right: &[u16]) -> bool
+    ensures { IsTrue result ↔ (left.now ≡ right.now) }
+{
+    left == right
 }

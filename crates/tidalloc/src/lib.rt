@@ -6,6 +6,8 @@
 #![tactic(auto)]
 
 mod ids;
+mod laws;
 mod slot;
 
 pub use ids::{IdFault, Ids};
+pub use laws::{law_generations_in_turn, law_ids_in_turn};

@@ -1,11 +1,11 @@
 //! Slots with generations, and the ids that they stand for.
 
-ghost use Rattle.std.specs.Prelude.{◌≡◌, ◌<◌};
+ghost use Rattle.std.specs.Prelude.{◌≡◌, ◌<◌, ◌↔◌, IsTrue, map};
 ghost use Rattle.tidalloc.specs.LiveIds.{id_at, slot_of, generation_of, next_generation, next_use};
 
 use hlr_types::Tid;
 
-/// Holds one id at a time. A slot that was never used has generation 0.
+/// Holds one id at a time.
 #[derive(Clone, Copy)]
 pub(crate) struct Slot {
     pub(crate) generation: u16,
@@ -58,4 +58,19 @@ fn generation_of(id: Tid) -> u16
     ensures small { result < 4096 }
 {
     (id.number() / 4096) as u16
+}
+
+/// Whether the slots of two tables have the same generations.
+pub(crate) fn same_generations(left: &[Slot], right: &[Slot]) -> bool
+    ensures { IsTrue result ↔ (map (λ s. s.generation) left.now ≡ map (λ s. s.generation) right.now) }
+{
+    if left.len() != right.len() {
+        return false;
+    }
+    for number in 0..left.len() {
+        if left[number].generation != right[number].generation {
+            return false;
+        }
+    }
+    true
 }

@@ -20,15 +20,13 @@ use Rattle.tsl.specs.Table.{entry_at, open_of, IsOwn, AreEntries}
 use Rattle.tsl.proofs.ViewLemmas.{transaction_in, id_in, stored, at-open_of, not_open_if_not_live, slot_when_live}
 
 -- ---- room
-pub AreEntries-room : (ids : LiveIds) (keys : List ℕ) (slab : Slab Entry) (room in_ids in_slab room' : ℕ) → AreEntries ids keys slab room
-    → room' ≤ in_ids → slab_len slab + room' ≤ in_slab → set.len ids.live + room' ≤ 4096 → AreEntries (record ids { room = in_ids }) keys
-    (record slab { capacity = in_slab }) room'
-AreEntries-room ids keys slab room in_ids in_slab room' a few_ids few_slab few = record {
+pub AreEntries-room : (ids : LiveIds) (keys : List ℕ) (slab : Slab Entry) (room in_slab room' : ℕ) → AreEntries ids keys slab room
+    → slab_len slab + room' ≤ in_slab → set.len ids.live + room' ≤ 4096 → AreEntries ids keys (record slab { capacity = in_slab }) room'
+AreEntries-room ids keys slab room in_slab room' a few_slab few = record {
   all_slots = a.all_slots;
   of_shard = a.of_shard;
   own = a.own;
   no_other = λ key e stands. record { live = (a.no_other key e stands).live; found = (a.no_other key e stands).found };
-  room_in_ids = few_ids;
   room_in_slab = few_slab;
   few = few;
 }
@@ -113,7 +111,7 @@ module _ (ids ids' : LiveIds) (keys keys' : List ℕ) (slab slab' : Slab Entry) 
 
 -- ---- a transaction begins
 module _ (ids new : LiveIds) (keys : List ℕ) (slab slab' : Slab Entry) (room slot key : ℕ) (entry : Entry)
-    (a : AreEntries ids keys slab room) (t : Takes ids entry.id new) (less : new.room + 1 ≡ ids.room) (own : HaveOwnSlots new)
+    (a : AreEntries ids keys slab room) (t : Takes ids entry.id new) (own : HaveOwnSlots new)
     (there : Some slot ≡ slot_if_live new entry.id) (small : slot < 4096)
     (vacant : get slab key ≡ None) (u : Updates slab slab' key (Some entry)) (len : slab_len slab' ≡ slab_len slab + 1)
     (capacity : slab'.capacity ≡ slab.capacity) (some : 0 < room) where
@@ -147,7 +145,6 @@ module _ (ids new : LiveIds) (keys : List ℕ) (slab slab' : Slab Entry) (room s
     ]);
     own = own-add ids new keys (set keys slot key) slab slab' room (room - 1) key entry adds a;
     no_other = no_other-add ids new keys (set keys slot key) slab slab' room (room - 1) key entry adds a;
-    room_in_ids = omega (arith, a.room_in_ids, less);
     room_in_slab = omega (arith, a.room_in_slab, len, capacity);
     few =
         let more : set.len new.live ≡ set.len ids.live + 1 =
@@ -168,7 +165,7 @@ module _ (ids new : LiveIds) (keys : List ℕ) (slab slab' : Slab Entry) (room s
       shard = (t.after i).shard;
       open_ones = open-add ids new keys (set keys slot key) slab slab' room (room - 1) key entry adds a i;
       freed_last = (t.after i).freed_last;
-      next = new.next;
+      supply = (t.after i).supply;
       room = room - 1;
     };
   }
@@ -210,7 +207,6 @@ module _ (ids : LiveIds) (keys : List ℕ) (slab slab' : Slab Entry) (room key :
           let apart : e.id ≢ id = λ same. other (sym was.found ∙ ap (λ i. get_or keys (slot_of i) 0) same ∙ sym at_slot) in
           record { live = live-give e.id ∙ ap (λ b. not b && is_live ids e.id) (ne_octets e.id id apart) ∙ was.live; found = was.found }
     ];
-    room_in_ids = omega (arith, a.room_in_ids);
     room_in_slab = omega (arith, a.room_in_slab, len, capacity);
     few =
         let less : set.len (given_back ids id).live ≡ set.len ids.live - 1 = set.len-remove octets_total ids.live id
@@ -288,7 +284,6 @@ module _ (ids : LiveIds) (keys : List ℕ) (slab : Slab Entry) (room key : ℕ) 
           subst (λ (x : Entry). IsOwn ids keys k x) (sym it) (record { live = live; found = sym at_slot ∙ sym same })
       | inr other ↦ a.no_other k e (sym (same_there k other) ∙ stands)
     ];
-    room_in_ids = a.room_in_ids;
     room_in_slab = omega (arith, a.room_in_slab, same_len);
     few = a.few;
   }

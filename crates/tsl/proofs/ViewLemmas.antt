@@ -206,7 +206,6 @@ AreEntries-none shard keys slab all empty =
       own = λ id live. absurd (dead id live);
       no_other = λ key e stands. let none : get slab key ≡ None = ap (λ s. slice_index_or s key None) empty in absurd
           (let x : Some e ≡ None = sym stands ∙ none in cc);
-      room_in_ids = omega arith;
       room_in_slab = let n : slab_len slab ≡ 0 = ap (λ s. slab_len (record slab { slots = s })) empty in omega (arith, n);
       few = let n : set.len (no_ids shard).live ≡ 0 = set.len-empty octets_cmp in omega (arith, n);
     }
@@ -248,7 +247,6 @@ AreEntries-slots ids keys slab slab' room e fits a = record {
   of_shard = a.of_shard;
   own = λ id live. ap (λ s. id_in (slice_index_or s (get_or keys (slot_of id) 0) None)) e ∙ a.own id live;
   no_other = λ key x stands. a.no_other key x (ap (λ s. slice_index_or s key None) (sym e) ∙ stands);
-  room_in_ids = a.room_in_ids;
   room_in_slab = fits;
   few = a.few;
 }

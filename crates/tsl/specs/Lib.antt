@@ -1,5 +1,4 @@
 pub mod Transactions
 pub mod Received
 pub mod Table
-pub mod Faults
 pub mod Opening

@@ -29,7 +29,7 @@ open_of ids keys slab room = record {
   shard = ids.shard;
   open_ones = map.from_entries (transactions_of keys slab (set.items ids.live));
   freed_last = ids.freed_last;
-  next = ids.next;
+  supply = ids.supply;
   room = room;
 }
 
@@ -44,7 +44,6 @@ pub record AreEntries (ids : LiveIds) (keys : List ℕ) (slab : Slab Entry) (roo
   pub of_shard : (id : List ℕ) → is_live ids id ≡ true → IsIdOf ids.shard id
   pub own : (id : List ℕ) → is_live ids id ≡ true → option_map (λ (e : Entry). e.id) (entry_at keys slab id) ≡ Some id
   pub no_other : (key : ℕ) (e : Entry) → get slab key ≡ Some e → IsOwn ids keys key e
-  pub room_in_ids : room ≤ ids.room
   pub room_in_slab : slab_len slab + room ≤ slab.capacity
   pub few : set.len ids.live + room ≤ 4096
 

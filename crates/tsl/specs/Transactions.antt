@@ -6,7 +6,7 @@ use Rattle.std.specs.FinMap as map
 use Rattle.machine.specs.State.{Transaction}
 use Rattle.hlr_types.specs.Orders.{octets_cmp}
 use Rattle.hlr_types.specs.Ids.{IsIdOf}
-use Rattle.tidalloc.specs.LiveIds.{id_at, slot_of, next_use}
+use Rattle.tidalloc.specs.LiveIds.{Supply, supply_code, unused, next_id, slot_of, after_taking, after_freeing}
 use Rattle.tsl.specs.declared.transaction.Transaction as seen
 
 -- ---- one transaction
@@ -29,13 +29,13 @@ active peer remote = record { peer = peer; remote = Some remote }
 
 -- ---- all that are open
 
--- The open transactions of a shard by local id. `freed_last` is the id of the one that closed last, `next` the id of the one
--- that begins next, if there is room for one; `room` is how many can begin without allocating.
+-- The open transactions of a shard by local id. `freed_last` is the id of the one that closed last, `supply` decides under which id the next
+-- one begins; `room` is how many can begin without allocating.
 pub record OpenTransactions : Type 0 where
   pub shard : ℕ
   pub open_ones : map.FinMap octets_cmp Transaction
   pub freed_last : Option (List ℕ)
-  pub next : Option (List ℕ)
+  pub supply : Supply
   pub room : ℕ
 
 abbrev pub coded_transaction : Coded Transaction
@@ -45,11 +45,11 @@ coded_transaction =
 abbrev pub open_transactions_code : Coded OpenTransactions
 open_transactions_code =
     code_by
-    (ℕ × (map.FinMap octets_cmp Transaction × (Option (List ℕ) × (Option (List ℕ) × ℕ))))
+    (ℕ × (map.FinMap octets_cmp Transaction × (Option (List ℕ) × (Supply × ℕ))))
     (coded× coded_ℕ (coded× (map.code (coded_list coded_ℕ) coded_transaction)
-    (coded× (coded_option (coded_list coded_ℕ)) (coded× (coded_option (coded_list coded_ℕ)) coded_ℕ))))
-    (λ t. (t.shard, (t.open_ones, (t.freed_last, (t.next, t.room)))))
-    (λ p. record { shard = p.0; open_ones = p.1.0; freed_last = p.1.1.0; next = p.1.1.1.0; room = p.1.1.1.1 })
+    (coded× (coded_option (coded_list coded_ℕ)) (coded× supply_code coded_ℕ))))
+    (λ t. (t.shard, (t.open_ones, (t.freed_last, (t.supply, t.room)))))
+    (λ p. record { shard = p.0; open_ones = p.1.0; freed_last = p.1.1.0; supply = p.1.1.1.0; room = p.1.1.1.1 })
     (λ _. refl)
 
 -- The open transaction with these octets as its local id, if there is one.
@@ -60,13 +60,17 @@ at t id = map.get t.open_ones id
 abbrev pub count : OpenTransactions → ℕ
 count t = map.len t.open_ones
 
+-- The id under which the next one begins, if there is room for one.
+abbrev pub next_of : OpenTransactions → Option (List ℕ)
+next_of t = next_id t.shard t.supply
+
 -- No transaction is open, and none ever was.
 abbrev pub none_open : ℕ → OpenTransactions
 none_open shard = record {
   shard = shard;
   open_ones = map.empty;
   freed_last = None;
-  next = Some (id_at shard 0 1);
+  supply = unused 0;
   room = 0;
 }
 
@@ -78,22 +82,26 @@ pub record MayBegin (t : OpenTransactions) (id : List ℕ) : Type 0 where
 
 -- This transaction is now open too, under the id that was next and may begin.
 pub record Begins (old : OpenTransactions) (id : List ℕ) (transaction : Transaction) (new : OpenTransactions) : Type 0 where
-  pub was_next : old.next ≡ Some id
+  pub was_next : next_of old ≡ Some id
   pub may : MayBegin old id
-  pub after : new ≡ record old { open_ones = map.insert old.open_ones id transaction; next = new.next; room = new.room }
+  pub after : new ≡ record old { open_ones = map.insert old.open_ones id transaction; supply = after_taking old.supply; room = new.room }
 
 -- The open transaction with this id is now this one.
 abbrev pub with_transaction : OpenTransactions → List ℕ → Transaction → OpenTransactions
 with_transaction t id transaction = record t { open_ones = map.insert t.open_ones id transaction }
 
--- The transaction with this id is closed. Its slot is used next, at its next generation.
+-- The transaction with this id is closed. Its slot is used next.
 abbrev pub closed : OpenTransactions → List ℕ → OpenTransactions
 closed t id = record t {
   open_ones = map.remove t.open_ones id;
   freed_last = Some id;
-  next = Some (next_use id);
+  supply = after_freeing t.supply id;
   room = t.room + 1;
 }
+
+-- The ids of slots that were never used begin after this generation.
+abbrev pub beginning_after : OpenTransactions → ℕ → OpenTransactions
+beginning_after t generation = record t { supply = record t.supply { first = generation } }
 
 -- There is a transaction, and it is Active.
 abbrev pub IsActive : Option Transaction → Type 0

@@ -12,7 +12,7 @@ use slab::Slab;
 use std::alloc::{AllocError, Global};
 use std::marker::Model;
 use thiserror::Error;
-use tidalloc::{IdFault, Ids};
+use tidalloc::Ids;
 
 /// Why no transaction began.
 #[derive(Clone, Copy, Debug, PartialEq, Eq, Drop, Error)]
@@ -23,20 +23,6 @@ pub enum TslFault {
     /// Out of memory.
     #[error("out of memory")]
     Memory,
-}
-
-impl From<IdFault> for TslFault {
-    ghost use Rattle.std.specs.Prelude.{◌≡◌};
-    ghost use Rattle.tsl.specs.Faults.{fault_of};
-
-    ghost from_gives = { λ refused fault. fault ≡ fault_of refused };
-
-    fn from(refused: IdFault) -> TslFault {
-        match refused {
-            IdFault::NoRoom => TslFault::NoRoom,
-            IdFault::Memory => TslFault::Memory,
-        }
-    }
 }
 
 impl From<AllocError> for TslFault {
@@ -84,7 +70,7 @@ impl Model for Transactions {
 
 impl Transactions {
     ghost use Rattle.tidalloc.specs.LiveIds.{next_use};
-    ghost use Rattle.tsl.specs.Transactions.{MayBegin, Begins, IsActive, IsInitiated, HaveIdsOfShard, transaction_of, known_as, initiated, active, at, count, none_open, with_transaction, closed, slot_if_open, HaveOwnSlots};
+    ghost use Rattle.tsl.specs.Transactions.{MayBegin, Begins, IsActive, IsInitiated, HaveIdsOfShard, transaction_of, known_as, initiated, active, at, beginning_after, count, next_of, none_open, with_transaction, closed, slot_if_open, HaveOwnSlots};
     ghost use Rattle.tsl.specs.Opening.{Opens};
     ghost use Rattle.tsl.specs.Received.{received, after, told_continue, told_close, activated};
 
@@ -132,7 +118,9 @@ impl Transactions {
         if self.room > 0 {
             return Ok(());
         }
-        self.ids.reserve()?;
+        if self.ids.is_full() {
+            return Err(TslFault::NoRoom);
+        }
         self.entries.reserve(1)?;
         self.room = 1;
         Ok(())
@@ -165,7 +153,7 @@ impl Transactions {
         ensures begun { Begins self.old result (known_as peer remote) self.new }
         ensures room { self.new.room + 1 ≡ self.old.room }
     {
-        let id = self.ids.take_reserved();
+        let id = self.ids.take_one();
         let slot = self.ids.slot(id).unwrap();
         self.keys[slot] = self.entries.insert_reserved(Entry {
             id,
@@ -177,7 +165,7 @@ impl Transactions {
 
     /// The id under which the next transaction begins. `None` exactly if 4,096 are open.
     pub fn next_id(&self) -> Option<Tid>
-        ensures value { result ≡ self.now.next }
+        ensures value { result ≡ next_of self.now }
         ensures may { IfSome result (MayBegin self.now) }
         ensures none { IsNone result ↔ (count self.now ≡ 4096) }
     {
@@ -188,6 +176,7 @@ impl Transactions {
     pub fn next_after(&self, id: Tid) -> Tid
         requires { at self.now id ≢ None }
         ensures value { result ≡ next_use id }
+        ensures next { next_of (closed self.now id) ≡ Some result }
         ensures may { MayBegin (closed self.now id) result }
     {
         self.ids.next_after(id)
@@ -384,6 +373,21 @@ impl Transactions {
         ensures { IsTrue result ↔ (count self.now ≡ 4096) }
     {
         self.len() == Self::MAX_TRANSACTIONS
+    }
+
+    /// Whether transactions here and there begin under the same ids, for ever, if the same ones close.
+    pub fn goes_on_as(&self, other: &Transactions) -> bool
+        ensures { IsTrue result ↔ (self.now.supply ≡ other.now.supply) }
+    {
+        self.ids.goes_on_as(&other.ids)
+    }
+
+    /// From now on the first id of a slot that was never used has the generation after this one.
+    pub fn begin_after(&mut self, generation: u16)
+        requires { generation < 4096 }
+        ensures { self.new ≡ beginning_after self.old generation }
+    {
+        self.ids.begin_after(generation);
     }
 
     /// An equal copy.

@@ -94,7 +94,8 @@ returns-in-Entries-clause-ticks n c =
       entry_ticks c.first.inside.keep c.first.inside.base c.make_room.new.base c.first.inside.state c.first.inside.entries.items
           c.make_room.new.entries.items roomy c.in-Some.first.now c.tick-answer.new.self c.args.now c.tick-answer.result c.first.view_is
           c.tick-answer.ensures.stepped c.tick-answer.ensures.same_shard
-          c.append.new.entries.items c.unwrap-shard.result own c.in-Entries.is (c.in_ok-make_room.ensures.few c.in-Entries.is) c.append.ensures.put,
+          c.append.new.entries.items c.unwrap-shard.result own c.in-Entries.is (c.in_ok-make_room.ensures.few c.in-Entries.is) c.append.ensures.put
+          c.tick-answer.ensures.ids,
       c.in_ok-tick_all.ensures.ticks,
     )
 
@@ -112,6 +113,6 @@ returns-in-Nothing-clause-ticks n c =
     subst (λ (ls : List Log). AreTicked c.args.now ls (after ∷ c.tick_all.new.shards)) (sym c.in-Some.ensures.cases.0) (
       nothing_ticks c.first.inside.keep c.first.inside.base c.make_room.new.base c.first.inside.state c.first.inside.entries.items
           c.make_room.new.entries.items roomy c.in-Some.first.now c.tick-answer.new.self c.args.now c.tick-answer.result c.first.view_is
-          c.tick-answer.ensures.stepped c.tick-answer.ensures.same_shard c.in-Nothing.is,
+          c.tick-answer.ensures.stepped c.tick-answer.ensures.same_shard c.in-Nothing.is c.tick-answer.ensures.ids,
       c.in_ok-tick_all.ensures.ticks,
     )

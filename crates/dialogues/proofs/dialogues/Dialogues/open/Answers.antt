@@ -1,10 +1,11 @@
 use Rattle.std.proofs.Common.{◌≡◌, ◌<◌, ◌-◌, ℕ, List, length, ap, sym, ◌∙◌, subst}
 use Rattle.csl.specs.Tables.{InvocationLists, first_invoked, invocations_at, put_list}
-use Rattle.tidalloc.specs.LiveIds.{slot_of}
-use Rattle.tsl.specs.Transactions.{transaction_of}
+use Rattle.tidalloc.specs.LiveIds.{after_taking, slot_of}
+use Rattle.tsl.specs.Transactions.{OpenTransactions, transaction_of}
+use Rattle.dialogues.specs.Dialogues.{OpenDialogues}
 use Rattle.dialogues.specs.Joined.{talk_in}
 use Rattle.dialogues.proofs.ChangeLemmas.{invocations-put}
-use Rattle.dialogues.proofs.StepLemmas.{on_err, still, place_for_one, begun_next, dialogues_opened, tied_opened}
+use Rattle.dialogues.proofs.StepLemmas.{on_err, still, tied_still, place_for_one, begun_next, dialogues_opened, tied_opened}
 use Rattle.dialogues.proofs.dialogues.Dialogues.open.Goals as goal
 
 pub returns-in_err-make_room-clause-err : goal.returns-in_err-make_room-clause-err
@@ -55,3 +56,16 @@ returns-clause-opened c =
     (talk_in c.args.dialogue.now) c.reserve.ensures.ok c.begin.ensures.begun c.begin.ensures.own_slots c.begin.ensures.kept
     (λ q. ap (λ (l : InvocationLists). invocations_at l q) invoked ∙ invocations-put i.invocations id vs q)
     c.self.invariant place roomy c.make_room.ensures.longer c.make_room.ensures.kept c.args.self.now c.self.view_is
+
+pub returns-clause-used : goal.returns-clause-used
+returns-clause-used c =
+    ap (λ (u : OpenTransactions). u.supply) c.begin.ensures.begun.after
+    ∙ ap (λ (u : OpenTransactions). after_taking u.supply) c.reserve.ensures.ok
+    ∙ ap (λ (d : OpenDialogues). after_taking d.supply) c.self.view_is
+
+pub invariant_of-self-in_err-invoke_each : goal.invariant_of-self-in_err-invoke_each
+invariant_of-self-in_err-invoke_each c =
+    let i = c.self.inside in
+    rw c.in_err-invoke_each.ensures.err
+    (tied_still i.transactions c.reserve.new.transactions i.invocations i.talks.items c.make_room.new.talks.items
+    c.args.self.now c.self.invariant c.self.view_is c.reserve.ensures.ok c.make_room.ensures.kept c.make_room.ensures.longer)

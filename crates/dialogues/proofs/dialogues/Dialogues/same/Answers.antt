@@ -5,9 +5,9 @@ use Rattle.dialogues.proofs.dialogues.Dialogues.same.Goals as goal
 
 pub returns : goal.returns
 returns c =
-    let next = sym c.next_id.ensures.value ∙ c.same_next.ensures.0 c.if-not-same_next.false ∙ c.next_id-2.ensures.value in
+    let supply = c.goes_on_as.ensures.0 c.if-not-goes_on_as.false in
     IfOk-weaker c.same_in.result _ _
-    (λ same d. same_dialogues c.args.self.now c.args.other.now _ _ same c.requires next
+    (λ same d. same_dialogues c.args.self.now c.args.other.now _ _ same c.requires supply
     (c.deref-3.ensures.value ∙ c.in_ok-ids.ensures) (c.deref-2.ensures.value ∙ c.in_ok-others.ensures)
     (c.deref-3.ensures.value ∙ sym c.deref.ensures.value ∙ c.same_ids.ensures.0 c.if-not-same_ids.false) d)
     c.same_in.ensures

@@ -1,6 +1,7 @@
 use Rattle.std.proofs.Common.{◌≡◌, map, false, true, rules, refl}
 use Rattle.q773_comp.specs.Seen.{component}
 use Rattle.msgarena.specs.Seen.{parameter}
+use Rattle.hlrcore.proofs.IdsLemmas.{says_nothing}
 use Rattle.hlrcore.proofs.ReceivingLemmas.{begin_refused, begin_taken, both_ok, has_no}
 use Rattle.hlrcore.proofs.TakenLemmas.{then_ok}
 use Rattle.hlrcore.proofs.parts.ShardParts.begin.Goals as goal
@@ -26,3 +27,6 @@ returns-clause-received c =
     refl c.requires.mine c.requires.begin c.in_ok-plan.ensures c.settle.ensures.own (search rules)
     (has_no c.has_room.result some c.has_room.ensures.full.1) (settled, says))
     c.settle.ensures.settled c.settle.ensures.says
+
+pub returns-then-not-has_room-clause-ids : goal.returns-then-not-has_room-clause-ids
+returns-then-not-has_room-clause-ids c = then_ok c.aborted.result (λ a says. says_nothing c.args.self.now.dialogues a _ _ says) c.aborted.ensures

@@ -1,4 +1,5 @@
 use Rattle.std.proofs.Common.{refl}
+use Rattle.hlrcore.proofs.IdsLemmas.{says_nothing}
 use Rattle.hlrcore.proofs.ReceivingLemmas.{both_ok, close_left, close_taken, closed_can, closed_room}
 use Rattle.hlrcore.proofs.parts.ShardParts.close.Goals as goal
 
@@ -20,3 +21,6 @@ pub returns-in-None-clause-received : goal.returns-in-None-clause-received
 returns-in-None-clause-received c =
     close_left c.args.self.now c.args.self.now c.args.indication.now c.args.destination c.plan_close.result c.silent.result
     refl c.requires.mine c.requires.closes c.plan_close.ensures c.in-None.is c.silent.ensures
+
+pub returns-in-None-clause-ids : goal.returns-in-None-clause-ids
+returns-in-None-clause-ids c = says_nothing c.args.self.now.dialogues c.silent.result _ _ c.silent.ensures

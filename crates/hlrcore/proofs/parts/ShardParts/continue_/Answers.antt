@@ -1,4 +1,5 @@
 use Rattle.std.proofs.Common.{refl}
+use Rattle.hlrcore.proofs.IdsLemmas.{says_nothing}
 use Rattle.hlrcore.proofs.ReceivingLemmas.{both_ok, continue_left, continue_taken, found_can, found_room}
 use Rattle.hlrcore.proofs.TakenLemmas.{then_ok}
 use Rattle.hlrcore.proofs.parts.ShardParts.continue_.Goals as goal
@@ -29,3 +30,6 @@ returns-in-None-clause-received c =
     c.from-from.result c.args.origin c.args.destination c.args.components.now c.in_ok-found.found a
     refl c.requires.mine c.requires.continues c.from-from.ensures c.in_ok-found.ensures c.in-None.is says)
     c.aborted.ensures
+
+pub returns-in-None-clause-ids : goal.returns-in-None-clause-ids
+returns-in-None-clause-ids c = then_ok c.aborted.result (λ a says. says_nothing c.args.self.now.dialogues a _ _ says) c.aborted.ensures

@@ -1,4 +1,5 @@
 use Rattle.std.proofs.Common.{refl}
+use Rattle.hlrcore.proofs.IdsLemmas.{says_nothing}
 use Rattle.hlrcore.proofs.ReceivingLemmas.{both_ok, expiry_can, expiry_has_room, expiry_left, expiry_taken}
 use Rattle.hlrcore.proofs.parts.ShardParts.expire_due.Goals as goal
 
@@ -19,3 +20,6 @@ returns-in-Some-clause-expired c =
 pub returns-in-None-clause-expired : goal.returns-in-None-clause-expired
 returns-in-None-clause-expired c =
     expiry_left c.args.self.now c.args.self.now c.plan_expiry.result c.silent.result refl c.plan_expiry.ensures c.in-None.is c.silent.ensures
+
+pub returns-in-None-clause-ids : goal.returns-in-None-clause-ids
+returns-in-None-clause-ids c = says_nothing c.args.self.now.dialogues c.silent.result _ _ c.silent.ensures

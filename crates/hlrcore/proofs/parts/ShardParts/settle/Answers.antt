@@ -1,4 +1,5 @@
 use Rattle.std.proofs.Common.{◌≡◌, refl, subst}
+use Rattle.hlrcore.specs.Ids.{MovesIds}
 use Rattle.hlrcore.specs.Shards.{ShardState}
 use Rattle.hlrcore.proofs.SettleLemmas.{settled_by, taken_by}
 use Rattle.hlrcore.proofs.parts.ShardParts.settle.Goals as goal
@@ -18,3 +19,7 @@ returns-clause-says c = record {
 
 pub returns-clause-own : goal.returns-clause-own
 returns-clause-own c = subst (λ (s : ShardState). s.dialogues.shard ≡ s.shard) c.self.view_is c.self.invariant.dialogues
+
+pub returns-clause-ids : goal.returns-clause-ids
+returns-clause-ids c =
+    subst (λ (s : ShardState). MovesIds s.dialogues c.in_ok-id.id c.change.new.dialogues) c.self.view_is c.in_ok-id.ensures.ids

@@ -2,6 +2,7 @@ use Rattle.std.proofs.Common.{IfOk, subst}
 use Rattle.frames.specs.Octets.{RawExpire}
 use Rattle.hlrcore.specs.Shards.{ShardState}
 use Rattle.hlrcore.specs.Leading.{Leads}
+use Rattle.hlrcore.specs.Ids.{MovesIds}
 use Rattle.hlrcore.proofs.SoundLemmas.{expiry_is_routed, sound_after}
 use Rattle.hlrcore.proofs.state.State.expire.Goals as goal
 
@@ -14,3 +15,7 @@ invariant_of-self c =
 pub returns-clause-stepped : goal.returns-clause-stepped
 returns-clause-stepped c =
     subst (λ (s : ShardState). IfOk c.expire.result (λ a. Leads s (RawExpire s.shard) a c.expire.new.self)) c.self.view_is c.expire.ensures.expired
+
+pub returns-clause-ids : goal.returns-clause-ids
+returns-clause-ids c =
+    subst (λ (s : ShardState). IfOk c.expire.result (λ a. MovesIds s.dialogues a.id c.expire.new.self.dialogues)) c.self.view_is c.expire.ensures.ids

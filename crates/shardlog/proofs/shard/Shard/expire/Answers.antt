@@ -77,7 +77,7 @@ returns-in-Entries-clause-handles c =
     c.args.self.now c.expire.new.self (RawExpire c.args.shard) c.in_ok-answer.answer c.self.view_is
     (own_route RawExpire c.args.shard c.self.inside.state own (Expire c.args.shard, refl, refl))
     (own_step RawExpire c.args.shard c.self.inside.state c.expire.new.self c.in_ok-answer.answer own c.in_ok-answer.ensures.stepped)
-    c.in_ok-answer.ensures.same_shard
+    c.in_ok-answer.ensures.same_shard c.in_ok-answer.ensures.ids
     c.append.new.entries.items c.append.result c.in-Entries.is c.append.ensures.put c.append.ensures.outs c.append.ensures.position
 
 pub returns-in-Entries-clause-keeps : goal.returns-in-Entries-clause-keeps
@@ -98,7 +98,7 @@ returns-in-Nothing-clause-handles c =
     c.args.self.now c.expire.new.self (RawExpire c.args.shard) c.in_ok-answer.answer c.self.view_is
     (own_route RawExpire c.args.shard c.self.inside.state own (Expire c.args.shard, refl, refl))
     (own_step RawExpire c.args.shard c.self.inside.state c.expire.new.self c.in_ok-answer.answer own c.in_ok-answer.ensures.stepped)
-    c.in_ok-answer.ensures.same_shard
+    c.in_ok-answer.ensures.same_shard c.in_ok-answer.ensures.ids
     c.sent.result c.in-Nothing.is c.sent.ensures.outs c.sent.ensures.position
 
 pub returns-in-Nothing-clause-keeps : goal.returns-in-Nothing-clause-keeps

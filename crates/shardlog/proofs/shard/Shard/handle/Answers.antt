@@ -81,7 +81,7 @@ returns-in-Entries-clause-handles c =
     c.args.self.now c.step_for.new.self (raw_of c.args.event.now) c.in_ok-answer.answer c.self.view_is
     c.in_ok-answer.ensures.routed
     c.in_ok-answer.ensures.stepped
-    c.in_ok-answer.ensures.same_shard
+    c.in_ok-answer.ensures.same_shard c.in_ok-answer.ensures.ids
     c.append.new.entries.items c.append.result c.in-Entries.is (put c) c.append.ensures.outs c.append.ensures.position
 
 pub returns-in-Entries-clause-keeps : goal.returns-in-Entries-clause-keeps
@@ -101,7 +101,7 @@ returns-in-Nothing-clause-handles c =
     c.args.self.now c.step_for.new.self (raw_of c.args.event.now) c.in_ok-answer.answer c.self.view_is
     c.in_ok-answer.ensures.routed
     c.in_ok-answer.ensures.stepped
-    c.in_ok-answer.ensures.same_shard
+    c.in_ok-answer.ensures.same_shard c.in_ok-answer.ensures.ids
     c.sent.result c.in-Nothing.is c.sent.ensures.outs c.sent.ensures.position
 
 pub returns-in-Nothing-clause-keeps : goal.returns-in-Nothing-clause-keeps

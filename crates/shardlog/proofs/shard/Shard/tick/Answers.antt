@@ -64,7 +64,7 @@ returns-in-Entries-clause-handles c =
     c.args.self.now c.tick-answer.new.self (RawClock c.args.shard c.args.now) c.tick-answer.result c.self.view_is
     (own_route (λ n. RawClock n c.args.now) c.args.shard c.self.inside.state own (Clock c.args.shard c.args.now, (refl, refl), refl))
     (own_step (λ n. RawClock n c.args.now) c.args.shard c.self.inside.state c.tick-answer.new.self c.tick-answer.result own c.tick-answer.ensures.stepped)
-    c.tick-answer.ensures.same_shard
+    c.tick-answer.ensures.same_shard c.tick-answer.ensures.ids
     c.append.new.entries.items c.append.result c.in-Entries.is c.append.ensures.put c.append.ensures.outs c.append.ensures.position
 
 pub returns-in-Entries-clause-keeps : goal.returns-in-Entries-clause-keeps
@@ -85,7 +85,7 @@ returns-in-Nothing-clause-handles c =
     c.args.self.now c.tick-answer.new.self (RawClock c.args.shard c.args.now) c.tick-answer.result c.self.view_is
     (own_route (λ n. RawClock n c.args.now) c.args.shard c.self.inside.state own (Clock c.args.shard c.args.now, (refl, refl), refl))
     (own_step (λ n. RawClock n c.args.now) c.args.shard c.self.inside.state c.tick-answer.new.self c.tick-answer.result own c.tick-answer.ensures.stepped)
-    c.tick-answer.ensures.same_shard
+    c.tick-answer.ensures.same_shard c.tick-answer.ensures.ids
     c.sent.result c.in-Nothing.is c.sent.ensures.outs c.sent.ensures.position
 
 pub returns-in-Nothing-clause-keeps : goal.returns-in-Nothing-clause-keeps

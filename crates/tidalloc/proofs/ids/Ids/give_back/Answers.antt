@@ -27,8 +27,8 @@ push_reserved-requires c =
     slice_get_read i.slots.items _ _ _ refl (within_at i.shard c.args.id i.slots.items _ live) (rw c.slot_of-slot.ensures.value at c.index.ensures) in
     omega (
       arith,
-      free_has_room i.shard i.slots.items i.free.items i.freed_last
-          (vec_capacity i.free) c.args.id c.index.result.now c.self.invariant stands live,
+      free_has_room i.shard i.first i.slots.items i.free.items i.freed_last
+          (vec_capacity i.slots) (vec_capacity i.free) c.args.id c.index.result.now c.self.invariant stands live,
       i.free.ok.0,
     )
 
@@ -39,7 +39,7 @@ invariant_of-self c =
     let stands : slice_get i.slots.items (slot_of c.args.id) ≡ Some c.index.result.now =
     slice_get_read i.slots.items _ _ _ refl (within_at i.shard c.args.id i.slots.items _ live) (rw c.slot_of-slot.ensures.value at c.index.ensures) in
     rw (c.push_reserved.ensures.items, c.push_reserved.ensures.capacity, c.slot_of-slot.ensures.value)
-    (AreSlots-give_back i.shard i.slots.items i.free.items i.freed_last _ c.args.id c.index.result.now c.self.invariant stands live)
+    (AreSlots-give_back i.shard i.first i.slots.items i.free.items i.freed_last _ _ c.args.id c.index.result.now c.self.invariant stands live)
 
 pub returns : goal.returns
 returns c =
@@ -48,4 +48,4 @@ returns c =
     let stands : slice_get i.slots.items (slot_of c.args.id) ≡ Some c.index.result.now =
     slice_get_read i.slots.items _ _ _ refl (within_at i.shard c.args.id i.slots.items _ live) (rw c.slot_of-slot.ensures.value at c.index.ensures) in
     rw (← c.self.view_is, c.push_reserved.ensures.items, c.slot_of-slot.ensures.value)
-    (ids_of-give_back i.shard i.slots.items i.free.items i.freed_last (vec_capacity i.free) c.args.id c.index.result.now c.self.invariant stands live)
+    (ids_of-give_back i.shard i.first i.slots.items i.free.items i.freed_last (vec_capacity i.slots) (vec_capacity i.free) c.args.id c.index.result.now c.self.invariant stands live)

@@ -3,4 +3,5 @@ use Rattle.tidalloc.proofs.ids.Ids.new.Goals as goal
 
 pub invariant_of-result : goal.invariant_of-result
 invariant_of-result c =
-    rw (c.new.ensures.items, c.in_ok-with_capacity.ensures.items) (AreSlots-none c.args.shard _ c.requires c.in_ok-with_capacity.ensures.capacity)
+    rw (c.in_ok-with_capacity.ensures.items, c.in_ok-with_capacity-2.ensures.items)
+    (AreSlots-none c.args.shard _ _ c.requires c.in_ok-with_capacity.ensures.capacity c.in_ok-with_capacity-2.ensures.capacity)

@@ -6,7 +6,7 @@ use Rattle.tsl.proofs.transactions.Transactions.len.Goals as goal
 pub returns-clause-value : goal.returns-clause-value
 returns-clause-value c =
     let i = c.self.inside in
-    c.live_count.ensures ∙ sym (count-open_of i.ids i.keys.items i.entries i.room c.self.invariant) ∙ ap count c.self.view_is
+    c.live_count.ensures.value ∙ sym (count-open_of i.ids i.keys.items i.entries i.room c.self.invariant) ∙ ap count c.self.view_is
 
 pub returns-clause-of_shard : goal.returns-clause-of_shard
 returns-clause-of_shard c =

@@ -11,18 +11,18 @@ use Rattle.tsl.proofs.transactions.Transactions.open.Goals as goal
 
 pub unwrap-slot-requires : goal.unwrap-slot-requires
 unwrap-slot-requires c =
-    let id = c.take_reserved-id.result in
-    ap is_some (c.slot.ensures.slot ∙ slot_when_live c.take_reserved-id.new.self id
-    (live_taken c.self.inside.ids c.take_reserved-id.new.self id c.take_reserved-id.ensures.taken))
+    let id = c.take_one-id.result in
+    ap is_some (c.slot.ensures.slot ∙ slot_when_live c.take_one-id.new.self id
+    (live_taken c.self.inside.ids c.take_one-id.new.self id c.take_one-id.ensures))
 
 pub invariant_of-self : goal.invariant_of-self
 invariant_of-self c =
     let i = c.self.inside in
-    let entry : Entry = record { id = c.take_reserved-id.result; transaction = record { peer = c.args.peer; remote = c.args.remote } } in
-    let there : Some c.unwrap-slot.result ≡ slot_if_live c.take_reserved-id.new.self entry.id = sym c.unwrap-slot.ensures ∙ c.slot.ensures.slot in
-    AreEntries-begin i.ids c.take_reserved-id.new.self i.keys.items i.entries
+    let entry : Entry = record { id = c.take_one-id.result; transaction = record { peer = c.args.peer; remote = c.args.remote } } in
+    let there : Some c.unwrap-slot.result ≡ slot_if_live c.take_one-id.new.self entry.id = sym c.unwrap-slot.ensures ∙ c.slot.ensures.slot in
+    AreEntries-begin i.ids c.take_one-id.new.self i.keys.items i.entries
     c.insert_reserved.new.self i.room c.unwrap-slot.result c.insert_reserved.result entry
-    c.self.invariant c.take_reserved-id.ensures.taken c.take_reserved-id.ensures.room c.slot.ensures.own there
+    c.self.invariant c.take_one-id.ensures c.slot.ensures.own there
     (rw c.unwrap-slot.ensures at c.slot.ensures.small)
     c.insert_reserved.ensures.was_vacant c.insert_reserved.ensures.updates c.insert_reserved.ensures.len c.insert_reserved.ensures.capacity
     (rw (sym c.self.view_is) at c.requires)
@@ -30,13 +30,13 @@ invariant_of-self c =
 pub returns-clause-begun : goal.returns-clause-begun
 returns-clause-begun c =
     let i = c.self.inside in
-    let entry : Entry = record { id = c.take_reserved-id.result; transaction = record { peer = c.args.peer; remote = c.args.remote } } in
-    let there : Some c.unwrap-slot.result ≡ slot_if_live c.take_reserved-id.new.self entry.id = sym c.unwrap-slot.ensures ∙ c.slot.ensures.slot in
+    let entry : Entry = record { id = c.take_one-id.result; transaction = record { peer = c.args.peer; remote = c.args.remote } } in
+    let there : Some c.unwrap-slot.result ≡ slot_if_live c.take_one-id.new.self entry.id = sym c.unwrap-slot.ensures ∙ c.slot.ensures.slot in
     subst (λ (t : OpenTransactions). Begins t entry.id (known_as c.args.peer c.args.remote)
-    (open_of c.take_reserved-id.new.self (set i.keys.items c.unwrap-slot.result c.insert_reserved.result) c.insert_reserved.new.self
+    (open_of c.take_one-id.new.self (set i.keys.items c.unwrap-slot.result c.insert_reserved.result) c.insert_reserved.new.self
     (i.room - 1))) c.self.view_is
-    (begins i.ids c.take_reserved-id.new.self i.keys.items i.entries c.insert_reserved.new.self i.room c.unwrap-slot.result c.insert_reserved.result entry
-    c.self.invariant c.take_reserved-id.ensures.taken c.take_reserved-id.ensures.room c.slot.ensures.own there
+    (begins i.ids c.take_one-id.new.self i.keys.items i.entries c.insert_reserved.new.self i.room c.unwrap-slot.result c.insert_reserved.result entry
+    c.self.invariant c.take_one-id.ensures c.slot.ensures.own there
     (rw c.unwrap-slot.ensures at c.slot.ensures.small)
     c.insert_reserved.ensures.was_vacant c.insert_reserved.ensures.updates c.insert_reserved.ensures.len c.insert_reserved.ensures.capacity
     (rw (sym c.self.view_is) at c.requires))
