@@ -88,8 +88,13 @@ enum {
  * Opens a register, in a closed handle, on the text of a records file (docs/PROTOCOL.md): no dialogue is open, each shard's clock is
  * at 0, and no frame waits. With KUNCHROL_KEEP_JOURNALS as journals it keeps a journal of each shard, with 0 none. If a line has a
  * fault, its number, from 1, is stored at line, otherwise 0.
+ *
+ * start is a number that differs from one start to the next: a count of starts, or the time in seconds. Local ids begin at a place that it
+ * decides, so that what a peer sends for a dialogue of an earlier start names, as a rule, none of this one. Starts whose numbers are
+ * equal modulo 4,095 begin alike. To replay a log, pass the number that was passed when the log began.
  */
-KUNCHROL_CHECKED uint32_t kunchrol_open(const uint8_t *records, size_t records_len, uint8_t journals, struct kunchrol *hlr, uint64_t *line);
+KUNCHROL_CHECKED uint32_t kunchrol_open(const uint8_t *records, size_t records_len, uint8_t journals, uint32_t start, struct kunchrol *hlr,
+					uint64_t *line);
 
 /*
  * The four calls below give one event each, and kunchrol_clock sixteen. What an event sends waits for kunchrol_next, after the frames
@@ -128,6 +133,16 @@ KUNCHROL_CHECKED uint32_t kunchrol_codes(struct kunchrol *hlr, const uint8_t *im
 
 /* The end of the subscription with this IMSI. KUNCHROL_NONE, and no event, if there is no record with it. */
 KUNCHROL_CHECKED uint32_t kunchrol_withdraw(struct kunchrol *hlr, const uint8_t *imsi, size_t imsi_len);
+
+/*
+ * Does what a line of a log says, without its line feed, and answers as the call that it stands for: `F <from> <octets>` kunchrol_frame, the
+ * octets in hexadecimal, or `-` for none; `C <ticks>` kunchrol_clock; `E <shard>` kunchrol_expire; `O <imsi> <codes>` kunchrol_codes;
+ * `X <imsi>` kunchrol_withdraw. KUNCHROL_ARGUMENT if it is no such line.
+ *
+ * If you write each line to a log and then give it, the log has exactly what the register was given. The same lines, given in the same
+ * order to a register that was opened on the same text with the same start, send the same frames, local ids included, and lead to the same state.
+ */
+KUNCHROL_CHECKED uint32_t kunchrol_line(struct kunchrol *hlr, const uint8_t *line, size_t line_len);
 
 /*
  * Takes the next frame to be sent, in the order of sending: the digits of the address that it goes to, as ASCII, and its octets, the user

@@ -22,7 +22,7 @@ static uint32_t print_sent(void)
 int main(void)
 {
 	uint64_t line;
-	uint32_t code = kunchrol_open((const uint8_t *)RECORDS, strlen(RECORDS), 0, &hlr, &line);
+	uint32_t code = kunchrol_open((const uint8_t *)RECORDS, strlen(RECORDS), 0, 0, &hlr, &line);
 
 	if (!code)
 		code = kunchrol_frame(&hlr, (const uint8_t *)ASKING, strlen(ASKING), ROUTE, sizeof(ROUTE));

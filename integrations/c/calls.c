@@ -74,11 +74,11 @@ static int is_text(const uint8_t *buffer, size_t count, const char *wanted)
 	return count == strlen(wanted) && !memcmp(buffer, wanted, count);
 }
 
-static void open_register(uint8_t journals)
+static void open_register(uint8_t journals, uint32_t start)
 {
 	uint64_t line = FILL;
 
-	ANSWERS(KUNCHROL_OK, kunchrol_open(TEXT(RECORDS), journals, &hlr, &line));
+	ANSWERS(KUNCHROL_OK, kunchrol_open(TEXT(RECORDS), journals, start, &hlr, &line));
 	HOLDS(line == 0);
 }
 
@@ -93,6 +93,8 @@ static void check_closed(void)
 	ANSWERS(KUNCHROL_CLOSED, kunchrol_deadline(&hlr, &when));
 	ANSWERS(KUNCHROL_CLOSED, kunchrol_codes(&hlr, TEXT(KNOWN), TEXT("11")));
 	ANSWERS(KUNCHROL_CLOSED, kunchrol_withdraw(&hlr, TEXT(KNOWN)));
+	ANSWERS(KUNCHROL_CLOSED, kunchrol_line(&hlr, TEXT("C 1")));
+	ANSWERS(KUNCHROL_CLOSED, kunchrol_line(&hlr, TEXT("E 1")));
 	ANSWERS(KUNCHROL_CLOSED, kunchrol_next(&hlr, to, sizeof(to), &to_len, octets, sizeof(octets), &len));
 	ANSWERS(KUNCHROL_CLOSED, kunchrol_record(&hlr, TEXT(KNOWN), text, sizeof(text), &len));
 	ANSWERS(KUNCHROL_CLOSED, kunchrol_record_of_number(&hlr, TEXT(NUMBER), text, sizeof(text), &len));
@@ -107,10 +109,10 @@ static void check_opening(void)
 {
 	uint64_t line = 0;
 
-	ANSWERS(KUNCHROL_LINE, kunchrol_open(TEXT("HLR1 447700900100\n1\n"), 0, &hlr, &line));
+	ANSWERS(KUNCHROL_LINE, kunchrol_open(TEXT("HLR1 447700900100\n1\n"), 0, 0, &hlr, &line));
 	HOLDS(line == 2);
-	open_register(0);
-	ANSWERS(KUNCHROL_OPEN, kunchrol_open(TEXT(RECORDS), 0, &hlr, &line));
+	open_register(0, 0);
+	ANSWERS(KUNCHROL_OPEN, kunchrol_open(TEXT(RECORDS), 0, 0, &hlr, &line));
 	HOLDS(kunchrol_version() == KUNCHROL_VERSION_NUMBER);
 }
 
@@ -131,6 +133,17 @@ static void check_arguments(void)
 	ANSWERS(KUNCHROL_ARGUMENT, kunchrol_cut(&hlr, 255, text, sizeof(text), &len));
 	ANSWERS(KUNCHROL_NONE, kunchrol_next(&hlr, to, sizeof(to), &to_len, octets, sizeof(octets), &len));
 	HOLDS(is_untouched() && len == FILL && to_len == FILL);
+}
+
+/* what is no line of a log, a script's lines that are none included */
+static void check_bad_lines(void)
+{
+	static const char *const lines[] = { "", "E", "W", "E 16", "E 01", "E 1 ", "E -1", "C 4611686018427387905", "C", "C 1\n", "F 4477",
+					     "F 4477 ", "F 4477 6", "F 4477 6G", "F 4477 $A", "F 12345678901234567 -", "F 4477 62 62", "F  62",
+					     "O 234150000000001", "O 234150000000001 11,", "O 2341 11", "X 2341", "X", "Q 1", "f 4477 62" };
+
+	for (size_t at = 0; at < sizeof(lines) / sizeof(lines[0]); at++)
+		ANSWERS(KUNCHROL_ARGUMENT, kunchrol_line(&hlr, TEXT(lines[at])));
 }
 
 /* three routes and an update are answered in this order, whenever their frames are taken */
@@ -235,7 +248,7 @@ static void check_journals(void)
 {
 	uint32_t code;
 
-	open_register(KUNCHROL_KEEP_JOURNALS);
+	open_register(KUNCHROL_KEEP_JOURNALS, 0);
 	ANSWERS(KUNCHROL_OK, kunchrol_frame(&hlr, TEXT(ASKING), UPDATE, sizeof(UPDATE)));
 	code = kunchrol_clock(&hlr, 20);
 	if (code == KUNCHROL_MEMORY) {
@@ -256,7 +269,7 @@ static void check_journals(void)
 /* one full journal has no clock set; the others are cut in vain */
 static void check_full_journal(void)
 {
-	open_register(KUNCHROL_KEEP_JOURNALS);
+	open_register(KUNCHROL_KEEP_JOURNALS, 0);
 	ANSWERS(KUNCHROL_OK, kunchrol_frame(&hlr, TEXT(ASKING), UPDATE, sizeof(UPDATE)));
 	for (unsigned entry = 0; entry < ENTRIES - 1; entry++)
 		ANSWERS(KUNCHROL_OK, kunchrol_frame(&hlr, TEXT(ASKING), ROUTE, sizeof(ROUTE)));
@@ -275,6 +288,55 @@ static void check_full_journal(void)
 	kunchrol_close(&hlr);
 }
 
+/* the update that is open, if any, has this id */
+static void check_open(const char *begins)
+{
+	ANSWERS(KUNCHROL_OK, kunchrol_dialogues(&hlr, 1, text, sizeof(text), &len));
+	HOLDS(len >= strlen(begins) && !memcmp(text, begins, strlen(begins)));
+	HOLDS(*begins || len == 0);
+}
+
+/* what a peer sends for a dialogue of another start changes nothing; for one of this start it does */
+static void check_starts(void)
+{
+	static const uint8_t end[] = { 0x64, 0x06, 0x49, 0x04, 0x01, 0x00, 0x10, 0x00 };
+	static const char *const begins[] = { "D 01001000 update", "D 019E4000 update", "D 013C8000 update", "D 01001000 update" };
+	static const uint32_t starts[] = { 0, 1, 2, 4095 };
+
+	for (size_t at = 0; at < sizeof(starts) / sizeof(starts[0]); at++) {
+		open_register(0, starts[at]);
+		ANSWERS(KUNCHROL_OK, kunchrol_frame(&hlr, TEXT(ASKING), UPDATE, sizeof(UPDATE)));
+		check_open(begins[at]);
+		ANSWERS(KUNCHROL_OK, kunchrol_frame(&hlr, TEXT(ASKING), end, sizeof(end)));
+		check_open(starts[at] % 4095 ? begins[at] : "");
+		kunchrol_close(&hlr);
+	}
+}
+
+/* each line does what the call does that it stands for */
+static void check_lines(void)
+{
+	uint64_t when = 0;
+
+	open_register(0, 0);
+	ANSWERS(KUNCHROL_OK, kunchrol_line(&hlr, TEXT("F 447700909999 -")));
+	ANSWERS(KUNCHROL_NONE, kunchrol_line(&hlr, TEXT("E 1")));
+	ANSWERS(KUNCHROL_NONE, kunchrol_line(&hlr, TEXT("X 234150000000003")));
+	ANSWERS(KUNCHROL_OK, kunchrol_frame(&hlr, TEXT(ASKING), UPDATE, sizeof(UPDATE)));
+	ANSWERS(KUNCHROL_OK, kunchrol_line(&hlr, TEXT("C 20")));
+	ANSWERS(KUNCHROL_OK, kunchrol_deadline(&hlr, &when));
+	HOLDS(when == 20);
+	ANSWERS(KUNCHROL_OK, kunchrol_line(&hlr, TEXT("E 1")));
+	ANSWERS(KUNCHROL_NONE, kunchrol_line(&hlr, TEXT("E 1")));
+	ANSWERS(KUNCHROL_OK, kunchrol_line(&hlr, TEXT("O 234150000000001 -")));
+	ANSWERS(KUNCHROL_OK, kunchrol_record(&hlr, TEXT(KNOWN), text, sizeof(text), &len));
+	HOLDS(is_text(text, len, "234150000000001 447700900000 - * 447700900011,447700900001,-,s a"));
+	ANSWERS(KUNCHROL_OK, kunchrol_line(&hlr, TEXT("X 234150000000001")));
+	ANSWERS(KUNCHROL_OK, kunchrol_record(&hlr, TEXT(KNOWN), text, sizeof(text), &len));
+	HOLDS(is_text(text, len, "234150000000001 447700900000 - * - w"));
+	kunchrol_close(&hlr);
+}
+
 int main(int argc, char **argv)
 {
 	int is_full = 0;
@@ -286,6 +348,7 @@ int main(int argc, char **argv)
 	check_closed();
 	check_opening();
 	check_arguments();
+	check_bad_lines();
 	check_records();
 	check_waiting();
 	check_dialogues();
@@ -293,6 +356,8 @@ int main(int argc, char **argv)
 	check_changes();
 	kunchrol_close(&hlr);
 	check_journals();
+	check_starts();
+	check_lines();
 	if (is_full)
 		check_full_journal();
 	return faults != 0;

@@ -124,7 +124,7 @@ static uint32_t save_and_open(void)
 	size_t len;
 	uint32_t code = kunchrol_save(&hlr, saved, sizeof(saved), &len);
 
-	if (!code && !(code = kunchrol_open(saved, len, KUNCHROL_KEEP_JOURNALS, &again, &line)))
+	if (!code && !(code = kunchrol_open(saved, len, KUNCHROL_KEEP_JOURNALS, 0, &again, &line)))
 		kunchrol_close(&again);
 	return code;
 }
@@ -135,7 +135,7 @@ int main(int argc, char **argv)
 	uint32_t code = KUNCHROL_OK;
 	uint64_t line = 0;
 
-	if (!frames || kunchrol_open((const uint8_t *)RECORDS, strlen(RECORDS), KUNCHROL_KEEP_JOURNALS, &hlr, &line))
+	if (!frames || kunchrol_open((const uint8_t *)RECORDS, strlen(RECORDS), KUNCHROL_KEEP_JOURNALS, 0, &hlr, &line))
 		return 2;
 	drawn = 0x9E3779B97F4A7C15u + strtoull(argv[1], NULL, 10);
 	for (unsigned long long given = 0; given < frames && !code; given++) {

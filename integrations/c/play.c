@@ -312,7 +312,7 @@ int main(int argc, char **argv)
 		if (!strcmp(argv[word], "--none"))
 			journals = 0;
 	}
-	CALL(code, kunchrol_open(records, (size_t)records_len, journals, &hlr, &line));
+	CALL(code, kunchrol_open(records, (size_t)records_len, journals, 0, &hlr, &line));
 	if (code) {
 		dprintf(STANDARD_ERROR, "play: records line %llu: %s\n", (unsigned long long)line, kunchrol_name(code));
 		return 1;

@@ -28,7 +28,7 @@ int main(int argc, char **argv)
 	uint64_t line = 0;
 	double begun;
 
-	if (!routes || kunchrol_open((const uint8_t *)RECORDS, strlen(RECORDS), 0, &hlr, &line))
+	if (!routes || kunchrol_open((const uint8_t *)RECORDS, strlen(RECORDS), 0, 0, &hlr, &line))
 		return 2;
 	begun = seconds();
 	for (unsigned long long done = 0; done < routes && !code; done++)

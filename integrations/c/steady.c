@@ -66,7 +66,7 @@ int main(int argc, char **argv)
 	uint32_t code = KUNCHROL_OK;
 	uint64_t line = 0;
 
-	if (!frames || kunchrol_open((const uint8_t *)RECORDS, strlen(RECORDS), 0, &hlr, &line))
+	if (!frames || kunchrol_open((const uint8_t *)RECORDS, strlen(RECORDS), 0, 0, &hlr, &line))
 		return 2;
 	for (unsigned long long done = 0; done < frames && !code; done += 3) {
 		code = round_of_three();

@@ -3,6 +3,7 @@
 #include <stdio.h>
 #include <stdlib.h>
 #include <string.h>
+#include <time.h>
 
 static struct kunchrol hlr = KUNCHROL_CLOSED_HANDLE;
 static send_function send_frame;
@@ -78,7 +79,7 @@ bool hlr_open(const char *path, send_function send, char own[KUNCHROL_MAX_DIGITS
 	uint64_t line = 0;
 
 	if (text)
-		code = kunchrol_open((const uint8_t *)text, len, 0, &hlr, &line);
+		code = kunchrol_open((const uint8_t *)text, len, 0, (uint32_t)time(NULL), &hlr, &line);
 	if (!text)
 		fprintf(stderr, "hlr: cannot read %s\n", path);
 	else if (code)

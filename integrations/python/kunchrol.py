@@ -107,13 +107,14 @@ BUFFER = [*TEXT, LENGTH]
 # The parameters of each call.
 CALLS: dict[str, list[type]] = {
     "version": [],
-    "open": [*TEXT, c_uint8, HLR, POINTER(c_uint64)],
+    "open": [*TEXT, c_uint8, c_uint32, HLR, POINTER(c_uint64)],
     "frame": [HLR, *TEXT, *TEXT],
     "clock": [HLR, c_uint64],
     "expire": [HLR, c_uint8],
     "deadline": [HLR, POINTER(c_uint64)],
     "codes": [HLR, *TEXT, *TEXT],
     "withdraw": [HLR, *TEXT],
+    "line": [HLR, *TEXT],
     "next": [HLR, *BUFFER, *BUFFER],
     "record": [HLR, *TEXT, *BUFFER],
     "record_of_number": [HLR, *TEXT, *BUFFER],
@@ -147,11 +148,11 @@ def text_of(text: str) -> tuple[bytes, int]:
 class Register:
     """A register. What a call sends waits for `sent`."""
 
-    def __init__(self, records: bytes, *, journals: bool = False, library: ctypes.CDLL | None = None) -> None:
+    def __init__(self, records: bytes, *, journals: bool = False, start: int = 0, library: ctypes.CDLL | None = None) -> None:
         self._library, self._handle, self._thread = library or load(), Handle(None), threading.get_ident()
         self._to, self._octets = ctypes.create_string_buffer(MAX_DIGITS), ctypes.create_string_buffer(MAX_OCTETS)
         line = c_uint64()
-        code = self._library.kunchrol_open(records, len(records), journals, byref(self._handle), byref(line))
+        code = self._library.kunchrol_open(records, len(records), journals, start, byref(self._handle), byref(line))
         if code:
             raise fault_of(code, line.value)
 
@@ -164,6 +165,10 @@ class Register:
     def frame(self, sender: str, octets: bytes) -> None:
         """Gives a frame that came from these digits."""
         self._does("frame", *text_of(sender), bytes(octets), len(octets))
+
+    def line(self, line: str) -> bool:
+        """Does what a line of a log says. False for an expiry where none is due, and for a change of no record."""
+        return self._does("line", *text_of(line))
 
     def clock(self, now: int) -> None:
         """Sets the clocks, in ticks."""

@@ -96,7 +96,7 @@ fn tell(rt: &HostRuntime, name: &str, start: &Instant, count: u64) -> Result<()>
 
 fn time_node(rt: &HostRuntime, count: u64) -> Result<()> {
     let alloc = rt.alloc();
-    let mut node = Node::new(alloc, loaded(alloc)?, Keep::Entries)?;
+    let mut node = Node::new(alloc, loaded(alloc)?, Keep::Entries, 0)?;
     let events = routes(alloc, count)?;
     let start = Instant::now(rt)?;
     let done = node

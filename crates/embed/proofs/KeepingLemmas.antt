@@ -19,8 +19,8 @@ use Rattle.wholenode.specs.Ticking.{RefusesTicks}
 use Rattle.wholenode.proofs.Places.{set_or_not}
 use Rattle.embed.specs.Keeping.{KeepsNothing}
 
-pub begins_nothing : (loaded : Subscribers) (keep : Keep) (n : NodeState) → BeginsWith loaded keep n → keep ≡ Nothing → KeepsNothing n
-begins_nothing loaded keep n begins none = λ k l stands.
+pub begins_nothing : (loaded : Subscribers) (keep : Keep) (start : ℕ) (n : NodeState) → BeginsWith loaded keep start n → keep ≡ Nothing → KeepsNothing n
+begins_nothing loaded keep start n begins none = λ k l stands.
     let shard = begins.shards_are.each k l stands in ap (λ (m : Log). m.keep) shard.begins ∙ none
 
 recorded_keep : (keep : Keep) (l : Log) (entry : RawEntry) (s : ShardState) → (recorded keep l entry s).keep ≡ keep

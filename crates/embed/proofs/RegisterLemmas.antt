@@ -20,13 +20,13 @@ use Rattle.embed.specs.Journals.{CutsOff, ListsOpen, ListsShard}
 use Rattle.embed.specs.Registers.{Answers, Opens, RegisterState, SetsClocks, register}
 use Rattle.embed.proofs.KeepingLemmas.{begins_nothing, cuts_nothing, runs_nothing, takes_nothing}
 
-pub opens : (contents : Contents) (loaded : Subscribers) (keep : Keep) (n : NodeState) (waiting : List RawOut) → loaded ≡ loaded_from contents
-    → BeginsWith loaded keep n → NodeKeeps n → waiting ≡ [] → Opens contents keep (register n waiting)
-opens contents loaded keep n waiting is begins keeps none = record {
-  begins = subst (λ (it : Subscribers). BeginsWith it keep n) is begins;
+pub opens : (contents : Contents) (loaded : Subscribers) (keep : Keep) (start : ℕ) (n : NodeState) (waiting : List RawOut) → loaded ≡ loaded_from contents
+    → BeginsWith loaded keep start n → NodeKeeps n → waiting ≡ [] → Opens contents keep start (register n waiting)
+opens contents loaded keep start n waiting is begins keeps none = record {
+  begins = subst (λ (it : Subscribers). BeginsWith it keep start n) is begins;
   keeps = keeps;
   waiting = none;
-  nothing = begins_nothing loaded keep n begins;
+  nothing = begins_nothing loaded keep start n begins;
 }
 
 -- a fault of a records file that is one can only be want of memory

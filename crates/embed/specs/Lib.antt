@@ -1,6 +1,8 @@
 pub mod Events
+pub mod Examples
 pub mod Journals
 pub mod Keeping
+pub mod LogLines
 pub mod Lookups
 pub mod Registers
 pub mod Rooms

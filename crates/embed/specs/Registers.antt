@@ -29,10 +29,10 @@ register_state_code =
     code_by (NodeState × List RawOut) (coded× node_state_code (coded_list raw_out_code)) (λ r. (r.node, r.waiting))
     (λ p. register p.0 p.1) (λ _. refl)
 
--- The register of a records file with these contents, which keeps journals or none: no dialogue is open, each clock is at 0, and no frame
--- waits.
-pub record Opens (contents : Contents) (keep : Keep) (r : RegisterState) : Type 0 where
-  pub begins : BeginsWith (loaded_from contents) keep r.node
+-- The register of a records file with these contents, at the start with this number, which keeps journals or none: no dialogue is open, each
+-- clock is at 0, and no frame waits.
+pub record Opens (contents : Contents) (keep : Keep) (start : ℕ) (r : RegisterState) : Type 0 where
+  pub begins : BeginsWith (loaded_from contents) keep start r.node
   pub keeps : NodeKeeps r.node
   pub waiting : r.waiting ≡ []
   pub nothing : keep ≡ Nothing → KeepsNothing r.node

@@ -3,7 +3,9 @@
 #![tactic(auto)]
 
 mod events;
+mod examples;
 mod fault;
+mod log_line;
 mod lookups;
 mod register;
 mod room;
@@ -12,7 +14,9 @@ mod waiting;
 pub use events::{
     codes_event, expiry_event, frame_event, read_imsi, read_number, withdrawal_event,
 };
+pub use examples::law_log_lines;
 pub use fault::RoomFault;
+pub use log_line::{LogLine, read_log_line};
 pub use register::Register;
 pub use room::write_record;
 pub use wholenode::Keep;

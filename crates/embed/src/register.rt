@@ -52,15 +52,21 @@ impl Model for Register {
 
 impl Register {
     /// The register of a records file, which `read_records` describes: no dialogue is open, each clock is at 0, the journals are
-    /// empty, and no frame waits. Each event gets an entry in the journal of its shard, or none does. The first line with a fault decides.
-    pub fn open(alloc: Global, text: &[u8], keep: Keep) -> Result<Register, RecordsFault>
+    /// empty, and no frame waits. Each event gets an entry in the journal of its shard, or none does. The number of the start, which is to
+    /// differ from one start to the next, moves where local ids begin (`Node::new`). The first line with a fault decides.
+    pub fn open(
+        alloc: Global,
+        text: &[u8],
+        keep: Keep,
+        start: u32,
+    ) -> Result<Register, RecordsFault>
         // A text that is opened is a records file, and the register begins with its contents.
         ensures found { IfOk result (λ r.
-            (contents : Contents) × File text.now contents × Opens contents keep r) }
+            (contents : Contents) × File text.now contents × Opens contents keep start r) }
 
         // A records file is opened, unless memory runs out.
         ensures only { (contents : Contents) → File text.now contents
-            → MatchResult result (Opens contents keep)
+            → MatchResult result (Opens contents keep start)
             (λ fault. fault ≡ RecordsFault.Memory) }
 
         // A fault is the one of the first line with a fault, which is reported unless memory runs out.
@@ -74,7 +80,7 @@ impl Register {
             (λ fault. (fault ≡ RecordsFault.Twice n) ⊎ (fault ≡ RecordsFault.Memory)) }
     {
         let loaded = read_records(alloc, text)?;
-        let node = Node::new(alloc, loaded, keep)?;
+        let node = Node::new(alloc, loaded, keep, start)?;
         Ok(Register {
             alloc,
             node,

@@ -105,7 +105,7 @@ fn opens_or_stays(alloc: Global, shard: &mut ShardParts) -> bool {
 /// Shard 1 with these records.
 fn shard_of(alloc: Global, part: Records, loaded: &Loaded) -> Option<ShardParts> {
     let directory = loaded.shared_directory().ok()?;
-    ShardParts::of_part(alloc, 1, part, directory, *loaded.hlr()).ok()
+    ShardParts::of_part(alloc, 0, 1, part, directory, *loaded.hlr()).ok()
 }
 
 /// Shard 1 as it begins, without open dialogues.

@@ -214,7 +214,7 @@ fn journals_of_a_shard(rt: HostRuntime) {
 }
 
 fn node_of(alloc: Global, loaded: Loaded, keep: Keep) -> Option<Node> {
-    Node::new(alloc, loaded, keep).ok()
+    Node::new(alloc, loaded, keep, 0).ok()
 }
 
 fn node(alloc: Global, keep: Keep) -> Option<Node> {

@@ -23,4 +23,5 @@ pub use item::Item;
 pub use letters::{Letters, MAX_LETTERS};
 pub use line::read_line;
 pub use options::{Options, WordsFault};
+pub use ticks::read_ticks;
 pub use words::read_words;

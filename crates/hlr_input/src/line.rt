@@ -8,7 +8,7 @@ ghost use Rattle.hlr_input.specs.Script.{Line, IsLine, is_closed, line_of};
 ghost use Rattle.hlr_input.specs.Reading.{IsWritten, Reads};
 
 use crate::item::Item;
-use crate::ticks::ticks;
+use crate::ticks::read_ticks;
 use hlr_types::{Digits, Imsi, Peer};
 use records::Codes;
 use texts::cut;
@@ -79,7 +79,7 @@ fn read_other<'a>(line: &'a [u8]) -> Option<Item<'a>>
 fn read_clock<'a>(rest: &[u8]) -> Option<Item<'a>>
     ensures { Reads (IsWritten (67 ∷ 32 ∷ rest.now)) result }
 {
-    let now = ticks(rest)?;
+    let now = read_ticks(rest)?;
     Some(Item::Clock(now))
 }
 

@@ -7,7 +7,7 @@ ghost use Rattle.hlr_input.specs.Reading.{is_plain};
 use machine::numbers::MAX_CLOCK;
 
 /// A clock value: 0 to 2^62 in decimal digits, without a leading zero.
-pub fn ticks(text: &[u8]) -> Option<u64>
+pub fn read_ticks(text: &[u8]) -> Option<u64>
     ensures found { IfSome result (λ n. IsTicks text.now n) }
     ensures only { (n : ℕ) → IsTicks text.now n → result ≡ Some n }
 {

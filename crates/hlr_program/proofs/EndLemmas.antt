@@ -46,7 +46,7 @@ pub opens_empty : (listed : Bool) (loaded : Subscribers) (start : Register) → 
 opens_empty listed loaded (Alone alone) opens = opens.2
 opens_empty listed loaded (Shared crew) opens = opens.1
 
-begins_at_end : (loaded : Subscribers) (keep : Keep) (start : NodeState) → BeginsWith loaded keep start → IsAtEnd (opening_of loaded) [] [] start
+begins_at_end : (loaded : Subscribers) (keep : Keep) (start : NodeState) → BeginsWith loaded keep 0 start → IsAtEnd (opening_of loaded) [] [] start
 begins_at_end loaded keep start begins =
     opening_at_end (opening_of loaded) start
     (λ n l at. let opens = begins.shards_are.each n l at in (

@@ -313,7 +313,7 @@ sending_stops before raws printed event left here answers c s refused =
 
 -- ---- at the beginning
 
-pub opens_ready : (loaded : Subscribers) (keep : Keep) (node : NodeState) → BeginsWith loaded keep node → NodeKeeps node → IsReady keep node 0
+pub opens_ready : (loaded : Subscribers) (keep : Keep) (node : NodeState) → BeginsWith loaded keep 0 node → NodeKeeps node → IsReady keep node 0
 opens_ready loaded keep node begins sound = record {
   sound = sound;
   keeps = λ n l at. ap (λ (k : Log). k.keep) (begins.shards_are.each n l at).begins;

@@ -29,7 +29,7 @@ part_of (Shared crew) = crew.part
 
 -- It has loaded this, and was given nothing. In one thread it keeps entries if they are listed.
 abbrev pub OpensWith : (listed : Bool) → Subscribers → Register → Type 0
-OpensWith listed loaded (Alone alone) = BeginsWith loaded (kept_if listed) alone.register × NodeKeeps alone.register × (alone.part ≡ [])
+OpensWith listed loaded (Alone alone) = BeginsWith loaded (kept_if listed) 0 alone.register × NodeKeeps alone.register × (alone.part ≡ [])
 OpensWith listed loaded (Shared crew) = StandsBehind (opening_of loaded) [] [] crew.register × (crew.part ≡ [])
 
 -- Whether it asks for the number of a batch's events before the batch: in one thread, if it keeps entries.

@@ -84,12 +84,12 @@ impl Alone {
     /// The register of a records file, with no open dialogue, empty journals, and no event. `listed` says whether the journals are listed
     /// at the end: only then entries are kept.
     pub fn new(alloc: Global, loaded: Loaded, listed: bool) -> Result<Alone, AllocError>
-        ensures begins { IfOk result (λ alone. BeginsWith loaded (kept_if listed) alone.register) }
+        ensures begins { IfOk result (λ alone. BeginsWith loaded (kept_if listed) 0 alone.register) }
         ensures keeps { IfOk result (λ alone. NodeKeeps alone.register) }
         ensures none { IfOk result (λ alone. alone.part ≡ []) }
     {
         let keep = keep_of(listed);
-        let node = Node::new(alloc, loaded, keep)?;
+        let node = Node::new(alloc, loaded, keep, 0)?;
         Ok(Alone {
             alloc,
             node,

@@ -21,3 +21,4 @@ pub mod SteppingLemmas
 pub mod DeadlineLemmas
 pub mod IdsLemmas
 pub mod ReplayLemmas
+pub mod StartLemmas

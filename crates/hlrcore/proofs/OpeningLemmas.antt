@@ -1,4 +1,4 @@
--- A shard's part of the state with which the register begins.
+-- A shard's part of the state with which the register begins, and its ids.
 use Rattle.std.proofs.Common.{◌≡◌, ℕ, List, Bool, true, false, cond, ◌==◌, Option, None, refl, sym, ap, ◌∙◌}
 use Rattle.std.specs.FinMap as map
 use Rattle.std.specs.Prelude.{option_map}
@@ -8,7 +8,8 @@ use Rattle.machine.specs.State.{Dialogue}
 use Rattle.machine.specs.Opening.{opening}
 use Rattle.machine.specs.Parts.{part}
 use Rattle.smroute.specs.Seen.{machine_subscriber}
-use Rattle.dialogues.specs.Dialogues.{OpenDialogues, dialogues_of}
+use Rattle.tidalloc.specs.LiveIds.{Supply, unused}
+use Rattle.dialogues.specs.Dialogues.{IsFresh, OpenDialogues, beginning_after, dialogues_of}
 use Rattle.hlrcore.specs.Shards.{shard_of_fields, records_of, directory_of, state_of}
 use Rattle.records.proofs.MapLemmas.{digits_exact}
 
@@ -26,6 +27,18 @@ record_at records n x =
     (λ y tie. ap (λ imsi. shard_of imsi == n) (sym (digits_exact x y tie))))
     ∙ seen_if machine_subscriber (shard_of x == n) (map.get records x)
     ∙ ap (λ k. cond (k == n) (records_of records x) None) (same_shard x)
+
+-- no dialogue is open, and no id was used, where the first ids were moved
+same_ones : (d : OpenDialogues) (generation : ℕ) → dialogues_of (beginning_after d generation) ≡ dialogues_of d
+unfolding dialogues_of
+same_ones d generation = refl
+
+pub none_begun : (d e : OpenDialogues) (n generation : ℕ) → IsFresh n d → e ≡ beginning_after d generation → dialogues_of e ≡ (λ _. None)
+none_begun d e n generation fresh is = ap dialogues_of is ∙ same_ones d generation ∙ fresh.none_open
+
+pub ids_begin : (d e : OpenDialogues) (n generation : ℕ) → IsFresh n d → e ≡ beginning_after d generation → e.supply ≡ unused generation
+ids_begin d e n generation fresh is =
+    ap (λ (x : OpenDialogues). x.supply) is ∙ ap (λ (s : Supply). record s { first = generation }) fresh.never_used
 
 dialogue_at : (b : Bool) → None ≡ cond {A = Option Dialogue} b None None
 dialogue_at true = refl

@@ -55,13 +55,13 @@ opening_sound s records are fresh none = begins_sound (state_of s) (λ i. ap (λ
 pub own_part : (S T : State) (n : ℕ) → S ≡ part T n → S ≡ part S n
 own_part S T n e = e ∙ sym (part_alike n T (part T n) (part_agrees n T)) ∙ ap (λ (P : State). part P n) (sym e)
 
-pub opening_is_sound : (s : ShardState) (n : ℕ) (records : RecordMap) (directory : DirectoryMap) (hlr : List ℕ) → n < 16
+pub opening_is_sound : (s : ShardState) (start n : ℕ) (records : RecordMap) (directory : DirectoryMap) (hlr : List ℕ) → n < 16
     → ((all : RecordMap) × (records ≡ part_of all n)) → AreFresh records
-    → IsOpening n records directory hlr s
+    → IsOpening start n records directory hlr s
     → ((all : RecordMap) → records ≡ part_of all n → state_of s ≡ part (opening (records_of all) (directory_of directory) hlr) n)
     → IsSoundShard s
 unfolding state_of
-opening_is_sound s n records directory hlr lt own fresh opens is = record {
+opening_is_sound s start n records directory hlr lt own fresh opens is = record {
   shard = subst (λ k. k < 16) (sym opens.shard_is) lt;
   sound = opening_sound s records opens.records_are fresh opens.none_open;
   own = subst (λ k. state_of s ≡ part (state_of s) k) (sym opens.shard_is)

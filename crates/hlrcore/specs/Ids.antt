@@ -1,7 +1,13 @@
--- Which ids a step frees and takes. So which id is taken is no choice: it is decided by the ids that were taken and freed before.
-use Rattle.std.specs.Prelude.{◌≡◌, ◌≢◌, ◌↔◌, ℕ, List, Option, Some, None, IfSome}
+-- With which ids a shard begins, and which a step frees and takes. So which id is taken is no choice: it is decided by the number of the start and
+-- by the ids that were taken and freed since.
+use Rattle.std.specs.Prelude.{◌≡◌, ◌≢◌, ◌↔◌, ℕ, ◌*◌, ◌%◌, List, Option, Some, None, IfSome}
 use Rattle.tidalloc.specs.LiveIds.{next_id}
 use Rattle.dialogues.specs.Dialogues.{OpenDialogues, dialogues_of, freed, used}
+
+-- The generation after which the ids of a start begin, in each slot (profile). Starts with numbers one after the other begin far from one
+-- another, and 4,095 of them at different generations.
+abbrev pub first_generation : (start : ℕ) → ℕ
+first_generation start = start * 2531 % 4095
 
 -- The dialogue under this id, if any, closes: it is the one that was open and is not open any more.
 abbrev pub Closes : (before after : OpenDialogues) → Option (List ℕ) → Type 0

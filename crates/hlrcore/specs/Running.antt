@@ -1,10 +1,11 @@
 -- Several events of a shard, one after the other.
-use Rattle.std.specs.Prelude.{◌≡◌, List, [], ◌∷◌, ◌++◌, length, map, All}
+use Rattle.std.specs.Prelude.{◌≡◌, List, [], ◌∷◌, ◌++◌, map, All}
 use Rattle.machine.specs.Routing.{route}
 use Rattle.machine.specs.Step.{HasNoRoom}
 use Rattle.frames.specs.Octets.{RawEntry, RawEvent, RunOctets}
 use Rattle.hlrcore.specs.declared.answer.StepAnswer.{StepAnswer}
 use Rattle.hlrcore.specs.Answers.{entry_of}
+use Rattle.hlrcore.specs.Replaying.{Runs}
 use Rattle.hlrcore.specs.Shards.{ShardState, directory_of, state_of}
 use Rattle.hlrcore.specs.declared.fault.StepFault.{StepFault}
 use Rattle.hlrcore.specs.declared.fault.StepFault.TheVariants.{NotMine, NoRoom, Memory}
@@ -20,11 +21,11 @@ entries_of _ _ = []
 abbrev pub IsForShard : ShardState → Event → Type 0
 IsForShard s event = route (directory_of s.directory) (event_of event) ≡ s.shard
 
--- Each event is for this shard and has one answer. With these answers the events, in order, lead from one state to the other by
+-- Each event is for this shard. With these answers the events are handled one after the other and lead from one state to the other, which is
 -- a run of the machine over octets.
 pub record RunsTo (s : ShardState) (events : List Event) (answers : List StepAnswer) (t : ShardState) : Type 0 where
   pub own : All (IsForShard s) events
-  pub count : length answers ≡ length events
+  pub runs : Runs s (map raw_of events) answers t
   pub run : RunOctets (state_of s) (entries_of (map raw_of events) answers) (state_of t)
 
 -- Why an event is not handled: it is for another shard; it is for this one, and the machine has no step for it; or out of memory.

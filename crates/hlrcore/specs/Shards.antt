@@ -7,6 +7,7 @@ use Rattle.records.specs.Maps.{RecordMap, record_map_code, DirectoryMap, directo
 use Rattle.smroute.specs.Seen.{machine_subscriber}
 use Rattle.tidalloc.specs.LiveIds.{unused}
 use Rattle.dialogues.specs.Dialogues.{OpenDialogues, open_dialogues_code, dialogues_of}
+use Rattle.hlrcore.specs.Ids.{first_generation}
 use Rattle.machine.specs.declared.numbers.TheConstants.{SHARDS, MAX_CLOCK}
 use Rattle.machine.specs.State as machine
 
@@ -58,13 +59,13 @@ state_of s = record {
   hlr = s.hlr;
 }
 
--- A shard at the beginning: these records, no open dialogue, and its clock at 0.
-pub record IsOpening (shard : ℕ) (records : RecordMap) (directory : DirectoryMap) (hlr : List ℕ) (s : ShardState) : Type 0 where
+-- A shard at the beginning of the start with this number: these records, no open dialogue, and its clock at 0.
+pub record IsOpening (start shard : ℕ) (records : RecordMap) (directory : DirectoryMap) (hlr : List ℕ) (s : ShardState) : Type 0 where
   pub shard_is : s.shard ≡ shard
   pub clock : s.clock ≡ 0
   pub records_are : s.records ≡ records
   pub none_open : dialogues_of s.dialogues ≡ (λ _. None)
-  pub no_id_used : s.dialogues.supply ≡ unused 0
+  pub no_id_used : s.dialogues.supply ≡ unused (first_generation start)
   pub directory_is : s.directory ≡ directory
   pub hlr_is : s.hlr ≡ hlr
 

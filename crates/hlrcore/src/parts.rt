@@ -8,6 +8,7 @@ ghost use Rattle.machine.specs.Parts.{part};
 ghost use Rattle.records.specs.Maps.{RecordMap, part_of};
 ghost use Rattle.hlrcore.specs.Shards.{IsOpening, state_of, records_of, directory_of};
 
+use crate::start::first_generation;
 use dialogues::Dialogues;
 use hlr_types::IsdnAddress;
 use machine::numbers::MAX_CLOCK;
@@ -46,27 +47,31 @@ impl Model for ShardParts {
 }
 
 impl ShardParts {
-    /// A shard that begins with these records, which are already its part. It has no open dialogue, and its clock is 0.
-    #[tactic(auto, using(crate::proofs::OpeningLemmas::opens_part))]
+    /// A shard that begins with these records, which are already its part, at the start with this number. It has no open dialogue, and its
+    /// clock is 0.
     pub fn of_part(
         alloc: Global,
+        start: u32,
         number: u8,
         records: Records,
         directory: Arc<Directory>,
         hlr: IsdnAddress,
     ) -> Result<ShardParts, AllocError>
         requires { number < 16 }
-        ensures opening { IfOk result (IsOpening number records (arc_value directory) hlr) }
+        ensures opening { IfOk result (IsOpening start number records
+            (arc_value directory) hlr) }
         ensures part { IfOk result (λ shard. (all : RecordMap) → records ≡ part_of all number
             → state_of shard ≡ part (opening (records_of all)
             (directory_of (arc_value directory)) hlr) number) }
     {
+        let mut dialogues = Dialogues::new(alloc, number)?;
+        dialogues.begin_after(first_generation(start));
         Ok(ShardParts {
             alloc,
             number,
             clock: 0,
             records,
-            dialogues: Dialogues::new(alloc, number)?,
+            dialogues,
             directory,
             hlr,
         })

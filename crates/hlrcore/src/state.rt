@@ -50,10 +50,10 @@ impl Model for State {
 }
 
 impl State {
-    /// The shard that begins with its part of a records file: its records, no dialogue, and its clock at 0.
+    /// The shard that begins with its part of a records file: its records, no dialogue, and its clock at 0. It is start 0 of `of_part`.
     pub fn new(alloc: Global, shard: u8, loaded: &Loaded) -> Result<State, AllocError>
         requires { shard < 16 }
-        ensures opening { IfOk result (IsOpening shard
+        ensures opening { IfOk result (IsOpening 0 shard
             (part_of loaded.now.records shard) loaded.now.directory loaded.now.hlr) }
         ensures part { IfOk result (λ state. state_of state
             ≡ part (opening (records_of loaded.now.records)
@@ -61,13 +61,15 @@ impl State {
     {
         let records = loaded.part(shard)?;
         let directory = loaded.shared_directory()?;
-        State::of_part(alloc, shard, records, directory, *loaded.hlr())
+        State::of_part(alloc, 0, shard, records, directory, *loaded.hlr())
     }
 
     /// The same for records that are already the shard's part, as read from a file, with the directory and the HLR number that all
-    /// shards share.
+    /// shards share. The number of the start moves where local ids begin, so that what a peer sends for a dialogue of an earlier start
+    /// names, as a rule, none of this one; starts whose numbers are equal modulo 4,095 begin alike.
     pub fn of_part(
         alloc: Global,
+        start: u32,
         shard: u8,
         records: Records,
         directory: Arc<Directory>,
@@ -76,13 +78,14 @@ impl State {
         requires shard { shard < 16 }
         requires own { (all : RecordMap) × (records ≡ part_of all shard) }
         requires fresh { AreFresh records }
-        ensures opening { IfOk result (IsOpening shard records (arc_value directory) hlr) }
+        ensures opening { IfOk result (IsOpening start shard records
+            (arc_value directory) hlr) }
         ensures part { IfOk result (λ state. (all : RecordMap) → records ≡ part_of all shard
             → state_of state ≡ part (opening (records_of all)
             (directory_of (arc_value directory)) hlr) shard) }
     {
         Ok(State {
-            parts: ShardParts::of_part(alloc, shard, records, directory, hlr)?,
+            parts: ShardParts::of_part(alloc, start, shard, records, directory, hlr)?,
         })
     }
 

@@ -1,6 +1,6 @@
 -- What a call did, put together from what its parts did.
-use Rattle.std.proofs.Common.{◌≡◌, ℕ, refl, sym, subst, inr}
-use Rattle.std.specs.Prelude.{Option, None, Some, option_map, true}
+use Rattle.std.proofs.Common.{◌≡◌, ℕ, refl, sym, subst, ◌∙◌, inr}
+use Rattle.std.specs.Prelude.{IsSomeAnd, Option, None, Some, option_map, true}
 use Rattle.frames.specs.Octets.{RawEvent}
 use Rattle.embed.specs.Registers.{RegisterState, Gives}
 use Rattle.kunchrol.specs.Calls.{Takes}
@@ -35,3 +35,10 @@ refused_as {IsAsked} {raw} asked refused = inr (inr (raw, asked, refused))
 -- What is mapped from none is none.
 pub none_found : {A B : Type 0} (f : A → B) {o : Option A} {b : B} → o ≡ None → option_map f o ≡ Some b → ⊥
 none_found {A} {B} f {o} {b} is found = let none : None ≡ Some b = subst (λ (p : Option A). option_map f p ≡ Some b) is found in cc
+
+-- Nothing is in what is none.
+pub none_there : {A : Type 0} (P : A → Type 0) {o : Option A} → o ≡ None → IsSomeAnd o P → ⊥
+none_there {A} P {o} is some = subst (λ (p : Option A). IsSomeAnd p P) is some
+
+pub not_some : {A : Type 0} {o : Option A} {a : A} → o ≡ None → o ≡ Some a → ⊥
+not_some {A} {o} {a} is some = let none : None ≡ Some a = sym is ∙ some in cc

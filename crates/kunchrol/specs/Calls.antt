@@ -1,5 +1,5 @@
 -- What a call does to what a handle has.
-use Rattle.std.specs.Prelude.{◌≡◌, ◌≤◌, ◌^◌, ℕ, zero, suc, List, drop, length, slice_get, take, Some, None}
+use Rattle.std.specs.Prelude.{◌≡◌, ◌⊎◌, ◌≤◌, ◌^◌, ℕ, zero, suc, List, drop, length, slice_get, take, Some, None}
 use Rattle.frames.specs.Octets.{RawEvent, RawOut}
 use Rattle.hlr_types.specs.DigitTexts.{text_of}
 use Rattle.records.specs.File.{Contents, File}
@@ -7,6 +7,7 @@ use Rattle.audit.specs.Saving.{Saves}
 use Rattle.shardlog.specs.declared.keep.Keep.{Keep}
 use Rattle.shardlog.specs.declared.keep.Keep.TheVariants.{Entries, Nothing}
 use Rattle.embed.specs.Journals.{CutsOff, ListsShard}
+use Rattle.embed.specs.LogLines.{IsClockLine, IsEventLine}
 use Rattle.embed.specs.Lookups.{IsIdle}
 use Rattle.embed.specs.Registers.{RegisterState, Opens, Answers, SetsClocks}
 use Rattle.embed.specs.Rooms.{Writes}
@@ -17,14 +18,14 @@ abbrev pub keep_of : ℕ → Keep
 keep_of zero = Nothing
 keep_of (suc n) = Entries
 
--- The handle was closed, and has the register of the records file that the text is, with journals or without.
-pub record OpensText (text : List ℕ) (keep : Keep) (before after : Held) : Type 0 where
+-- The handle was closed, and has the register of the records file that the text is, at the start with this number, with journals or without.
+pub record OpensText (text : List ℕ) (keep : Keep) (start : ℕ) (before after : Held) : Type 0 where
   pub was_closed : before ≡ None
   pub contents : Contents
   pub file : File text contents
   pub is : RegisterState
   pub after_is : after ≡ Some is
-  pub opens : Opens contents keep is
+  pub opens : Opens contents keep start is
 
 -- The register takes an event of the kind asked for, which does something, by a step of the machine, and exactly the frames that it sends
 -- wait after those that still wait.
@@ -46,6 +47,10 @@ pub record SetsAll (now : ℕ) (before after : Held) : Type 0 where
   pub before_is : before ≡ Some was
   pub after_is : after ≡ Some is
   pub sets : SetsClocks was now is
+
+-- The line of a log has an event, which the register takes, or a clock value, to which the clock of each shard is set.
+abbrev pub GivesLine : List ℕ → (before after : Held) → Type 0
+GivesLine line before after = Takes (IsEventLine line) before after ⊎ ((now : ℕ) × IsClockLine line now × SetsAll now before after)
 
 -- The first frame that waits is written into the rooms, the digits of its destination as text, and waits no more.
 pub record SendsFrame (before : Held) (to : List ℕ) (to_len : ℕ) (octets : List ℕ) (octets_len : ℕ) (after : Held) : Type 0 where

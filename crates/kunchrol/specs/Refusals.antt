@@ -14,6 +14,7 @@ use Rattle.embed.specs.declared.fault.RoomFault.{RoomFault}
 use Rattle.embed.specs.declared.fault.RoomFault.TheVariants as room
 use Rattle.embed.specs.Journals.{ListsShard}
 use Rattle.embed.specs.Keeping.{KeepsNothing}
+use Rattle.embed.specs.LogLines.{IsClockLine, IsEventLine}
 use Rattle.embed.specs.Lookups.{IsIdle}
 use Rattle.embed.specs.Registers.{RegisterState}
 use Rattle.kunchrol.specs.Handles.{Held}
@@ -86,6 +87,14 @@ RefusesKind IsAsked held code =
     IsMemory code
     ⊎ (code ≡ 3) × ((raw : RawEvent) → IsAsked raw → ⊥)
     ⊎ ((raw : RawEvent) × IsAsked raw × Refused raw held code)
+
+-- The line of a log is none (3), or what it has is refused, or memory ran out before it was made.
+abbrev pub RefusesLine : List ℕ → Held → (code : ℕ) → Type 0
+RefusesLine line held code =
+    IsMemory code
+    ⊎ (code ≡ 3) × ((raw : RawEvent) → IsEventLine line raw → ⊥) × ((now : ℕ) → IsClockLine line now → ⊥)
+    ⊎ ((raw : RawEvent) × IsEventLine line raw × Refused raw held code)
+    ⊎ ((now : ℕ) × IsClockLine line now × RefusesClock now held code)
 
 -- A text is not opened: the handle has a register (5), the first line with a fault is a bad line (9) or there twice (10), or memory ran out.
 abbrev pub RefusesText : List ℕ → Held → (line code : ℕ) → Type 0

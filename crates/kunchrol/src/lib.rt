@@ -14,11 +14,14 @@ ghost use Rattle.std.specs.Prelude.{◌≡◌, ◌≢◌, length, true, None, So
 ghost use Rattle.hlrcore.specs.Events.{raw_event};
 ghost use Rattle.embed.specs.Events.{IsFrame, IsExpiry, IsCodesChange, IsWithdrawal};
 ghost use Rattle.embed.specs.Registers.{Gives, SetsClocks};
-ghost use Rattle.kunchrol.specs.Calls.{OpensText, Takes, SetsAll, SendsFrame, SavesRecords, CutsJournal, keep_of};
-ghost use Rattle.kunchrol.specs.Refusals.{Refused, RefusesClock, RefusesClocks, RefusesCut, RefusesEvent, RefusesKind, RefusesNext, RefusesSave, RefusesText};
+ghost use Rattle.kunchrol.specs.Calls.{OpensText, Takes, SetsAll, GivesLine, SendsFrame, SavesRecords, CutsJournal, keep_of};
+ghost use Rattle.kunchrol.specs.Refusals.{Refused, RefusesClock, RefusesClocks, RefusesCut, RefusesEvent, RefusesKind, RefusesLine, RefusesNext, RefusesSave, RefusesText};
 
 use code::{ARGUMENT, CLOSED, MEMORY, NONE, OK, OPEN, code_of_cause, code_of_records, line_of};
-use embed::{Keep, Register, codes_event, expiry_event, frame_event, withdrawal_event};
+use embed::{
+    Keep, LogLine, Register, codes_event, expiry_event, frame_event, read_log_line,
+    withdrawal_event,
+};
 pub use handle::Handle;
 use hlrcore::{RawEvent, ShardNumber};
 pub use lookups::{
@@ -37,17 +40,19 @@ pub extern "C" fn kunchrol_version() -> u32
     0x00_01_00
 }
 
-/// Opens a register on the text of a records file. It keeps journals, or with `journals` 0 none. If a line has a fault its number is put at
-/// `line`, else 0.
+/// Opens a register on the text of a records file. It keeps journals, or with `journals` 0 none. The number of the start moves where local
+/// ids begin (`Register::open`). If a line has a fault its number is put at `line`, else 0.
 #[unsafe(no_mangle)]
 pub extern "C" fn kunchrol_open(
     alloc: Global,
     text: &[u8],
     journals: u8,
+    start: u32,
     handle: &mut Handle,
     line: &mut u64,
 ) -> u32
-    ensures opened { result ≡ 0 → OpensText text.now (keep_of journals) handle.old.value handle.new.value }
+    ensures opened { result ≡ 0 → OpensText text.now (keep_of journals)
+        start handle.old.value handle.new.value }
     ensures why { result ≢ 0 → RefusesText text.now handle.old.value line.new result }
     ensures no_line { result ≢ 9 → result ≢ 10 → line.new ≡ 0 }
     ensures refused { result ≢ 0 → handle.new.value ≡ handle.old.value }
@@ -57,7 +62,7 @@ pub extern "C" fn kunchrol_open(
         handle.put(register);
         return OPEN;
     }
-    match Register::open(alloc, text, keep_of(journals)) {
+    match Register::open(alloc, text, keep_of(journals), start) {
         Ok(register) => match Box::new(alloc, register) {
             Ok(register) => {
                 handle.put(register);
@@ -175,6 +180,21 @@ pub extern "C" fn kunchrol_withdraw(alloc: Global, handle: &mut Handle, imsi: &[
     match withdrawal_event(imsi) {
         Some(event) => give(alloc, handle, event),
         None => ARGUMENT,
+    }
+}
+
+/// Gives the event of a line of a log, without its line feed (`embed::read_log_line`), or sets the clock of each shard to its value.
+#[unsafe(no_mangle)]
+pub extern "C" fn kunchrol_line(alloc: Global, handle: &mut Handle, line: &[u8]) -> u32
+    ensures given { result ≡ 0 → GivesLine line.now handle.old.value handle.new.value }
+    ensures why { result ≢ 0 → RefusesLine line.now handle.old.value result }
+    ensures refused { result ≢ 0 → handle.new.value ≡ handle.old.value }
+{
+    match read_log_line(alloc, line) {
+        Ok(Some(LogLine::Event(event))) => give(alloc, handle, event),
+        Ok(Some(LogLine::Clocks(now))) => kunchrol_clock(alloc, handle, now),
+        Ok(None) => ARGUMENT,
+        Err(_) => MEMORY,
     }
 }
 

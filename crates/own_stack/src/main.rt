@@ -45,7 +45,7 @@ fn send(rt: &impl Print, handled: &Handled) -> Result<()> {
 
 fn run(rt: &(impl Print + AllocGlobal)) -> Result<()> {
     let alloc = rt.alloc();
-    let mut node = Node::new(alloc, read_records(alloc, RECORDS)?, Keep::Nothing)?;
+    let mut node = Node::new(alloc, read_records(alloc, RECORDS)?, Keep::Nothing, 0)?;
     let mut bump = Bump::new(alloc);
     let event = received(alloc, FROM, &FRAME)?;
     match node.run(&mut bump, &[event]) {

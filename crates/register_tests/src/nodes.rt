@@ -38,7 +38,7 @@ HLR2 447700900100
 
 fn node(alloc: Global) -> Result<Node, Fail> {
     let loaded = read_records(alloc, RECORDS)?;
-    Ok(Node::new(alloc, loaded, Keep::Entries)?)
+    Ok(Node::new(alloc, loaded, Keep::Entries, 0)?)
 }
 
 fn frame(alloc: Global, octets: &[u8]) -> Result<RawEvent, Fail> {

@@ -29,7 +29,7 @@ fn shard(alloc: Global, keep: Keep) -> Option<Shard> {
 }
 
 fn node(alloc: Global, keep: Keep) -> Option<Node> {
-    Node::new(alloc, read_records(alloc, RECORDS).ok()?, keep).ok()
+    Node::new(alloc, read_records(alloc, RECORDS).ok()?, keep, 0).ok()
 }
 
 /// What a shard sends for an event, given as its kind is: one that is read, a clock value, or an expiry.

@@ -25,7 +25,7 @@ pub(crate) fn shard(alloc: Global, records: &[u8]) -> Result<ShardParts, &'stati
     let loaded = read_records(alloc, records).ok().ok_or("records")?;
     let part = loaded.part(1).ok().ok_or("part")?;
     let directory = loaded.shared_directory().ok().ok_or("directory")?;
-    let shard = ShardParts::of_part(alloc, 1, part, directory, *loaded.hlr()).ok();
+    let shard = ShardParts::of_part(alloc, 0, 1, part, directory, *loaded.hlr()).ok();
     shard.ok_or("shard")
 }
 

@@ -7,3 +7,4 @@ pub mod CutLemmas
 pub mod NamedLemmas
 pub mod RoomLemmas
 pub mod TickLemmas
+pub mod ReplayLemmas

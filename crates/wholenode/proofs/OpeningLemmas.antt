@@ -23,23 +23,23 @@ use Rattle.wholenode.proofs.Places.{below_or_last, there}
 -- ---- one by one
 
 -- no shard yet
-pub no_shard : (loaded : Subscribers) (keep : Keep) (shards : List Log) → shards ≡ [] → AreOpening loaded keep 0 shards
-no_shard loaded keep shards is = subst (AreOpening loaded keep 0) (sym is) (record { length_is = refl; each = none_at })
+pub no_shard : (loaded : Subscribers) (keep : Keep) (start : ℕ) (shards : List Log) → shards ≡ [] → AreOpening loaded keep start 0 shards
+no_shard loaded keep start shards is = subst (AreOpening loaded keep start 0) (sym is) (record { length_is = refl; each = none_at })
   where
-    none_at : (n : ℕ) (l : Log) → slice_get [] n ≡ Some l → OpensWith loaded keep n l
+    none_at : (n : ℕ) (l : Log) → slice_get [] n ≡ Some l → OpensWith loaded keep start n l
     none_at zero l e = absurd cc
     none_at (suc n) l e = absurd cc
 
 -- one more shard
-pub one_shard_more : (loaded : Subscribers) (keep : Keep) (n : ℕ) (before after : List Log) (l : Log) → AreOpening loaded keep n before
-    → OpensWith loaded keep n l
+pub one_shard_more : (loaded : Subscribers) (keep : Keep) (start : ℕ) (n : ℕ) (before after : List Log) (l : Log) → AreOpening loaded keep start n before
+    → OpensWith loaded keep start n l
     → after ≡ before ++ l ∷ []
-    → AreOpening loaded keep (n + 1) after
-one_shard_more loaded keep n before after l so_far is pushed = subst (AreOpening loaded keep (n + 1)) (sym pushed) (record {
+    → AreOpening loaded keep start (n + 1) after
+one_shard_more loaded keep start n before after l so_far is pushed = subst (AreOpening loaded keep start (n + 1)) (sym pushed) (record {
   length_is = length-append before (l ∷ []) ∙ ap (λ k. k + 1) so_far.length_is;
   each = λ m k e. elim (below_or_last before l k m e) [
     | inl h ↦ so_far.each m k h
-    | inr h ↦ subst (OpensWith loaded keep m) h.1 (subst (λ (p : ℕ). OpensWith loaded keep p l) (sym (h.0 ∙ so_far.length_is)) is)
+    | inr h ↦ subst (OpensWith loaded keep start m) h.1 (subst (λ (p : ℕ). OpensWith loaded keep start p l) (sym (h.0 ∙ so_far.length_is)) is)
   ];
 })
 
@@ -64,19 +64,19 @@ pub part_taken : (all : RecordMap) (taken rest : List RecordMap) (r : RecordMap)
 part_taken all taken rest r parts = subst (AreParts all) (sym (append_assoc taken (r ∷ []) rest)) parts
 
 -- a shard that begins with its part
-pub opens_with : (loaded : Subscribers) (n : ℕ) (records : RecordMap) (directory : DirectoryMap) (hlr : List ℕ) (keep : Keep) (l : Log)
+pub opens_with : (loaded : Subscribers) (n : ℕ) (records : RecordMap) (directory : DirectoryMap) (hlr : List ℕ) (keep : Keep) (start : ℕ) (l : Log)
     → records ≡ part_of loaded.records n
-    → directory ≡ loaded.directory → hlr ≡ loaded.hlr → Opens n records directory hlr keep l → OpensWith loaded keep n l
-opens_with loaded n records directory hlr keep l own shared number is =
-    subst (λ (r : RecordMap). Opens n r loaded.directory loaded.hlr keep l) own
-    (subst (λ (d : DirectoryMap). Opens n records d loaded.hlr keep l) shared
-    (subst (λ (h : List ℕ). Opens n records directory h keep l) number is))
+    → directory ≡ loaded.directory → hlr ≡ loaded.hlr → Opens start n records directory hlr keep l → OpensWith loaded keep start n l
+opens_with loaded n records directory hlr keep start l own shared number is =
+    subst (λ (r : RecordMap). Opens start n r loaded.directory loaded.hlr keep l) own
+    (subst (λ (d : DirectoryMap). Opens start n records d loaded.hlr keep l) shared
+    (subst (λ (h : List ℕ). Opens start n records directory h keep l) number is))
 
 -- ---- all of them
 
-pub open_shards : (loaded : Subscribers) (keep : Keep) (directory : DirectoryMap) (shards : List Log) → directory ≡ loaded.directory
-    → AreOpening loaded keep 16 shards → AreShards directory shards
-open_shards loaded keep directory shards same are = record {
+pub open_shards : (loaded : Subscribers) (keep : Keep) (start : ℕ) (directory : DirectoryMap) (shards : List Log) → directory ≡ loaded.directory
+    → AreOpening loaded keep start 16 shards → AreShards directory shards
+open_shards loaded keep start directory shards same are = record {
   hlr = loaded.hlr;
   count = are.length_is;
   each = λ n l e. let is = are.each n l e in record {
@@ -154,18 +154,18 @@ opening_zero : (loaded : Subscribers) (n : ℕ)
 unfolding opening
 opening_zero loaded n = refl
 
-begins_as_part : (loaded : Subscribers) (keep : Keep) (shards : List Log) → AreOpening loaded keep 16 shards → (n : ℕ) → n < 16
+begins_as_part : (loaded : Subscribers) (keep : Keep) (start : ℕ) (shards : List Log) → AreOpening loaded keep start 16 shards → (n : ℕ) → n < 16
     → states shards n ≡ part (opening (records_of loaded.records) (directory_of loaded.directory) loaded.hlr) n
-begins_as_part loaded keep shards are n lt =
+begins_as_part loaded keep start shards are n lt =
     let found = there shards n (omega (arith, are.length_is, lt)) in
     let is = are.each n found.0 found.1 in
     ap state_at found.1 ∙ ap (λ (k : Log). state_of k.state) is.begins ∙ is.part_is loaded.records refl
 
-pub begins_with : (loaded : Subscribers) (keep : Keep) (directory : DirectoryMap) (shards : List Log) → directory ≡ loaded.directory
-    → AreOpening loaded keep 16 shards
-    → BeginsWith loaded keep (node directory shards)
-begins_with loaded keep directory shards same are = record {
+pub begins_with : (loaded : Subscribers) (keep : Keep) (start : ℕ) (directory : DirectoryMap) (shards : List Log) → directory ≡ loaded.directory
+    → AreOpening loaded keep start 16 shards
+    → BeginsWith loaded keep start (node directory shards)
+begins_with loaded keep start directory shards same are = record {
   directory_is = same;
   shards_are = are;
-  whole_is = union_fresh _ (states shards) (begins_as_part loaded keep shards are) (opening_none loaded) (opening_zero loaded);
+  whole_is = union_fresh _ (states shards) (begins_as_part loaded keep start shards are) (opening_none loaded) (opening_zero loaded);
 }

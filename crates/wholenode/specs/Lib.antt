@@ -6,3 +6,4 @@ pub mod Reading
 pub mod Handling
 pub mod Room
 pub mod Ticking
+pub mod Replaying

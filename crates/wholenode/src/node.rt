@@ -44,13 +44,15 @@ impl Model for Node {
 
 impl Node {
     /// The register of a records file: its records, no open dialogue, each clock at 0, and empty journals, which get an entry of each
-    /// event, or none. On error the loaded value is dropped.
-    pub fn new(alloc: Global, loaded: Loaded, keep: Keep) -> Result<Node, AllocError>
-        ensures begins { IfOk result (BeginsWith loaded keep) }
+    /// event, or none. The number of the start, which is to differ from one start to the next, moves where local ids begin, so that what a
+    /// peer sends for a dialogue of an earlier start names, as a rule, none of this one; starts whose numbers are equal modulo 4,095 begin
+    /// alike. On error the loaded value is dropped.
+    pub fn new(alloc: Global, loaded: Loaded, keep: Keep, start: u32) -> Result<Node, AllocError>
+        ensures begins { IfOk result (BeginsWith loaded keep start) }
         ensures keeps { IfOk result NodeKeeps }
     {
         let directory = loaded.shared_directory()?;
-        let shards = opening_shards(alloc, loaded, keep)?;
+        let shards = opening_shards(alloc, loaded, keep, start)?;
         Ok(Node {
             alloc,
             directory,

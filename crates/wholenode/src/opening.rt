@@ -18,8 +18,9 @@ pub(crate) fn opening_shards(
     alloc: Global,
     loaded: Loaded,
     keep: Keep,
+    start: u32,
 ) -> Result<Vec<Shard>, AllocError>
-    ensures { IfOk result (λ shards. AreOpening loaded keep 16 shards.items) }
+    ensures { IfOk result (λ shards. AreOpening loaded keep start 16 shards.items) }
 {
     let directory = loaded.shared_directory()?;
     let hlr = *loaded.hlr();
@@ -28,7 +29,7 @@ pub(crate) fn opening_shards(
     let mut number = 0;
     for records in parts {
         let directory = Arc::try_clone(&directory)?;
-        shards.push(opening_shard(alloc, number, records, directory, hlr, keep)?)?;
+        shards.push(opening_shard(alloc, start, number, records, directory, hlr, keep)?)?;
         number += 1;
     }
     Ok(shards)
@@ -37,6 +38,7 @@ pub(crate) fn opening_shards(
 /// A shard with these records, no open dialogue and no entry.
 fn opening_shard(
     alloc: Global,
+    start: u32,
     number: u8,
     records: Records,
     directory: Arc<Directory>,
@@ -46,9 +48,9 @@ fn opening_shard(
     requires shard { number < 16 }
     requires own { (all : RecordMap) × (records ≡ part_of all number) }
     requires fresh { AreFresh records }
-    ensures { IfOk result (Opens number records (arc_value directory) hlr keep) }
+    ensures { IfOk result (Opens start number records (arc_value directory) hlr keep) }
 {
-    let state = State::of_part(alloc, number, records, directory, hlr)?;
+    let state = State::of_part(alloc, start, number, records, directory, hlr)?;
     match Shard::new(alloc, state, keep) {
         Ok(shard) => Ok(shard),
         Err(refused) => Err(refused.1),

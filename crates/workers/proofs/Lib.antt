@@ -15,3 +15,4 @@ pub mod MergedRuns
 pub mod Offices
 pub mod Orders
 pub mod Standing
+pub mod Stops

@@ -43,7 +43,7 @@ numbers_of-batch_of jobs (l ∷ lots) stops =
     ap (λ ns. map (λ j. j.number) (jobs_at jobs l) ++ ns) (numbers_of-batch_of jobs lots stops)
     ∙ sym (map-append (λ (j : Job). j.number) (jobs_at jobs l) (jobs_in jobs lots))
 
-stops_in-batch_of : (lots : List Lot) (stops : ℕ) → stops_in (batch_of lots stops) ≡ stops
+pub stops_in-batch_of : (lots : List Lot) (stops : ℕ) → stops_in (batch_of lots stops) ≡ stops
 stops_in-batch_of [] zero = refl
 stops_in-batch_of [] (suc stops) = let rest = stops_in-batch_of [] stops in omega arith
 stops_in-batch_of (l ∷ lots) stops = stops_in-batch_of lots stops

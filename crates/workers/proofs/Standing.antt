@@ -1,8 +1,9 @@
 -- What a shared register has handled, when its journals are cut, when jobs are added, and at the end.
-use Rattle.std.proofs.Common.{◌≡◌, ℕ, List, [], ◌∷◌, ◌++◌, length, map, append_assoc, sym, refl, ap, ap₂, ◌∙◌, subst}
+use Rattle.std.proofs.Common.{◌≡◌, ℕ, ◌+◌, ◌<◌, ◌≤◌, List, [], ◌∷◌, ◌++◌, length, map, take, drop, set, get_or, append_assoc, add-one, arith, sym, refl, ap, ap₂, ◌∙◌, subst}
 use Rattle.std.specs.Prelude.{All, IfOk, Option, Some, None, Result, Ok, Err, option_map, slice_get}
 use Rattle.std.proofs.Math.Path.{fun_ext}
-use Rattle.std.proofs.lemmas.List.{append-nil, length-map, map-append}
+use Rattle.std.proofs.Math.Seq.{drop-cons}
+use Rattle.std.proofs.lemmas.List.{append-nil, drop-set-lt, drop_all, length-map, map-append, take_all, take_more_set}
 use Rattle.std.proofs.lemmas.List.Elements.{All-push}
 use Rattle.std.proofs.lemmas.Option.{get_or_from_slice_get, slice_get-map, slice_get_within}
 use Rattle.machine.specs.Opening.{opening}
@@ -57,7 +58,7 @@ whole_opening loaded s are =
     let at : (n : ℕ) (l : Log) → slice_get are.shards n ≡ Some l → l.base ≡ l.state = λ n l e.
     let begins = (are.opening.each n l e).begins in ap base_of begins ∙ sym (ap state_in begins) in
     ap whole_of are.bases_are ∙ whole_of_bases are.shards ∙ ap union (fun_ext (λ n. same_at (slice_get are.shards n) (at n)))
-    ∙ (begins_with loaded Entries loaded.directory are.shards refl are.opening).whole_is
+    ∙ (begins_with loaded Entries 0 loaded.directory are.shards refl are.opening).whole_is
 
 pub stands_at_first : (loaded : Subscribers) (s : List ShardState) → AreOpeningBases loaded s → AreBases loaded.directory s
     → StandsBehind (opening (records_of loaded.records) (directory_of loaded.directory) loaded.hlr) [] [] (shared_state s [] [])
@@ -232,13 +233,20 @@ part_handled a b c after jobs receipts raws before now room same events pairs se
 )
 
 -- one more shard is cut
-pub cut_more : (done pushed rest left all : List Log) (l m : Log) → done ++ map cut_log left ≡ map cut_log all → left ≡ l ∷ rest → m ≡ cut_log l
-    → pushed ≡ done ++ m ∷ []
-    → pushed ++ map cut_log rest ≡ map cut_log all
-cut_more done pushed rest left all l m so_far first cut is =
-    ap (λ (p : List Log). p ++ map cut_log rest) is ∙ append_assoc done (m ∷ []) (map cut_log rest) ∙ ap (λ (k : Log). done ++ k ∷ map cut_log rest) cut
-    ∙ ap (λ (p : List Log). done ++ map cut_log p) (sym first)
-    ∙ so_far
+module _ (shards : List Log) (i : ℕ) (l m : Log) (low : i < length shards) where
+  pub cut_more : (all : List Log) → m ≡ cut_log (get_or shards i l) → take i shards ++ map cut_log (drop i shards) ≡ map cut_log all
+      → take (i + 1) (set shards i m) ++ map cut_log (drop (i + 1) (set shards i m)) ≡ map cut_log all
+  cut_more all cut so_far =
+      let left : drop i shards ≡ get_or shards i l ∷ drop (i + 1) shards = rw add-one (drop-cons shards i l low) in
+      rw (take_more_set shards i m low, drop-set-lt (i + 1) shards i m (omega arith)) (
+      append_assoc (take i shards) (m ∷ []) (map cut_log (drop (i + 1) shards))
+      ∙ ap (λ (k : Log). take i shards ++ k ∷ map cut_log (drop (i + 1) shards)) cut ∙ ap (λ (p : List Log). take i shards ++ map cut_log p) (sym left)
+      ∙ so_far)
 
-pub keeps_more : (done pushed : List Log) (m : Log) → All LogKeeps done → LogKeeps m → pushed ≡ done ++ m ∷ [] → All LogKeeps pushed
-keeps_more done pushed m so_far keeps is = subst (All LogKeeps) (sym is) (All-push LogKeeps done m so_far keeps)
+  pub keeps_more : All LogKeeps (take i shards) → LogKeeps m → All LogKeeps (take (i + 1) (set shards i m))
+  keeps_more so_far keeps = subst (All LogKeeps) (sym (take_more_set shards i m low)) (All-push LogKeeps (take i shards) m so_far keeps)
+
+-- all are cut
+pub cut_whole : (shards all : List Log) (i : ℕ) → length shards ≤ i → take i shards ++ map cut_log (drop i shards) ≡ map cut_log all → shards ≡ map cut_log all
+cut_whole shards all i past so_far =
+    sym (append-nil shards) ∙ (rw (take_all i shards past, drop_all i shards past) at so_far)

@@ -15,7 +15,7 @@ bases_of shards = map (λ l. l.base) shards
 -- These are the bases of the shards when the records are loaded; entries are kept.
 pub record AreOpeningBases (loaded : Subscribers) (bases : List ShardState) : Type 0 where
   pub shards : List Log
-  pub opening : AreOpening loaded Entries SHARDS shards
+  pub opening : AreOpening loaded Entries 0 SHARDS shards
   pub bases_are : bases ≡ bases_of shards
 
 -- A base of the shard with this number, with this directory and this HLR number.

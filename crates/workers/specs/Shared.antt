@@ -10,7 +10,7 @@ use Rattle.frames.specs.Octets.{RawEntry, RawEvent, RawOut, RunOctets}
 use Rattle.frames.specs.OctetJournals.{MergesOctets}
 use Rattle.records.specs.Maps.{DirectoryMap}
 use Rattle.hlrcore.specs.Shards.{ShardState, shard_state_code, state_of}
-use Rattle.shardlog.specs.Log.{Log, cut_log}
+use Rattle.shardlog.specs.Log.{Log}
 use Rattle.wholenode.specs.Keeping.{AreShards}
 use Rattle.wholenode.specs.Nodes.{journals, nothing, whole, whole_base}
 use Rattle.workers.specs.Jobs.{job_code, receipt_code}

@@ -199,7 +199,8 @@ fn has_stray(shards: &[Shard], receipts: &[Receipt]) -> bool
 /// not allocate.
 ///
 /// Limitation: if jobs and receipts are pairwise in ascending order, as `run_batch` returns them, and account for the journals,
-/// the time is linear in them; otherwise, for example if a receipt is a refusal, it is jobs times receipts.
+/// the time is linear in them; otherwise, for example if a receipt is a refusal, it is jobs times receipts. With more than 1,024
+/// receipts it takes 128 kilobytes of the stack.
 pub fn reconcile(shards: &[Shard], jobs: &[Job], receipts: &[Receipt]) -> Result<(), Unaccounted>
     ensures ok { IsOk result ↔ Reconciles (journal_list shards.now) jobs.now receipts.now }
     ensures err { IfErr result (λ fault. Unaccounts

@@ -1,17 +1,17 @@
 //! A batch of jobs that workers share.
 
-ghost use Rattle.std.specs.Prelude.{◌≡◌, ◌+◌, ◌<◌, ◌≤◌, ◌++◌, ◌∷◌, [], List, map, replicate, true, false, IfOk, IsOkAnd, IsTrue, ◌↔◌};
+ghost use Rattle.std.specs.Prelude.{◌≡◌, ◌+◌, ◌-◌, ◌<◌, ◌≤◌, ◌++◌, ◌∷◌, [], List, map, replicate, true, false, IfOk, IsOkAnd, IsTrue, ◌↔◌};
 ghost use Rattle.std.specs.List.Sorted.{IsPermutation, IsStrictlyIncreasing};
 ghost use Rattle.crossbeam_channel.specs.Claims.{view, IsSeatAt};
 ghost use Rattle.crossbeam_channel.specs.Ends.{sends_on, receives_on};
 ghost use Rattle.workers.specs.declared.rule.Work.TheVariants.{Do, Stop};
 ghost use Rattle.workers.specs.declared.lot.Lot.{Lot};
 ghost use Rattle.workers.specs.Hands.{hand, IsBatch};
-ghost use Rattle.workers.specs.Batch.{jobs_in, HasTaken, HasGathered, AreApart};
+ghost use Rattle.workers.specs.Batch.{jobs_in, stops_in, HasTaken, HasGathered, AreApart};
 
 use crate::gate::Gate;
 use crate::job::Job;
-use crate::lot::{Lot, lot_size, room};
+use crate::lot::{Lot, crew_size, lot_size, room};
 use crate::office::Office;
 use crate::receipt::Receipt;
 use crate::rule::{Hires, Receiver, Seat, Sender, Sends, Totals, Work};
@@ -106,6 +106,9 @@ fn team<'s, E, R: Threads + Wait + Sync, G: Gate + Sync>(
     ensures seat { IsSeatAt (sends_on to.now) result.0 }
     ensures ok { IfOk result.1 (λ r. HasGathered (view seat).shares left jobs.now workers
         (map (λ x. x.job) r.items) (view result.0)) }
+    // On error too: as many `Stop`s were sent as workers had been started before and are joined here; each of these took one.
+    ensures stops { stops_in (view result.0).sent
+        ≡ workers - left + stops_in (view result.0).taken }
 {
     if left == 0 {
         let most = lot_size(jobs.len(), workers);
@@ -184,9 +187,9 @@ pub fn numbers_rise(jobs: &[Job]) -> bool
     true
 }
 
-/// Has 1 to 16 workers, each in its own thread, handle the jobs. There is one receipt for each job, by ascending number. If a
-/// worker could not be started, or there is no memory for the channel or the receipts, it returns an error after all started
-/// workers have stopped: some jobs may then have been handled without a receipt.
+/// Has 1 to 16 workers, each in its own thread, handle the jobs; no more than there are jobs are started, but at least one. There
+/// is one receipt for each job, by ascending number. If a worker could not be started, or there is no memory for the channel or the
+/// receipts, it returns an error after all started workers have stopped: some jobs may then have been handled without a receipt.
 ///
 /// Limitation: no contract says which worker takes a job, in which order the jobs of a batch reach their shard, or that the call
 /// returns. That a receipt has its entry is known only from `reconcile`.
@@ -204,6 +207,7 @@ pub fn run_batch<R: Threads + Wait + Sync, G: Gate + Sync>(
         (map (λ r. r.job) rs.items)) }
     ensures rising { IfOk result (λ rs. IsStrictlyIncreasing (map (λ r. r.job) rs.items)) }
 {
+    let workers = crew_size(jobs.len(), workers);
     let (to, from, seat) = bounded_with(alloc, room(jobs.len(), workers))?;
     let (sender, receiver) = (&to, &from);
     let (mut seat, gathered) = thread::scope(
@@ -217,6 +221,8 @@ pub fn run_batch<R: Threads + Wait + Sync, G: Gate + Sync>(
             ensures seat { IsSeatAt (sends_on sender.entry.now) result.0 }
             ensures ok { IfOk result.1 (λ r. HasGathered 17 workers jobs.entry.now workers
                 (map (λ x. x.job) r.items) (view result.0)) }
+            // On error too: as many `Stop`s were sent as were taken, one by each worker that was joined.
+            ensures stops { stops_in (view result.0).sent ≡ stops_in (view result.0).taken }
         {
             team(
                 scope, rt, alloc, sender, receiver, office, gate, jobs, workers, workers, seat,

@@ -1,18 +1,22 @@
-//! The usual batch: jobs and receipts are pairwise in ascending order. Two passes check it, and one for each shard.
+//! The usual batch: jobs and receipts are pairwise in ascending order. Three passes check it, and one over the marks of the entries.
 
-ghost use Rattle.std.specs.Prelude.{◌≡◌, ◌==◌, ◌<◌, ℕ, false, IsTrue, MatchOption, count_by};
+ghost use Rattle.std.specs.Prelude.{◌≡◌, ◌+◌, ◌<◌, ℕ, IsTrue, cond};
 ghost use Rattle.frames.specs.Account.{Reconciles, names_place};
 ghost use Rattle.workers.specs.Journals.{journal_list};
+ghost use Rattle.workers.specs.Marks.{AreMarked, HasAllMarks, HasNoMarks, mark_at};
 ghost use Rattle.workers.specs.Pairs.{ArePairs, EachNamedOnce, IsPair};
 
 use crate::account::find_entry;
 use crate::batch::numbers_rise;
 use crate::job::Job;
-use crate::marks::{WORDS, is_marked, mark};
+use crate::marks::{MAX_SHARDS, is_marked, mark};
 use crate::receipt::Receipt;
 use crate::same::{same_event, same_outs};
 use machine::numbers::MAX_ENTRIES;
 use shardlog::Shard;
+
+/// How many positions a small table has: so few receipts name no later one, if each names another entry.
+const FEW: usize = 1_024;
 
 /// Whether the receipt is for the job, and its entry has the job's event and the receipt's frames.
 fn is_pair(shards: &[Shard], job: &Job, receipt: &Receipt) -> bool
@@ -48,54 +52,82 @@ fn are_pairs(shards: &[Shard], jobs: &[Job], receipts: &[Receipt]) -> bool
     true
 }
 
-/// The position that a receipt names in a shard.
-fn position_in(receipt: &Receipt, shard: usize) -> Option<usize>
-    ensures { MatchOption result ((k : ℕ) → names_place shard k receipt.now ≡ false)
-        (λ position. (k : ℕ) → names_place shard k receipt.now ≡ (position == k)) }
+/// Marks the place that a receipt names. False if it names none, or one that is marked already or beyond the table.
+fn mark_place(words: &mut [u16], receipt: &Receipt) -> bool
+    ensures { IsTrue result → (shard position : ℕ) → mark_at words.new shard position
+        ≡ mark_at words.old shard position + cond (names_place shard position receipt.now) 1 0 }
 {
     match &receipt.answer {
-        Ok(place) if usize::from(place.shard.number()) == shard => Some(place.position),
-        _ => None,
+        Ok(place) => mark(words, usize::from(place.shard.number()), place.position),
+        Err(_) => false,
     }
 }
 
-/// Whether each of the `count` entries of one shard is named by exactly one receipt.
-fn names_once(count: usize, receipts: &[Receipt], shard: usize) -> bool
-    ensures { IsTrue result → (k : ℕ) → k < count
-        → count_by (names_place shard k) receipts.now ≡ 1 }
+/// Marks the places that receipts name. False unless each receipt names another.
+fn mark_places(words: &mut [u16], receipts: &[Receipt]) -> bool
+    requires { HasNoMarks words.old }
+    ensures { IsTrue result → AreMarked receipts.now words.new }
 {
-    if count > MAX_ENTRIES {
+    for receipt in receipts {
+        if !mark_place(words, receipt) {
+            return false;
+        }
+    }
+    true
+}
+
+/// Whether all `count` entries of one shard are marked.
+fn is_full(words: &[u16], shard: usize, count: usize) -> bool
+    ensures { IsTrue result → (k : ℕ) → k < count → mark_at words.now shard k ≡ 1 }
+{
+    if shard >= MAX_SHARDS || count > words.len() {
         return false;
     }
-    let mut words = [0; WORDS];
-    for receipt in receipts {
-        if let Some(position) = position_in(receipt, shard) {
-            if position >= count {
-                return false;
-            }
-            if is_marked(&words, position) {
-                return false;
-            }
-            mark(&mut words, position);
-        }
-    }
     for position in 0..count {
-        if !is_marked(&words, position) {
+        if !is_marked(words, shard, position) {
             return false;
         }
     }
     true
 }
 
-fn names_each_once(shards: &[Shard], receipts: &[Receipt]) -> bool
-    ensures { IsTrue result → EachNamedOnce (journal_list shards.now) receipts.now }
+/// Whether all entries are marked.
+fn are_full(words: &[u16], shards: &[Shard]) -> bool
+    ensures { IsTrue result → HasAllMarks (journal_list shards.now) words.now }
 {
     for (number, shard) in shards.iter().enumerate() {
-        if !names_once(shard.entries().len(), receipts, number) {
+        if !is_full(words, number, shard.entries().len()) {
             return false;
         }
     }
     true
+}
+
+/// Whether each entry is named by exactly one receipt, found by a table that has no marks yet.
+fn names_each_once(words: &mut [u16], shards: &[Shard], receipts: &[Receipt]) -> bool
+    requires { HasNoMarks words.old }
+    ensures { IsTrue result → EachNamedOnce (journal_list shards.now) receipts.now }
+{
+    mark_places(words, receipts) && are_full(words, shards)
+}
+
+/// Whether each entry is named by exactly one receipt. If the receipts are few, a small table is enough.
+fn are_named_once(shards: &[Shard], receipts: &[Receipt]) -> bool
+    ensures { IsTrue result → EachNamedOnce (journal_list shards.now) receipts.now }
+{
+    if receipts.len() > FEW {
+        return by_full_table(shards, receipts);
+    }
+    names_each_once(&mut [0; FEW], shards, receipts)
+}
+
+/// The same by a table for full journals, which takes 128 kilobytes of the stack: in a function of its own, so that few receipts
+/// do not.
+#[inline(never)]
+fn by_full_table(shards: &[Shard], receipts: &[Receipt]) -> bool
+    ensures { IsTrue result → EachNamedOnce (journal_list shards.now) receipts.now }
+{
+    names_each_once(&mut [0; MAX_ENTRIES], shards, receipts)
 }
 
 /// Whether jobs and receipts are pairwise equal in number, strictly ascending, and account for the journals. If not, they may
@@ -103,5 +135,5 @@ fn names_each_once(shards: &[Shard], receipts: &[Receipt]) -> bool
 pub(crate) fn are_in_order(shards: &[Shard], jobs: &[Job], receipts: &[Receipt]) -> bool
     ensures { IsTrue result → Reconciles (journal_list shards.now) jobs.now receipts.now }
 {
-    numbers_rise(jobs) && are_pairs(shards, jobs, receipts) && names_each_once(shards, receipts)
+    numbers_rise(jobs) && are_pairs(shards, jobs, receipts) && are_named_once(shards, receipts)
 }

@@ -1,6 +1,6 @@
 //! Jobs that are handed over together.
 
-ghost use Rattle.std.specs.Prelude.{◌≡◌, ◌≤◌};
+ghost use Rattle.std.specs.Prelude.{◌≡◌, ◌≤◌, max, min};
 
 use crate::job::Job;
 
@@ -32,6 +32,15 @@ impl Lot {
         let (lot, _) = rest.split_at(self.count.min(rest.len()));
         lot
     }
+}
+
+/// How many of these workers a batch has jobs for, but at least one.
+pub(crate) fn crew_size(jobs: usize, workers: usize) -> usize
+    requires { 1 ≤ workers }
+    ensures size { result ≡ max (min workers jobs) 1 }
+    ensures few { (1 ≤ result) × (result ≤ workers) }
+{
+    workers.min(jobs).max(1)
 }
 
 /// How many jobs a lot of a batch has, if so many workers share the batch.

@@ -87,7 +87,7 @@ impl Office {
         ensures begins { IfOk result (AreOpeningBases loaded) }
         ensures one_register { IfOk result (AreBases loaded.directory) }
     {
-        let node = Node::new(alloc, loaded, Keep::Entries)?;
+        let node = Node::new(alloc, loaded, Keep::Entries, 0)?;
         Office::from_shards(alloc, node.into_shards())
     }
 

@@ -1,6 +1,6 @@
 //! The shards of an office whose journals are accounted for by jobs and receipts.
 
-ghost use Rattle.std.specs.Prelude.{◌≡◌, map, vec_len, All, IfOk, OnOk};
+ghost use Rattle.std.specs.Prelude.{◌≡◌, map, vec_len, All, IfOk};
 ghost use Rattle.shardlog.specs.Log.{LogKeeps, cut_log};
 ghost use Rattle.workers.specs.Shared.{AreSettled};
 
@@ -10,7 +10,6 @@ use crate::office::Office;
 use crate::receipt::Receipt;
 use crate::shared_fault::SharedFault;
 use shardlog::Shard;
-use std::alloc::{AllocError, Global};
 
 /// Takes the shards out of their locks, if jobs and receipts account for their journals. On error the shards are dropped.
 pub(crate) fn settle(
@@ -26,25 +25,20 @@ pub(crate) fn settle(
     Ok(shards)
 }
 
-/// Cuts the journal of a shard, and drops the epoch.
-fn cut_off(shard: &mut Shard) -> Result<(), AllocError>
-    ensures cut { OnOk result (shard.new ≡ cut_log shard.old) }
+/// Cuts the journal of a shard, and drops it. The next one has the room of this one.
+fn cut_off(shard: &mut Shard)
+    ensures cut { shard.new ≡ cut_log shard.old }
     ensures keeps { LogKeeps shard.new }
 {
-    let _epoch = shard.cut()?;
-    Ok(())
+    shard.drop_journal();
 }
 
-/// Cuts the journal of each shard, and drops the epochs.
-pub(crate) fn cut_all(alloc: Global, shards: Vec<Shard>) -> Result<Vec<Shard>, AllocError>
-    ensures cut { IfOk result (λ cut. cut.items ≡ map cut_log shards.items) }
-    ensures count { IfOk result (λ cut. vec_len cut ≡ vec_len shards) }
-    ensures keeps { IfOk result (λ cut. All LogKeeps cut.items) }
+/// Cuts the journal of each shard, and drops it.
+pub(crate) fn cut_all(shards: &mut [Shard])
+    ensures cut { shards.new ≡ map cut_log shards.old }
+    ensures keeps { All LogKeeps shards.new }
 {
-    let mut cut = Vec::with_capacity(alloc, shards.len())?;
-    for mut shard in shards {
-        cut_off(&mut shard)?;
-        cut.push(shard)?;
+    for shard in shards.iter_mut() {
+        cut_off(shard);
     }
-    Ok(cut)
 }

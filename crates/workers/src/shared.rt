@@ -14,9 +14,11 @@ use records::Loaded;
 use shardlog::Shard;
 use std::alloc::{AllocError, Global};
 use std::marker::Model;
-use std::mem;
 use std::sync::Wait;
 use std::thread::Threads;
+
+/// For how many jobs and receipts there is room at first.
+const FIRST_ROOM: usize = 8_192;
 
 /// A register that worker threads share: sixteen locked shards, and the jobs and receipts since their journals were last cut.
 /// Contracts see the bases of the shards, the jobs and the receipts.
@@ -63,8 +65,8 @@ impl SharedRegister {
         Ok(SharedRegister {
             alloc,
             office: Some(office),
-            jobs: Vec::new(alloc),
-            receipts: Vec::new(alloc),
+            jobs: Vec::with_capacity(alloc, FIRST_ROOM)?,
+            receipts: Vec::with_capacity(alloc, FIRST_ROOM)?,
             next: 1,
             longest: 0,
         })
@@ -138,11 +140,11 @@ impl SharedRegister {
         let Some(office) = self.office.take() else {
             return Err(SharedFault::Unaccounted(0));
         };
-        let jobs = mem::replace(&mut self.jobs, Vec::new(self.alloc));
-        let receipts = mem::replace(&mut self.receipts, Vec::new(self.alloc));
-        let shards = settle(office, &jobs, &receipts)?;
-        let cut = cut_all(self.alloc, shards)?;
-        self.office = Some(Office::from_shards(self.alloc, cut)?);
+        let mut shards = settle(office, &self.jobs, &self.receipts)?;
+        cut_all(&mut shards);
+        self.office = Some(Office::from_shards(self.alloc, shards)?);
+        self.jobs.clear();
+        self.receipts.clear();
         self.longest = 0;
         Ok(())
     }

@@ -15,7 +15,7 @@ returns-in-Ok-new-clause-opened c = λ is.
       file = found.1;
       is = c.in-Ok.register;
       after_is = after;
-      opens = subst (λ (k : Keep). Opens found.0 k c.in-Ok.register) c.keep_of.ensures found.2;
+      opens = subst (λ (k : Keep). Opens found.0 k c.args.start c.in-Ok.register) c.keep_of.ensures found.2;
     }
 
 pub returns-in-Some-clause-why : goal.returns-in-Some-clause-why

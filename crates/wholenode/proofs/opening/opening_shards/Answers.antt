@@ -14,7 +14,7 @@ loop-records-init c =
       tt,
       tt,
       refl,
-      no_shard c.args.loaded c.args.keep c.in_ok-shards.shards.items c.in_ok-shards.ensures.items,
+      no_shard c.args.loaded c.args.keep c.args.start c.in_ok-shards.shards.items c.in_ok-shards.ensures.items,
       subst (AreParts c.args.loaded.records)
           (sym same) c.in_ok-parts.ensures.parts,
     )
@@ -46,8 +46,8 @@ loop-records-preserved c =
       tt,
       tt,
       ap (λ n. n + 1) at.2 ∙ sym (length_push c.loop-records.yielded c.in-Some.records),
-      one_shard_more c.args.loaded c.args.keep c.loop-records.number _ _ c.in_ok-opening_shard.field-0 at.3
-          (opens_with c.args.loaded c.loop-records.number c.in-Some.records _ _ c.args.keep c.in_ok-opening_shard.field-0 own shared number
+      one_shard_more c.args.loaded c.args.keep c.args.start c.loop-records.number _ _ c.in_ok-opening_shard.field-0 at.3
+          (opens_with c.args.loaded c.loop-records.number c.in-Some.records _ _ c.args.keep c.args.start c.in_ok-opening_shard.field-0 own shared number
           c.in_ok-opening_shard.ensures) c.in_ok-push.ensures.items,
       part_taken c.args.loaded.records c.loop-records.yielded c.next.new.self.rest.items c.in-Some.records parts,
     )
@@ -64,4 +64,4 @@ returns c =
           c.loop-records.records-iterator.rest.items,
       none_left,
     ) in
-    subst (λ n. AreOpening c.args.loaded c.args.keep n c.loop-records.shards.items) all at.3
+    subst (λ n. AreOpening c.args.loaded c.args.keep c.args.start n c.loop-records.shards.items) all at.3

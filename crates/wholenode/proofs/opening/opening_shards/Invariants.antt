@@ -8,5 +8,5 @@ invariant-loop-records l =
     (goal.iterator-loop-records).can_next l.records-iterator
     × (goal.iterator-loop-records).is_finite l.records-iterator
     × (l.number ≡ length l.yielded)
-    × AreOpening l.fn.loaded l.fn.keep l.number l.shards.items
+    × AreOpening l.fn.loaded l.fn.keep l.fn.start l.number l.shards.items
     × AreParts l.fn.loaded.records (l.yielded ++ l.records-iterator.rest.items)

@@ -13,18 +13,18 @@ bounded_with-requires-clause-rule g c = begins
 
 pub learn_as-requires-clause-rule : goal.learn_as-requires-clause-rule
 learn_as-requires-clause-rule g c =
-    let h = MatchResult-at_ok _ _ _ c.in_ok-receipts.was c.scoped-seat.ensures.1.1 in learns _ _ (ap (λ v. v.sends) h.sent) (ap (λ v. v.shares) h.sent)
+    let h = MatchResult-at_ok _ _ _ c.in_ok-receipts.was c.scoped-seat.ensures.1.1.0 in learns _ _ (ap (λ v. v.sends) h.sent) (ap (λ v. v.shares) h.sent)
 
 pub returns-clause-one_each : goal.returns-clause-one_each
 returns-clause-one_each g c =
-    let h = MatchResult-at_ok _ _ _ c.in_ok-receipts.was c.scoped-seat.ensures.1.1 in
+    let h = MatchResult-at_ok _ _ _ c.in_ok-receipts.was c.scoped-seat.ensures.1.1.0 in
     let same = c.learn_as.ensures.channel.2 in
     let settled = settles _ _ _ _ _ _ (omega arith) h c.learn_as.ensures.rule.1 in
     IsPermutation-trans _ _ _ settled (IsPermutation-map (λ r. r.job) _ _ c.sort_by_key.ensures.permutation)
 
 pub returns-clause-rising : goal.returns-clause-rising
 returns-clause-rising g c =
-    let h = MatchResult-at_ok _ _ _ c.in_ok-receipts.was c.scoped-seat.ensures.1.1 in
+    let h = MatchResult-at_ok _ _ _ c.in_ok-receipts.was c.scoped-seat.ensures.1.1.0 in
     let settled = settles _ _ _ _ _ _ (omega arith) h c.learn_as.ensures.rule.1 in
     let moved = IsPermutation-trans _ _ _ settled (IsPermutation-map (λ r. r.job) _ _ c.sort_by_key.ensures.permutation) in
     let sorted : IsNonDecreasingBy (λ (r : Receipt). r.job) c.sort_by_key.new.self.items =

@@ -1,19 +1,16 @@
-use Rattle.std.proofs.Common.{◌≡◌, ◌++◌, ◌∷◌, [], rules}
-use Rattle.std.specs.Vec.Iter.{into_iter_items}
-use Rattle.shardlog.specs.Log.{cut_log}
-use Rattle.workers.proofs.Standing.{cut_more, keeps_more}
+use Rattle.std.proofs.Common.{arith, ◌<◌, length}
+use Rattle.workers.proofs.Standing.{cut_more, cut_whole, keeps_more}
 use Rattle.workers.proofs.settle.cut_all.Goals as goal
 
 pub loop-shard-preserved : goal.loop-shard-preserved
 loop-shard-preserved c =
     let at = c.loop-shard.invariant in
-    let left : into_iter_items c.loop-shard.shard-iterator ≡ c.in-Some.shard ∷ into_iter_items c.next.new.self = search rules in
-    let cut : c.cut_off.new.shard ≡ cut_log c.in-Some.shard = search rules in
-    let pushed : c.push.new.self.items ≡ c.loop-shard.cut.items ++ c.cut_off.new.shard ∷ [] = search rules in
+    let within : c.loop-shard.shard-index < length c.loop-shard.shards = omega arith in
+    let now = c.cut_off.new.shard in
     record {
-      count = search rules;
-      cut = cut_more c.loop-shard.cut.items c.push.new.self.items (into_iter_items c.next.new.self)
-          (into_iter_items c.loop-shard.shard-iterator) c.args.shards.items c.in-Some.shard
-          c.cut_off.new.shard at.cut left cut pushed;
-      keeps = keeps_more c.loop-shard.cut.items c.push.new.self.items c.cut_off.new.shard at.keeps c.cut_off.ensures.keeps pushed;
+      cut = cut_more c.loop-shard.shards c.loop-shard.shard-index c.shard-item.result now within c.args.shards.now c.cut_off.ensures.cut at.cut;
+      keeps = keeps_more c.loop-shard.shards c.loop-shard.shard-index c.shard-item.result now within at.keeps c.cut_off.ensures.keeps;
     }
+
+pub returns-clause-cut : goal.returns-clause-cut
+returns-clause-cut c = cut_whole _ _ c.loop-shard.shard-index (omega arith) c.loop-shard.invariant.cut

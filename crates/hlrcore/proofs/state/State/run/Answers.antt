@@ -24,7 +24,7 @@ loop-event-preserved c =
           subst (λ (d : List StepAnswer). RunsTo c.args.self.now (take (c.loop-event.event-index + 1) c.args.events.now) d c.step.new.self) (sym put)
           (lemma.one_more c.args.self.now c.loop-event.self c.step.new.self c.args.events.now c.loop-event.event-index c.event-item.result
           c.loop-event.done.items c.in-Ok.answer c.step.result lt is c.loop-event.invariant.same c.loop-event.invariant.so_far
-          c.in-Ok.ensures.stepped c.step.ensures.not_mine ok);
+          c.in-Ok.ensures.stepped c.in-Ok.ensures.ids c.step.ensures.not_mine ok);
       same =
           lemma.same_shard_after c.args.self.now c.loop-event.self c.step.new.self c.loop-event.invariant.same c.step.ensures.same_shard;
     }

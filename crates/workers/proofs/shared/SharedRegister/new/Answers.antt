@@ -8,8 +8,8 @@ use Rattle.workers.proofs.shared.SharedRegister.new.Goals as goal
 
 pub returns : goal.returns
 returns c =
-    let no_jobs : c.new-2.result.items ≡ [] = search rules in
-    let no_receipts : c.new-3.result.items ≡ [] = search rules in
+    let no_jobs : c.in_ok-with_capacity.field-0.items ≡ [] = search rules in
+    let no_receipts : c.in_ok-with_capacity-2.field-0.items ≡ [] = search rules in
     record {
       begins = subst (λ (p : List Job × List Receipt). StandsBehind
           (opening (records_of c.args.loaded.records) (directory_of c.args.loaded.directory) c.args.loaded.hlr) [] []

@@ -3,7 +3,7 @@ use Rattle.std.proofs.lemmas.Bool.{false≢true}
 use Rattle.machine.specs.declared.numbers.TheConstants.{MAX_CLOCK}
 use Rattle.hlr_input.specs.Reading.{is_plain}
 use Rattle.hlr_input.proofs.TickLaws.{ticks_plain, ticks_utf8, ticks_parsed, ticks_found}
-use Rattle.hlr_input.proofs.ticks.ticks.Goals as goal
+use Rattle.hlr_input.proofs.ticks.read_ticks.Goals as goal
 
 pub returns-then-not-is_plain-clause-only : goal.returns-then-not-is_plain-clause-only
 returns-then-not-is_plain-clause-only c = λ n is.

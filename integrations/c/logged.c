@@ -1,0 +1,189 @@
+/*
+ * A register that loses nothing by a crash: logged LOG EVENTS [LIFE WHERE]. Each event is a line. It is written to the log, and then given; what it
+ * sends would go out after that. A log that is there is replayed first: its whole lines are given again. (A machine that loses power
+ * needs an fdatasync before anything goes out. Here a process dies, and the file stays.)
+ *
+ * What comes next follows from the number of the event and from what the register has sent, as with peers. So a run that dies and is started
+ * again, however often, has to end with what one run ends with: the program prints the records and the open dialogues. With LIFE it is
+ * killed in the event after that many: WHERE 0, when half of its line is written; 1, before it is given; 2, after that.
+ */
+#include "../../include/kunchrol.h"
+#include "frames.h"
+
+enum { MAX_LOG = 8388608, MAX_LINE = 1024, MAX_TEXT = 1048576, MADE = 0x42, OWN = 0600, KILL = 9, IDS = 8 };
+
+static struct kunchrol hlr = KUNCHROL_CLOSED_HANDLE;
+static uint8_t ids[IDS][4];
+static size_t last_id;
+static uint64_t drawn;
+static char log_text[MAX_LOG], line[MAX_LINE];
+static uint8_t text[MAX_TEXT];
+
+static void sow(uint64_t number)
+{
+	drawn = (number + 1) * 0x9E3779B97F4A7C15u;
+}
+
+static size_t draw(size_t below)
+{
+	drawn ^= drawn << 13;
+	drawn ^= drawn >> 7;
+	drawn ^= drawn << 17;
+	return (size_t)(drawn % below);
+}
+
+static size_t put_word(size_t at, const char *word)
+{
+	memcpy(line + at, word, strlen(word));
+	return at + strlen(word);
+}
+
+static size_t put_number(size_t at, uint64_t number)
+{
+	if (number > 9)
+		at = put_number(at, number / 10);
+	line[at] = (char)('0' + number % 10);
+	return at + 1;
+}
+
+static size_t put_frame(const uint8_t *frame, size_t len)
+{
+	static const char digits[] = "0123456789ABCDEF";
+	size_t at = put_word(put_word(put_word(0, "F "), ASKING), " ");
+
+	for (size_t octet = 0; octet < len; octet++) {
+		line[at++] = digits[frame[octet] / 16];
+		line[at++] = digits[frame[octet] % 16];
+	}
+	return at;
+}
+
+/* an update of one of two subscribers, at one of ten registers; the peer's id tells it from others */
+static size_t put_update(uint64_t number)
+{
+	uint8_t frame[sizeof(UPDATE)];
+
+	memcpy(frame, UPDATE, sizeof(frame));
+	frame[6] = (uint8_t)(number >> 8);
+	frame[7] = (uint8_t)number;
+	frame[61] = draw(2) ? 0xF1 : 0xF2;
+	frame[79] = (uint8_t)(draw(10) * 16 + 1);
+	return put_frame(frame, sizeof(frame));
+}
+
+/* an End with a result, or only an End, in a dialogue that the register has opened */
+static size_t put_end(void)
+{
+	const uint8_t *id = ids[draw(IDS)];
+	const uint8_t frame[] = { 0x64, 0x0D, 0x49, 4, id[0], id[1], id[2], id[3], 0x6C, 5, 0xA2, 3, 2, 1, 1 };
+	const uint8_t alone[] = { 0x64, 0x06, 0x49, 4, id[0], id[1], id[2], id[3] };
+
+	return draw(4) ? put_frame(frame, sizeof(frame)) : put_frame(alone, sizeof(alone));
+}
+
+/* the line of the event with this number, without its line feed */
+static size_t make_line(uint64_t number)
+{
+	sow(number);
+	switch (draw(8)) {
+	case 0:
+		return put_frame(ROUTE, sizeof(ROUTE));
+	case 1:
+		return put_number(put_word(0, "C "), number / 8);
+	case 2:
+		return put_number(put_word(0, "E "), 1 + draw(2));
+	case 3:
+		return put_word(put_word(0, "O 23415000000000"), draw(2) ? "1 11,21" : "2 -");
+	case 4:
+	case 5:
+		return put_end();
+	default:
+		return put_update(number);
+	}
+}
+
+/* Gives a line, and takes what it sends: the ids of dialogues that begin or go on are noted. */
+static uint32_t give(const char *words, size_t len)
+{
+	uint8_t to[KUNCHROL_MAX_DIGITS], octets[KUNCHROL_MAX_OCTETS];
+	size_t to_len, count;
+	uint32_t code = kunchrol_line(&hlr, (const uint8_t *)words, len);
+
+	if (code && code != KUNCHROL_NONE)
+		return code;
+	while (!(code = kunchrol_next(&hlr, to, sizeof(to), &to_len, octets, sizeof(octets), &count))) {
+		size_t at = octets[1] == 0x81 ? 5 : 4;
+
+		if (octets[0] == 0x62 || octets[0] == 0x65)
+			memcpy(ids[last_id++ % IDS], octets + at, sizeof(ids[0]));
+	}
+	return code == KUNCHROL_NONE ? KUNCHROL_OK : code;
+}
+
+/* Gives the whole lines of the log again, and cuts off one that is not whole. */
+static uint32_t replay(int file, uint64_t *events)
+{
+	size_t len = 0, at = 0;
+	uint32_t code = KUNCHROL_OK;
+	long count;
+
+	while ((count = read(file, log_text + len, MAX_LOG - len)) > 0)
+		len += (size_t)count;
+	for (size_t end = 0; end < len && !code; end++)
+		if (log_text[end] == '\n') {
+			code = give(log_text + at, end - at);
+			at = end + 1;
+			++*events;
+		}
+	return ftruncate(file, (long)at) || lseek(file, (long)at, 0) < 0 ? KUNCHROL_MEMORY : code;
+}
+
+/* Writes the line of an event, and gives it. */
+static uint32_t go_on(int file, uint64_t number, int dies)
+{
+	size_t len = make_line(number);
+	uint32_t code;
+
+	line[len] = '\n';
+	if (write(file, line, dies == 0 ? len / 2 : len + 1) < 0)
+		return KUNCHROL_MEMORY;
+	if (dies == 0 || dies == 1)
+		raise(KILL);
+	code = give(line, len);
+	if (dies == 2)
+		raise(KILL);
+	return code;
+}
+
+static uint32_t print_all(void)
+{
+	size_t len;
+	uint32_t code = kunchrol_save(&hlr, text, sizeof(text), &len);
+
+	if (!code)
+		printf("%.*s", (int)len, (const char *)text);
+	for (uint8_t shard = 0; shard < KUNCHROL_SHARDS && !code; shard++)
+		if (!(code = kunchrol_dialogues(&hlr, shard, text, sizeof(text), &len)))
+			printf("%.*s", (int)len, (const char *)text);
+	return code;
+}
+
+int main(int argc, char **argv)
+{
+	uint64_t done = 0, ends = argc > 2 ? strtoull(argv[2], NULL, 10) : 0, dies = ends, fault = 0;
+	int where = argc == 5 ? argv[4][0] - '0' : -1, file = ends ? open(argv[1], MADE, OWN) : -1;
+	uint32_t code;
+
+	if (file < 0 || kunchrol_open((const uint8_t *)RECORDS, strlen(RECORDS), 0, 0, &hlr, &fault))
+		return 2;
+	code = replay(file, &done);
+	if (where >= 0)
+		dies = done + strtoull(argv[3], NULL, 10);
+	for (; done < ends && !code; done++)
+		code = go_on(file, done, done == dies ? where : -1);
+	if (!code)
+		code = print_all();
+	printf("%llu events (%s)\n", (unsigned long long)done, kunchrol_name(code));
+	kunchrol_close(&hlr);
+	return code != KUNCHROL_OK;
+}
