@@ -79,11 +79,12 @@ impl Gate for Open {
 }
 
 /// The receipts of a batch that so many workers share, `None` where it has none.
-pub(crate) fn run<R: Threads + Wait + Sync>(
+pub(crate) fn run<R: Threads + Wait + Sync, G: Gate + Sync>(
     rt: &R,
     alloc: Global,
     office: &Office,
     jobs: &[Job],
+    gate: &G,
     workers: usize,
 ) -> Option<Vec<Receipt>> {
     if workers == 0 || workers > 16 {
@@ -92,16 +93,15 @@ pub(crate) fn run<R: Threads + Wait + Sync>(
     if !numbers_rise(jobs) {
         return None;
     }
-    run_batch(rt, alloc, office, jobs, &Open, workers).ok()
+    run_batch(rt, alloc, office, jobs, gate, workers).ok()
 }
 
-/// Batches: how many, with how many jobs and workers each, and whether the jobs of a batch without receipts count as jobs.
+/// Batches: how many, with how many jobs and workers each.
 #[derive(Clone, Copy)]
-pub(crate) struct Batches {
-    pub(crate) count: u64,
-    pub(crate) jobs: u64,
-    pub(crate) workers: usize,
-    pub(crate) all_count: bool,
+struct Batches {
+    count: u64,
+    jobs: u64,
+    workers: usize,
 }
 
 /// The jobs so far, their receipts, and those that ran out of memory.
@@ -146,10 +146,9 @@ fn share<R: Threads + Wait + Sync>(
     given: Batches,
 ) -> Option<()> {
     let jobs = jobs_from(alloc, first, given.jobs)?;
-    match run(rt, alloc, office, &jobs, given.workers) {
+    match run(rt, alloc, office, &jobs, &Open, given.workers) {
         Some(receipts) => add(row, jobs, receipts),
-        None if given.all_count => add_without(row, jobs, first),
-        None => Some(()),
+        None => add_without(row, jobs, first),
     }
 }
 
@@ -193,9 +192,9 @@ fn is_accounted(shards: &[Shard], row: &Row) -> bool {
     row.lost.count <= 1 && row.lost.last == least_unaccounted(shards, row)
 }
 
-/// Whether at most one job ran out of memory in some batches (of a batch without receipts its first, if it counts), and is the least
-/// that is not accounted for. `None` if the test itself ran out of memory.
-pub(crate) fn lose_one_at_most<R: Threads + Wait + Sync>(
+/// Whether at most one job ran out of memory in some batches (of a batch without receipts its first), and is the least that is not accounted
+/// for. `None` if the test itself ran out of memory.
+fn lose_one_at_most<R: Threads + Wait + Sync>(
     rt: &R,
     alloc: Global,
     given: Batches,
@@ -214,7 +213,6 @@ fn one_batch_or_job_at_most(rt: HostRuntime) {
         count: 3,
         jobs: 80,
         workers: 4,
-        all_count: true,
     };
     assert!(rt; is_shown(&rt, lose_one_at_most(&rt, rt.alloc(), given)));
 }

@@ -1,6 +1,6 @@
 //! An update that two workers share with routes, while memory is refused.
 
-use crate::batches::{job, office, run, shards_of};
+use crate::batches::{Open, job, office, run, shards_of};
 use crate::frame_samples::{INSERT, NO_ROUTE, OTHER_ROUTE, RESULT, ROUTED, UPDATED_AND_CANCEL};
 use crate::given::{are_frames, frame, is_shown};
 use crate::samples::{ROUTE, UPDATE};
@@ -47,7 +47,7 @@ fn shared<R: Threads + Wait + Sync>(
     first: u64,
     last: u64,
 ) -> Option<Vec<Receipt>> {
-    run(rt, alloc, office, &jobs(alloc, first, last)?, 2)
+    run(rt, alloc, office, &jobs(alloc, first, last)?, &Open, 2)
 }
 
 /// Whether a job has its entry and sent what it has to, `None` if it was refused.

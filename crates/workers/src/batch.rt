@@ -11,7 +11,7 @@ ghost use Rattle.workers.specs.Batch.{jobs_in, stops_in, HasTaken, HasGathered, 
 
 use crate::gate::Gate;
 use crate::job::Job;
-use crate::lot::{Lot, crew_size, lot_size, room};
+use crate::lot::{Lot, crew_size, lot_size, messages};
 use crate::office::Office;
 use crate::receipt::Receipt;
 use crate::rule::{Hires, Receiver, Seat, Sender, Sends, Totals, Work};
@@ -83,7 +83,38 @@ impl<'a> Promise<Served> for Serving<'a> {
         × HasTaken p.1.now 1 (view r.seat) (map (λ x. x.job) r.receipts.items) r.refused };
 }
 
-/// Starts `left` more workers, sends the jobs and one `Stop` for each of all `workers`, and joins those `left`.
+/// Sends the jobs, and one `Stop` for each of the `workers`, and then serves as one of them.
+fn lead<R: Wait, G: Gate>(
+    rt: &R,
+    alloc: Global,
+    to: &Sender,
+    from: &Receiver,
+    office: &Office,
+    gate: &G,
+    jobs: &[Job],
+    workers: usize,
+    seat: Seat,
+) -> (Seat, Result<Vec<Receipt>, AllocError>)
+    requires ends { receives_on from.now ≡ sends_on to.now }
+    requires seat { IsSeatAt (sends_on to.now) seat }
+    requires new { view seat ≡ hand true (view seat).shares [] [] }
+    requires shares { 1 < (view seat).shares }
+    requires workers { 1 ≤ workers }
+    ensures seat { IsSeatAt (sends_on to.now) result.0 }
+    ensures ok { IfOk result.1 (λ r. HasGathered (view seat).shares 1 jobs.now workers
+        (map (λ x. x.job) r.items) (view result.0)) }
+    ensures stops { stops_in (view result.0).sent
+        ≡ workers - 1 + stops_in (view result.0).taken }
+{
+    let most = lot_size(jobs.len(), workers);
+    let seat = put_jobs(rt, to, seat, jobs, most);
+    let mut seat = put_stops(rt, to, seat, workers);
+    let own = to.another::<Hires>(&mut seat);
+    let served = serve(rt, alloc, from, own, office, jobs, gate);
+    gather(to, seat, Ok(Vec::new(alloc)), served)
+}
+
+/// Starts `left` more workers, each in a thread of its own, leads the batch, and joins those `left`.
 fn team<'s, E, R: Threads + Wait + Sync, G: Gate + Sync>(
     scope: &Scope<'s, E>,
     rt: &'s R,
@@ -100,27 +131,23 @@ fn team<'s, E, R: Threads + Wait + Sync, G: Gate + Sync>(
     requires ends { receives_on from.now ≡ sends_on to.now }
     requires seat { IsSeatAt (sends_on to.now) seat }
     requires new { view seat ≡ hand true (view seat).shares [] [] }
-    requires shares { left < (view seat).shares }
-    requires left { left ≤ workers }
-    requires workers { 1 ≤ workers }
+    requires shares { left + 1 < (view seat).shares }
+    requires left { left < workers }
     ensures seat { IsSeatAt (sends_on to.now) result.0 }
-    ensures ok { IfOk result.1 (λ r. HasGathered (view seat).shares left jobs.now workers
+    ensures ok { IfOk result.1 (λ r. HasGathered (view seat).shares (left + 1) jobs.now workers
         (map (λ x. x.job) r.items) (view result.0)) }
-    // On error too: as many `Stop`s were sent as workers had been started before and are joined here; each of these took one.
+    // On error too: as many `Stop`s were sent as workers had been started before and served or were joined here; each of these took one.
     ensures stops { stops_in (view result.0).sent
-        ≡ workers - left + stops_in (view result.0).taken }
+        ≡ workers - (left + 1) + stops_in (view result.0).taken }
 {
     if left == 0 {
-        let most = lot_size(jobs.len(), workers);
-        let seat = put_jobs(rt, to, seat, jobs, most);
-        let seat = put_stops(rt, to, seat, workers);
-        return (seat, Vec::with_capacity(alloc, jobs.len()));
+        return lead(rt, alloc, to, from, office, gate, jobs, workers, seat);
     }
     let theirs = to.another::<Hires>(&mut seat);
     let Ok(worker) = scope.spawn_with(Serving(from, jobs), move || {
         serve(rt, alloc, from, theirs, office, jobs, gate)
     }) else {
-        let seat = put_stops(rt, to, seat, workers - left);
+        let seat = put_stops(rt, to, seat, workers - left - 1);
         return (seat, Err(AllocError));
     };
     let (seat, others) = team(
@@ -187,9 +214,9 @@ pub fn numbers_rise(jobs: &[Job]) -> bool
     true
 }
 
-/// Has 1 to 16 workers, each in its own thread, handle the jobs; no more than there are jobs are started, but at least one. There
-/// is one receipt for each job, by ascending number. If a worker could not be started, or there is no memory for the channel or the
-/// receipts, it returns an error after all started workers have stopped: some jobs may then have been handled without a receipt.
+/// Has 1 to 16 workers handle the jobs, but no more than there are jobs. One of them is the caller's thread, and a thread is started for
+/// each other. There is one receipt for each job, by ascending number. If a worker could not be started, or there is no memory for the channel
+/// or the receipts, it returns an error after all started workers have stopped: some jobs may then have been handled without a receipt.
 ///
 /// Limitation: no contract says which worker takes a job, in which order the jobs of a batch reach their shard, or that the call
 /// returns. That a receipt has its entry is known only from `reconcile`.
@@ -208,7 +235,7 @@ pub fn run_batch<R: Threads + Wait + Sync, G: Gate + Sync>(
     ensures rising { IfOk result (λ rs. IsStrictlyIncreasing (map (λ r. r.job) rs.items)) }
 {
     let workers = crew_size(jobs.len(), workers);
-    let (to, from, seat) = bounded_with(alloc, room(jobs.len(), workers))?;
+    let (to, from, seat) = bounded_with(alloc, messages(jobs.len(), workers))?;
     let (sender, receiver) = (&to, &from);
     let (mut seat, gathered) = thread::scope(
         thread::scope_env(),
@@ -221,11 +248,21 @@ pub fn run_batch<R: Threads + Wait + Sync, G: Gate + Sync>(
             ensures seat { IsSeatAt (sends_on sender.entry.now) result.0 }
             ensures ok { IfOk result.1 (λ r. HasGathered 17 workers jobs.entry.now workers
                 (map (λ x. x.job) r.items) (view result.0)) }
-            // On error too: as many `Stop`s were sent as were taken, one by each worker that was joined.
+            // On error too: as many `Stop`s were sent as were taken, one by each worker that served.
             ensures stops { stops_in (view result.0).sent ≡ stops_in (view result.0).taken }
         {
             team(
-                scope, rt, alloc, sender, receiver, office, gate, jobs, workers, workers, seat,
+                scope,
+                rt,
+                alloc,
+                sender,
+                receiver,
+                office,
+                gate,
+                jobs,
+                workers,
+                workers - 1,
+                seat,
             )
         },
     );

@@ -1,14 +1,12 @@
 //! Jobs that are handed over together.
 
-ghost use Rattle.std.specs.Prelude.{◌≡◌, ◌≤◌, max, min};
+ghost use Rattle.std.specs.Prelude.{◌≡◌, ◌+◌, ◌*◌, ◌<◌, ◌≤◌, max, min};
+ghost use Rattle.workers.specs.Lots.{lot_size};
 
 use crate::job::Job;
 
 /// The most jobs of a lot: with so many, the way through the channel costs little beside the jobs.
 const MAX_LOT: usize = 64;
-
-/// The most messages that a channel has room for: the lots of 65,536 jobs, and a `Stop` for each of sixteen workers.
-const MAX_ROOM: usize = 1_040;
 
 /// How many lots each worker has at least, if there are jobs enough: so none waits long for another that has the last one.
 const LOTS_EACH: usize = 16;
@@ -46,17 +44,18 @@ pub(crate) fn crew_size(jobs: usize, workers: usize) -> usize
 /// How many jobs a lot of a batch has, if so many workers share the batch.
 pub(crate) fn lot_size(jobs: usize, workers: usize) -> usize
     requires { 1 ≤ workers }
-    ensures { 1 ≤ result }
+    ensures size { result ≡ lot_size jobs workers }
+    ensures some { 1 ≤ result }
 {
     (jobs / workers / LOTS_EACH).clamp(1, MAX_LOT)
 }
 
-/// How many messages the channel of a batch has room for: all of them, up to a limit, so that the thread that sends them seldom
-/// waits, and takes no time from a worker.
-pub(crate) fn room(jobs: usize, workers: usize) -> usize
-    requires { 1 ≤ workers }
-    ensures { 1 ≤ result }
+/// How many messages a batch has at most: its lots, and a `Stop` for each worker. The channel holds them all, since the thread that sends
+/// them takes none before it has sent the last, and may be the only worker.
+pub(crate) fn messages(jobs: usize, workers: usize) -> usize
+    requires workers { (1 ≤ workers) × (workers ≤ 16) }
+    requires few { jobs < 9223372036854775808 }
+    ensures { jobs + workers * lot_size jobs workers ≤ result * lot_size jobs workers }
 {
-    let lots = (jobs / lot_size(jobs, workers)).saturating_add(1);
-    lots.saturating_add(workers).clamp(1, MAX_ROOM)
+    jobs / lot_size(jobs, workers) + 1 + workers
 }
