@@ -12,8 +12,8 @@
  * that it was passed, blocks, starts a thread, reads a clock, opens a file or prints.
  *
  * Each call but kunchrol_close and kunchrol_version returns KUNCHROL_OK, or the reason why it did nothing. In that case the register, its
- * clocks and the frames that wait are unchanged, and so is what the call was to write, but for the lengths after KUNCHROL_SMALL and the line
- * of kunchrol_open. Any call with a register may return KUNCHROL_CLOSED.
+ * clocks and the frames that wait are unchanged, and so is what the call was to write, but for the lengths after KUNCHROL_SMALL, the line
+ * of kunchrol_open, and kunchrol_replay, which leaves the lines done that it did before. Any call with a register may return KUNCHROL_CLOSED.
  *
  * A register that is opened with KUNCHROL_KEEP_JOURNALS keeps a journal of each of its sixteen shards: an entry for each event, with the
  * whole frame that came and the frames that were sent. A journal grows until it has 65,536 entries, whether anybody reads it or not;
@@ -45,7 +45,7 @@ enum {
 	KUNCHROL_OK = 0,
 	KUNCHROL_NONE = 1,     /* no frame waits; no timer is due, or runs; there is no such record */
 	KUNCHROL_SMALL = 2,    /* a buffer is too small; the lengths that are needed are stored */
-	KUNCHROL_ARGUMENT = 3, /* digits, codes, a shard or a clock value are not of their form */
+	KUNCHROL_ARGUMENT = 3, /* digits, codes, a shard, a clock value or a line of a log are not of their form */
 	KUNCHROL_CLOSED = 4,   /* the handle has no register */
 	KUNCHROL_OPEN = 5,     /* kunchrol_open: the handle already has a register */
 	KUNCHROL_JOURNAL = 6,  /* a journal in which an entry is to be made has 65,536: call kunchrol_cut, then repeat the call */
@@ -143,6 +143,21 @@ KUNCHROL_CHECKED uint32_t kunchrol_withdraw(struct kunchrol *hlr, const uint8_t 
  * order to a register that was opened on the same text with the same start, send the same frames, local ids included, and lead to the same state.
  */
 KUNCHROL_CHECKED uint32_t kunchrol_line(struct kunchrol *hlr, const uint8_t *line, size_t line_len);
+
+/*
+ * Replays a log: does what each whole line of this text says, one after the other, as kunchrol_line does. A line whose event does nothing is
+ * done too. The octets of the lines that are done, with their line feeds, are counted at used. What follows the last line feed is a line whose
+ * writing was cut off, and is not read. So a log can be given in pieces that end anywhere: the next one begins at used. What the lines
+ * send waits, and takes memory: take or drop it after each piece.
+ *
+ * If a line is not done, its number in this text, from 1, is stored at line, otherwise 0, and the code says why: KUNCHROL_ARGUMENT if it is no
+ * line of a log, otherwise as the call that it stands for. This is the one call that may change the register and return another code
+ * than KUNCHROL_OK: the lines before that one are done, and the call may be repeated from used on.
+ */
+KUNCHROL_CHECKED uint32_t kunchrol_replay(struct kunchrol *hlr, const uint8_t *text, size_t text_len, size_t *used, uint64_t *line);
+
+/* Drops each frame that waits. Nothing else changes. */
+KUNCHROL_CHECKED uint32_t kunchrol_drop_frames(struct kunchrol *hlr);
 
 /*
  * Takes the next frame to be sent, in the order of sending: the digits of the address that it goes to, as ASCII, and its octets, the user

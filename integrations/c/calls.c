@@ -10,7 +10,7 @@ enum { FILL = 0x5A, MAX_TEXT = 512, MAX_LISTING = 4194304, ENTRIES = 65536 };
 
 static struct kunchrol hlr = KUNCHROL_CLOSED_HANDLE;
 static uint8_t to[KUNCHROL_MAX_DIGITS], octets[KUNCHROL_MAX_OCTETS], text[MAX_TEXT], listing[MAX_LISTING];
-static size_t to_len, len;
+static size_t to_len, len, left_over;
 static int is_made_again, faults;
 
 static const char KNOWN[] = "234150000000001", OTHER[] = "234150000000003", NUMBER[] = "447700900000";
@@ -84,7 +84,8 @@ static void open_register(uint8_t journals, uint32_t start)
 
 static void check_closed(void)
 {
-	uint64_t when = FILL;
+	uint64_t when = FILL, line = FILL;
+	size_t used = FILL;
 
 	fill();
 	ANSWERS(KUNCHROL_CLOSED, kunchrol_frame(&hlr, TEXT(ASKING), ROUTE, sizeof(ROUTE)));
@@ -95,6 +96,9 @@ static void check_closed(void)
 	ANSWERS(KUNCHROL_CLOSED, kunchrol_withdraw(&hlr, TEXT(KNOWN)));
 	ANSWERS(KUNCHROL_CLOSED, kunchrol_line(&hlr, TEXT("C 1")));
 	ANSWERS(KUNCHROL_CLOSED, kunchrol_line(&hlr, TEXT("E 1")));
+	ANSWERS(KUNCHROL_CLOSED, kunchrol_replay(&hlr, TEXT("C 1\n"), &used, &line));
+	HOLDS(used == 0 && line == 0);
+	ANSWERS(KUNCHROL_CLOSED, kunchrol_drop_frames(&hlr));
 	ANSWERS(KUNCHROL_CLOSED, kunchrol_next(&hlr, to, sizeof(to), &to_len, octets, sizeof(octets), &len));
 	ANSWERS(KUNCHROL_CLOSED, kunchrol_record(&hlr, TEXT(KNOWN), text, sizeof(text), &len));
 	ANSWERS(KUNCHROL_CLOSED, kunchrol_record_of_number(&hlr, TEXT(NUMBER), text, sizeof(text), &len));
@@ -337,6 +341,44 @@ static void check_lines(void)
 	kunchrol_close(&hlr);
 }
 
+/* replays a text, also from a line on for which memory was refused, and counts the octets that are left over */
+static uint32_t replay(const char *words, uint64_t *line)
+{
+	const uint8_t *at = (const uint8_t *)words;
+	size_t used;
+	uint32_t code;
+
+	left_over = strlen(words);
+	do {
+		code = kunchrol_replay(&hlr, at, left_over, &used, line);
+		at += used;
+		left_over -= used;
+	} while (code == KUNCHROL_MEMORY && is_made_again);
+	return code;
+}
+
+/* the lines of a text are done up to the first that is none; what follows the last line feed is left over; frames wait, or are dropped */
+static void check_replay(void)
+{
+	uint64_t line = FILL, when = 0;
+
+	open_register(0, 0);
+	HOLDS(replay("E 1\nC 5\nO 234150000000001 -\nX 234150000000003\nC 2", &line) == KUNCHROL_OK && line == 0 && left_over == 3);
+	ANSWERS(KUNCHROL_OK, kunchrol_record(&hlr, TEXT(KNOWN), text, sizeof(text), &len));
+	HOLDS(is_text(text, len, "234150000000001 447700900000 - * 447700900011,447700900001,-,s a"));
+	HOLDS(replay("C 6\nC 7\nE 16\nX 234150000000001\n", &line) == KUNCHROL_ARGUMENT && line == 3 && left_over == 23);
+	HOLDS(replay("\n", &line) == KUNCHROL_ARGUMENT && line == 1 && left_over == 1);
+	HOLDS(replay("", &line) == KUNCHROL_OK && line == 0 && left_over == 0);
+	ANSWERS(KUNCHROL_OK, kunchrol_frame(&hlr, TEXT(ASKING), UPDATE, sizeof(UPDATE)));
+	ANSWERS(KUNCHROL_OK, kunchrol_drop_frames(&hlr));
+	ANSWERS(KUNCHROL_NONE, kunchrol_next(&hlr, to, sizeof(to), &to_len, octets, sizeof(octets), &len));
+	ANSWERS(KUNCHROL_OK, kunchrol_deadline(&hlr, &when));
+	HOLDS(when == 25);
+	ANSWERS(KUNCHROL_OK, kunchrol_frame(&hlr, TEXT(ASKING), ROUTE, sizeof(ROUTE)));
+	ANSWERS(KUNCHROL_OK, kunchrol_next(&hlr, to, sizeof(to), &to_len, octets, sizeof(octets), &len));
+	kunchrol_close(&hlr);
+}
+
 int main(int argc, char **argv)
 {
 	int is_full = 0;
@@ -358,6 +400,7 @@ int main(int argc, char **argv)
 	check_journals();
 	check_starts();
 	check_lines();
+	check_replay();
 	if (is_full)
 		check_full_journal();
 	return faults != 0;

@@ -1,11 +1,11 @@
-/* The few declarations of the C library that these programs need, so that a compiler without its headers builds them. */
+/* The few declarations of the C library that these programs need, so that a compiler without its headers builds them; and the time. */
 #ifndef LIBC_H
 #define LIBC_H
 
 #include <stddef.h>
 #include <stdint.h>
 
-enum { READ_ONLY = 0, MONOTONIC = 1, STANDARD_ERROR = 2 };
+enum { READ_ONLY = 0, MONOTONIC = 1, PROCESSOR = 2, STANDARD_ERROR = 2 };
 
 struct timespec {
 	long tv_sec;
@@ -28,5 +28,13 @@ size_t strlen(const char *text);
 int strcmp(const char *one, const char *other);
 char *strchr(const char *text, int character);
 unsigned long long strtoull(const char *text, char **end, int base);
+
+static inline double seconds(int clock)
+{
+	struct timespec now;
+
+	clock_gettime(clock, &now);
+	return (double)now.tv_sec + (double)now.tv_nsec / 1e9;
+}
 
 #endif

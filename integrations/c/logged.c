@@ -1,16 +1,18 @@
 /*
  * A register that loses nothing by a crash: logged LOG EVENTS [LIFE WHERE]. Each event is a line. It is written to the log, and then given; what it
- * sends would go out after that. A log that is there is replayed first: its whole lines are given again. (A machine that loses power
- * needs an fdatasync before anything goes out. Here a process dies, and the file stays.)
+ * sends would go out after that. A log that is there is replayed first: its whole lines are given again, in pieces that end anywhere. (A machine
+ * that loses power needs an fdatasync before anything goes out. Here a process dies, and the file stays.)
  *
  * What comes next follows from the number of the event and from what the register has sent, as with peers. So a run that dies and is started
  * again, however often, has to end with what one run ends with: the program prints the records and the open dialogues. With LIFE it is
  * killed in the event after that many: WHERE 0, when half of its line is written; 1, before it is given; 2, after that.
+ *
+ * logged LOG prints how many lines of the log a register replays in a second of the processor.
  */
 #include "../../include/kunchrol.h"
 #include "frames.h"
 
-enum { MAX_LOG = 8388608, MAX_LINE = 1024, MAX_TEXT = 1048576, MADE = 0x42, OWN = 0600, KILL = 9, IDS = 8 };
+enum { MAX_LOG = 8388608, MAX_LINE = 1024, MAX_TEXT = 1048576, MADE = 0x42, OWN = 0600, KILL = 9, IDS = 8, PIECE = 1237, LONG_PIECE = 65536, LIVES = 30 };
 
 static struct kunchrol hlr = KUNCHROL_CLOSED_HANDLE;
 static uint8_t ids[IDS][4];
@@ -102,15 +104,13 @@ static size_t make_line(uint64_t number)
 	}
 }
 
-/* Gives a line, and takes what it sends: the ids of dialogues that begin or go on are noted. */
-static uint32_t give(const char *words, size_t len)
+/* Takes what waits: the ids of dialogues that begin or go on are noted. */
+static uint32_t take_all(void)
 {
 	uint8_t to[KUNCHROL_MAX_DIGITS], octets[KUNCHROL_MAX_OCTETS];
 	size_t to_len, count;
-	uint32_t code = kunchrol_line(&hlr, (const uint8_t *)words, len);
+	uint32_t code;
 
-	if (code && code != KUNCHROL_NONE)
-		return code;
 	while (!(code = kunchrol_next(&hlr, to, sizeof(to), &to_len, octets, sizeof(octets), &count))) {
 		size_t at = octets[1] == 0x81 ? 5 : 4;
 
@@ -120,22 +120,60 @@ static uint32_t give(const char *words, size_t len)
 	return code == KUNCHROL_NONE ? KUNCHROL_OK : code;
 }
 
-/* Gives the whole lines of the log again, and cuts off one that is not whole. */
+/* Gives a line, and takes what it sends. */
+static uint32_t give(const char *words, size_t len)
+{
+	uint32_t code = kunchrol_line(&hlr, (const uint8_t *)words, len);
+
+	return code && code != KUNCHROL_NONE ? code : take_all();
+}
+
+/* Gives the whole lines of the log again, piece by piece, and cuts off one that is not whole. */
 static uint32_t replay(int file, uint64_t *events)
 {
-	size_t len = 0, at = 0;
+	size_t len = 0, used = 0, at = 0;
 	uint32_t code = KUNCHROL_OK;
+	uint64_t fault;
 	long count;
 
-	while ((count = read(file, log_text + len, MAX_LOG - len)) > 0)
+	while (!code && (count = read(file, log_text + len, PIECE)) > 0) {
 		len += (size_t)count;
-	for (size_t end = 0; end < len && !code; end++)
-		if (log_text[end] == '\n') {
-			code = give(log_text + at, end - at);
-			at = end + 1;
-			++*events;
-		}
+		code = kunchrol_replay(&hlr, (const uint8_t *)log_text + at, len - at, &used, &fault);
+		for (size_t end = at + used; at < end; at++)
+			*events += log_text[at] == '\n';
+		if (!code)
+			code = take_all();
+	}
 	return ftruncate(file, (long)at) || lseek(file, (long)at, 0) < 0 ? KUNCHROL_MEMORY : code;
+}
+
+/* How many lines a second of the processor registers replay that are opened anew, one after the other. */
+static int time_replay(const char *path)
+{
+	int file = open(path, READ_ONLY);
+	long len = file < 0 ? 0 : read(file, log_text, MAX_LOG);
+	size_t lines = 0, used = 1;
+	uint32_t code = KUNCHROL_OK;
+	uint64_t fault;
+	double spent = 0;
+
+	for (long at = 0; at < len; at++)
+		lines += log_text[at] == '\n';
+	for (int life = 0; life < LIVES && !code; life++) {
+		code = kunchrol_open((const uint8_t *)RECORDS, strlen(RECORDS), 0, 0, &hlr, &fault);
+		spent -= seconds(PROCESSOR);
+		for (long at = 0; at < len && used && !code; at += (long)used) {
+			long left = len - at;
+
+			code = kunchrol_replay(&hlr, (const uint8_t *)log_text + at, (size_t)(left < LONG_PIECE ? left : LONG_PIECE), &used, &fault);
+			if (!code)
+				code = kunchrol_drop_frames(&hlr);
+		}
+		spent += seconds(PROCESSOR);
+		kunchrol_close(&hlr);
+	}
+	printf("%.0f lines of a log a second of the processor (%s)\n", (double)lines * LIVES / spent, kunchrol_name(code));
+	return !lines || code;
 }
 
 /* Writes the line of an event, and gives it. */
@@ -174,6 +212,8 @@ int main(int argc, char **argv)
 	int where = argc == 5 ? argv[4][0] - '0' : -1, file = ends ? open(argv[1], MADE, OWN) : -1;
 	uint32_t code;
 
+	if (argc == 2)
+		return time_replay(argv[1]);
 	if (file < 0 || kunchrol_open((const uint8_t *)RECORDS, strlen(RECORDS), 0, 0, &hlr, &fault))
 		return 2;
 	code = replay(file, &done);

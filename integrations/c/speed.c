@@ -13,14 +13,6 @@ static uint32_t route(void)
 	return code ? code : kunchrol_next(&hlr, to, sizeof(to), &to_len, octets, sizeof(octets), &len);
 }
 
-static double seconds(void)
-{
-	struct timespec now;
-
-	clock_gettime(MONOTONIC, &now);
-	return (double)now.tv_sec + (double)now.tv_nsec / 1e9;
-}
-
 int main(int argc, char **argv)
 {
 	unsigned long long routes = argc == 2 ? strtoull(argv[1], NULL, 10) : 0;
@@ -30,10 +22,10 @@ int main(int argc, char **argv)
 
 	if (!routes || kunchrol_open((const uint8_t *)RECORDS, strlen(RECORDS), 0, 0, &hlr, &line))
 		return 2;
-	begun = seconds();
+	begun = seconds(MONOTONIC);
 	for (unsigned long long done = 0; done < routes && !code; done++)
 		code = route();
-	printf("%.2f microseconds a route (%s)\n", (seconds() - begun) / (double)routes * 1e6, kunchrol_name(code));
+	printf("%.2f microseconds a route (%s)\n", (seconds(MONOTONIC) - begun) / (double)routes * 1e6, kunchrol_name(code));
 	kunchrol_close(&hlr);
 	return code != KUNCHROL_OK;
 }

@@ -44,16 +44,17 @@ class Code(IntEnum):
 
 
 class Fault(Exception):
-    """Why a call did nothing. `line` is that of the records file, from 1, or 0."""
+    """Why a call did nothing. `line` is that of the records file or of the log, from 1, or 0; of a log the octets before it, which are done,
+    are `used`."""
 
-    def __init__(self, code: int, line: int = 0) -> None:
+    def __init__(self, code: int, line: int = 0, used: int = 0) -> None:
         name = Code(code).name if code in iter(Code) else str(code)
         super().__init__(f"{name}, line {line}" if line else name)
-        self.code, self.line = code, line
+        self.code, self.line, self.used = code, line, used
 
 
 class WrongArgument(Fault, ValueError):
-    """Digits, codes, a shard or a clock value are not of their form."""
+    """Digits, codes, a shard, a clock value or a line of a log are not of their form."""
 
 
 class Closed(Fault):
@@ -91,8 +92,8 @@ FAULTS: dict[int, type[Fault]] = {
 }
 
 
-def fault_of(code: int, line: int = 0) -> Fault:
-    return FAULTS.get(code, Fault)(code, line)
+def fault_of(code: int, line: int = 0, used: int = 0) -> Fault:
+    return FAULTS.get(code, Fault)(code, line, used)
 
 
 class Handle(ctypes.Structure):
@@ -115,6 +116,8 @@ CALLS: dict[str, list[type]] = {
     "codes": [HLR, *TEXT, *TEXT],
     "withdraw": [HLR, *TEXT],
     "line": [HLR, *TEXT],
+    "replay": [HLR, *TEXT, LENGTH, POINTER(c_uint64)],
+    "drop_frames": [HLR],
     "next": [HLR, *BUFFER, *BUFFER],
     "record": [HLR, *TEXT, *BUFFER],
     "record_of_number": [HLR, *TEXT, *BUFFER],
@@ -169,6 +172,18 @@ class Register:
     def line(self, line: str) -> bool:
         """Does what a line of a log says. False for an expiry where none is due, and for a change of no record."""
         return self._does("line", *text_of(line))
+
+    def replay(self, text: bytes) -> int:
+        """Does what each whole line of the text of a log says, and returns how many octets these have: the rest belongs before the next piece."""
+        used, line = c_size_t(), c_uint64()
+        code = self._code("replay", bytes(text), len(text), byref(used), byref(line))
+        if code:
+            raise fault_of(code, line.value, used.value)
+        return used.value
+
+    def drop_frames(self) -> None:
+        """Drops the frames that wait."""
+        self._does("drop_frames")
 
     def clock(self, now: int) -> None:
         """Sets the clocks, in ticks."""

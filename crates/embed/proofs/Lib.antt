@@ -1,7 +1,11 @@
+pub mod AlikeLemmas
 pub mod ChangeLemmas
 pub mod ImsiLemmas
 pub mod KeepingLemmas
 pub mod LogLineLemmas
 pub mod LookupLemmas
+pub mod OnceLemmas
 pub mod RegisterLemmas
+pub mod ReplayLemmas
+pub mod TextLemmas
 pub mod WaitingLemmas

@@ -5,5 +5,7 @@ pub mod Keeping
 pub mod LogLines
 pub mod Lookups
 pub mod Registers
+pub mod Replay
+pub mod Replaying
 pub mod Rooms
 pub mod Waiting

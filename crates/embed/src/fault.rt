@@ -1,9 +1,10 @@
-//! Why a text was not written into a caller's room.
+//! Why a text was not written into a caller's room, and why a log was not replayed.
 
 ghost use Rattle.std.specs.Prelude.{◌≡◌};
 
 use std::alloc::AllocError;
 use thiserror::Error;
+use wholenode::Cause;
 
 /// Why a text was not written into a caller's room.
 #[derive(Clone, Copy, Debug, PartialEq, Eq, Drop, Error)]
@@ -24,5 +25,50 @@ impl From<AllocError> for RoomFault {
 
     fn from(_refused: AllocError) -> RoomFault {
         RoomFault::Memory
+    }
+}
+
+/// Why a line of a log was not done.
+#[derive(Clone, Copy, Debug, PartialEq, Eq, Drop, Error)]
+pub enum LineFault {
+    /// It has no event and no clock value.
+    #[error("it is not a line of a log")]
+    NotALine,
+    /// The register refused it, or memory ran out.
+    #[error("{0}")]
+    Refused(Cause),
+}
+
+/// A log that was not replayed to its end: the lines before this one are done.
+#[derive(Clone, Copy, Debug, PartialEq, Eq, Drop, Error)]
+#[error("line {line}: {why}")]
+pub struct ReplayFault {
+    /// The octets of the lines that are done.
+    pub used: usize,
+    /// The number of the line that is not, from 1.
+    pub line: u64,
+    pub why: LineFault,
+}
+
+impl From<AllocError> for LineFault {
+    ghost use Rattle.std.specs.Prelude.{◌≡◌};
+    ghost use Rattle.embed.specs.declared.fault.LineFault.TheVariants.{Refused};
+    ghost use Rattle.wholenode.specs.declared.fault.Cause.TheVariants as cause;
+
+    ghost from_gives = { λ _ fault. fault ≡ Refused cause.Memory };
+
+    fn from(_refused: AllocError) -> LineFault {
+        LineFault::Refused(Cause::Memory)
+    }
+}
+
+impl From<Cause> for LineFault {
+    ghost use Rattle.std.specs.Prelude.{◌≡◌};
+    ghost use Rattle.embed.specs.declared.fault.LineFault.TheVariants.{Refused};
+
+    ghost from_gives = { λ cause fault. fault ≡ Refused cause };
+
+    fn from(cause: Cause) -> LineFault {
+        LineFault::Refused(cause)
     }
 }

@@ -5,6 +5,7 @@
 mod events;
 mod examples;
 mod fault;
+mod laws;
 mod log_line;
 mod lookups;
 mod register;
@@ -14,8 +15,9 @@ mod waiting;
 pub use events::{
     codes_event, expiry_event, frame_event, read_imsi, read_number, withdrawal_event,
 };
-pub use examples::law_log_lines;
-pub use fault::RoomFault;
+pub use examples::{law_log_lines, law_log_texts};
+pub use fault::{LineFault, ReplayFault, RoomFault};
+pub use laws::{logs_are_replayed, replays_agree};
 pub use log_line::{LogLine, read_log_line};
 pub use register::Register;
 pub use room::write_record;

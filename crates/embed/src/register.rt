@@ -1,6 +1,7 @@
 //! A register, with the frames that wait to be sent.
 
-ghost use Rattle.std.specs.Prelude.{◌≡◌, ◌⊎◌, ◌<◌, ℕ, List, Err, IfOk, IfErr, OnOk, OnErr, MatchResult, drop, length, option_copied, option_map, slice_get, string_bytes};
+ghost use Rattle.std.specs.Prelude.{◌≡◌, ◌≢◌, ◌⊎◌, ◌<◌, ℕ, List, [], Err, IfOk, IfErr, OnOk, OnErr, MatchResult, drop, length, option_copied, option_map, slice_get, string_bytes};
+ghost use Rattle.std.specs.List.{AllByRecursion};
 ghost use Rattle.machine.specs.Deadlines.{IsFirst};
 ghost use Rattle.records.specs.File.{Contents, File, IsBadLine, IsTwice};
 ghost use Rattle.hlrcore.specs.Events.{raw_event};
@@ -12,9 +13,11 @@ ghost use Rattle.embed.specs.Keeping.{KeepsNothing};
 ghost use Rattle.embed.specs.Lookups.{IsTimerOf, record_by_number, record_of};
 ghost use Rattle.embed.specs.Registers.{Answers, Gives, Opens, SetsClocks};
 ghost use Rattle.embed.specs.Journals.{CutsOff, ListsOpen, ListsShard};
+ghost use Rattle.embed.specs.Replay.{Does, Fails, IsLogLine, Replays, StopsReplay, octets_of, whole_lines};
 ghost use Rattle.embed.specs.Rooms.{Writes};
 
-use crate::fault::RoomFault;
+use crate::fault::{LineFault, ReplayFault, RoomFault};
+use crate::log_line::{LogLine, read_log_line};
 use crate::lookups::{first_deadline, is_idle, record_by_number, record_of, shard_at};
 use crate::room::{check_room, write_text};
 use crate::waiting::Waiting;
@@ -26,6 +29,7 @@ use records::{Record, RecordsFault, read_records};
 use std::alloc::{AllocError, Global};
 use std::marker::Model;
 use std::slice;
+use texts::cut;
 use wholenode::{Cause, Keep, Node};
 
 /// The sixteen shards with their journals, an arena for one frame at a time, and the frames that wait.
@@ -144,6 +148,58 @@ impl Register {
         self.node.tick_all(now)
     }
 
+    /// Does what the whole lines of a log say, one after the other (`read_log_line`): an event is handled, and a clock value is set. What
+    /// each event sends waits after the frames that wait. Returns the number of octets of these lines. What follows the last line feed is a
+    /// line whose writing was cut off: it is not read. So a log can be given in pieces, each of which begins with what the call before it
+    /// left.
+    ///
+    /// On error the lines before the one that is named are done. That one changes nothing: it is no line of a log, or `handle` or
+    /// `set_clocks` refuses it.
+    pub fn replay(&mut self, text: &[u8]) -> Result<usize, ReplayFault>
+        ensures replays { OnOk result (Replays self.old (whole_lines text.now) self.new) }
+        ensures used { IfOk result (λ used. used ≡ length (octets_of (whole_lines text.now))) }
+        ensures stops { IfErr result
+            (λ fault. StopsReplay self.old (whole_lines text.now) fault self.new) }
+        ensures only { AllByRecursion IsLogLine (whole_lines text.now)
+            → IfErr result (λ fault. fault.why ≢ LineFault.NotALine) }
+    {
+        let octets = text.len();
+        let mut left = text;
+        let mut number = 0;
+        'lines: loop {
+            let (line, rest) = cut(left, b'\n');
+            let Some(rest) = rest else {
+                return Ok(octets - left.len());
+            };
+            number += 1;
+            if let Err(why) = self.replay_line(line) {
+                let used = octets - left.len();
+                let line = number;
+                return Err(ReplayFault { used, line, why });
+            }
+            left = rest;
+        }
+    }
+
+    /// Does what a line of a log says. On error nothing changes.
+    fn replay_line(&mut self, line: &[u8]) -> Result<(), LineFault>
+        ensures does { OnOk result (Does self.old line.now self.new) }
+        ensures fails { IfErr result (Fails self.old line.now) }
+        ensures err { OnErr result (self.new ≡ self.old) }
+    {
+        match read_log_line(self.alloc, line)? {
+            Some(LogLine::Event(raw)) => {
+                let _is_handled = self.handle(raw)?;
+                Ok(())
+            }
+            Some(LogLine::Clocks(now)) => {
+                self.set_clocks(now)?;
+                Ok(())
+            }
+            None => Err(LineFault::NotALine),
+        }
+    }
+
     /// The first deadline of the timers of all shards, whether it is due or not; `None` if no timer runs.
     pub fn first_deadline(&self) -> Option<u64>
         ensures { IsFirst (IsTimerOf self.now.node) result }
@@ -178,6 +234,14 @@ impl Register {
         ensures node { self.new.node ≡ self.old.node }
     {
         self.waiting.drop_front();
+    }
+
+    /// Drops each frame that waits.
+    pub fn drop_waiting(&mut self)
+        ensures none { self.new.waiting ≡ [] }
+        ensures node { self.new.node ≡ self.old.node }
+    {
+        self.waiting.drop_all();
     }
 
     /// Cuts the journal of a shard off, and drops it. The states stay the same. The shard's state is copied, as the base of the next

@@ -59,6 +59,16 @@ impl Waiting {
         self.taken = 0;
     }
 
+    /// Drops each frame that waits. The space for the lists stays.
+    pub(crate) fn drop_all(&mut self)
+        ensures taken { self.new.taken ≡ 0 }
+        ensures lists { self.new.lists.items ≡ [] }
+    {
+        let Waiting { taken, lists } = self;
+        *taken = 0;
+        lists.clear();
+    }
+
     /// Makes room for the frames of one more event. Those that wait stay.
     pub(crate) fn reserve(&mut self) -> Result<(), AllocError>
         ensures taken { self.new.taken ≡ self.old.taken }

@@ -2,3 +2,4 @@ pub mod Calls
 pub mod Handles
 pub mod Lookups
 pub mod Refusals
+pub mod Replay

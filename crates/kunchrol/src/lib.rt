@@ -1,13 +1,14 @@
 //! The register for programs in C. `include/kunchrol.h` says the same in C's words.
 //!
 //! Each function answers a number. 0 says that it did what it is asked for. With each other number nothing has changed in the
-//! register.
+//! register, but for the lines of a log that `kunchrol_replay` has done.
 #![tactic(auto)]
 
 mod code;
 mod handle;
 mod lookups;
 mod next;
+mod replay;
 mod room;
 
 ghost use Rattle.std.specs.Prelude.{◌≡◌, ◌≢◌, length, true, None, Some};
@@ -29,6 +30,7 @@ pub use lookups::{
 };
 use machine::numbers::MAX_CLOCK;
 use next::next_frame;
+pub use replay::{kunchrol_drop_frames, kunchrol_replay};
 use room::{cut_journal, save_records};
 use std::alloc::Global;
 
