@@ -32,7 +32,7 @@ frames [] all = []
 frames (o ∷ os) [] = []
 frames (o ∷ os) (ts ∷ all) = frame_of o ts ∷ frames os all
 
--- The entries list the children so far of an open element, behind its own entry, which is not told yet how many are in it; and
+-- The entries list the children so far of an open element, after its own entry, which is not told yet how many are in it; and
 -- before that those of the elements around it, so. The outermost one has no entry.
 abbrev pub ArePlaced : Open → List Open → List Tree → List (List Tree) → List Entry → Type 0
 ArePlaced o [] ts [] entries = AreListed (trees ts) entries × (o.before ≡ 0)
@@ -56,7 +56,7 @@ placed-length o (q ∷ os) ts (us ∷ all) entries (there, mark, found, is, are,
     let r = placed-length q os us all there p in let l = ap length is ∙ length-append there (mark ∷ found) in
     (omega (arith, r.0), ap suc r.1)
 
--- an element behind all others is the innermost one's
+-- an element after all others is the innermost one's
 placed-grown : (o : Open) (os : List Open) (ts : List Tree) (all : List (List Tree)) (entries front : List Entry) (t : Tree)
     → ArePlaced o os ts all entries → IsListed t front → ArePlaced o os (ts ++ t ∷ []) all (entries ++ front)
 placed-grown o [] ts [] entries front t (are, at) one = (listed-push ts t entries front are one, at)

@@ -1,4 +1,4 @@
--- Entries that list whole elements list just these, and more of them stand behind them.
+-- Entries that list whole elements list just these, and more of them stand after them.
 use Rattle.std.proofs.Common.{◌≡◌, ℕ, List, [], ◌∷◌, ◌++◌, length, drop, set, refl, sym, ◌∙◌, ap, append_assoc, append-nil}
 use Rattle.std.proofs.Math.Seq.{drop-append_seam, take-append_seam, set-append_seam}
 use Rattle.x690.specs.Tree.{Tree, Trees, Primitive, Constructed, Empty, More, trees, list_of}
@@ -28,7 +28,7 @@ mutual
 pub are-listed : (ts : List Tree) (entries : List Entry) → AreListed (trees ts) entries → listed entries ≡ ts
 are-listed ts entries are = all-listed (trees ts) entries are ∙ list_of-trees ts
 
--- one more element behind them
+-- one more element after them
 pub listed-push : (ts : List Tree) (t : Tree) (entries front : List Entry) → AreListed (trees ts) entries → IsListed t front
     → AreListed (trees (ts ++ t ∷ [])) (entries ++ front)
 listed-push [] t entries front are one = (front, [], one, refl, ap (λ es. es ++ front) are ∙ sym (append-nil front))

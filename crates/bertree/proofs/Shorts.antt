@@ -17,7 +17,7 @@ use Rattle.bertree.proofs.Listings.{are-listed, listed-push, marked}
 use Rattle.bertree.proofs.States.{levels_of_all-push}
 use Rattle.bertree.proofs.Trees.{tree-Constructed}
 
--- behind the entries that were there are those of the elements that were read: with what the rest spells, these are what the octets spell
+-- after the entries that were there are those of the elements that were read: with what the rest spells, these are what the octets spell
 pub record HasRead (octets : List ℕ) (most : ℕ) (there entries : List Entry) (rest : List ℕ) : Type 0 where
   pub read : List Tree
   pub found : List Entry
@@ -106,7 +106,7 @@ no-octets : (xs : List ℕ) → length xs ≡ 0 → xs ≡ []
 no-octets [] e = refl
 no-octets (x ∷ xs) e = absurd (omega arith)
 
--- an element leaves room for its entry, and for what it holds and what comes behind it
+-- an element leaves room for its entry, and for what it holds and what comes after it
 pub room-for-one : (len capacity most before : ℕ) (rest : List ℕ) (tag : Tag) (contents after : List ℕ) → HasRoom len capacity most before rest
     → IsElement rest tag contents after
     → (len < capacity) × (len + 1 + length contents / 2 ≤ capacity) × (len + 1 + length contents / 2 + length after / 2 ≤ most)

@@ -1,4 +1,4 @@
--- Entries that list whole elements: what is in an element stands behind it, and its entry has the number of these entries.
+-- Entries that list whole elements: what is in an element stands after it, and its entry has the number of these entries.
 use Rattle.std.specs.Prelude.{◌≡◌, ℕ, ◌≤◌, List, [], ◌∷◌, ◌++◌, length}
 use Rattle.std.specs.Borrow.{Bor}
 use Rattle.x690.specs.Tree.{Tree, Trees, Primitive, Constructed, Empty, More, trees, levels_of_all}
@@ -20,7 +20,7 @@ abbrev mutual
   AreListed (More tree rest) entries =
       (front : List Entry) × (back : List Entry) × IsListed tree front × AreListed rest back × (entries ≡ front ++ back)
 
--- behind the entries that were there are those of the elements that octets spell, of at most so many levels
+-- after the entries that were there are those of the elements that octets spell, of at most so many levels
 pub record Adds (octets : List ℕ) (most : ℕ) (there entries : List Entry) : Type 0 where
   pub spelled : List Tree
   pub found : List Entry

@@ -5,8 +5,8 @@ ghost use Rattle.bertree.specs.Nodes.{tree, elements, listed};
 use crate::node::Node;
 use x690::Tag;
 
-/// An element in a list: a primitive one with its contents, or a constructed one with how many entries behind it are of what is
-/// in it. So the entries of an element stand together, and behind them those of the elements after it.
+/// An element in a list: a primitive one with its contents, or a constructed one with how many entries after it are of what is
+/// in it. So the entries of an element stand together, and after them those of the elements that follow.
 #[derive(Clone, Copy)]
 pub(crate) enum Entry<'a> {
     Primitive(Tag, &'a [u8]),
@@ -15,7 +15,7 @@ pub(crate) enum Entry<'a> {
 
 #[tactic(auto, using(crate::proofs::Trees::list_views))]
 impl<'a> Entry<'a> {
-    /// The element that it begins, if these entries stand behind it, and the elements after that.
+    /// The element that it begins, if these entries stand after it, and the elements after that.
     #[inline(always)]
     fn before(&self, behind: &'a [Entry<'a>]) -> (Node<'a>, Nodes<'a>)
         ensures { listed (self.now ∷ behind.now) ≡ tree result.0 ∷ elements result.1 }

@@ -15,7 +15,7 @@ use bumpalo::collections::into_bump_slice;
 use x690::limits::MAX_LEVELS;
 
 /// Adds the elements that the octets spell, if they are short and have at most so many levels. What is in a constructed element
-/// comes behind it, and is counted then. There is room for all of them from the start, since each takes at least two octets.
+/// comes after it, and is counted then. There is space for all of them from the start, since each takes at least two octets.
 fn read_short_elements<'a>(
     nodes: &mut Vec<Entry<'a>, &'a Bump>,
     octets: &'a [u8],

@@ -33,11 +33,11 @@ fn put<A: Allocator>(tree: &OwnTree, out: &mut Vec<u8, A>) -> Result<(), AllocEr
     }
 }
 
-/// Room for the octets of most messages. They are written there and copied to a list of their size: to measure a tree first takes
+/// A buffer for the octets of most messages. They are written there and copied to a list of their size: to measure a tree first takes
 /// longer.
 const ROOM: usize = 256;
 
-/// The octets of a tree, in a list of their size, with the room to write them from another allocator.
+/// The octets of a tree, in a list of their size, with the buffer to write them in from another allocator.
 fn written<A: Allocator>(alloc: Global, room: A, tree: &OwnTree) -> Result<Vec<u8>, Memory>
     ensures octets { IfOk result (λ octets. octets.items ≡ enc (own tree.now)) }
     ensures spelling { IfOk result (λ octets. length octets.items < 2 ^ 32 → HasTags (own tree.now)

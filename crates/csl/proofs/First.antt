@@ -1,5 +1,5 @@
 -- The first timer is that of an invocation.
-use Rattle.std.proofs.Common.{◌≡◌, ◌≤◌, ℕ, ℤ, List, [], ◌∷◌, Bool, true, false, cond, ◌&&◌, ◌||◌, ◌==◌, Option, Some, None, refl, sym, ap, ◌∙◌, subst, int_eq}
+use Rattle.std.proofs.Common.{◌≡◌, ℕ, ℤ, List, [], ◌∷◌, Bool, true, false, cond, ◌&&◌, ◌||◌, ◌==◌, Option, Some, None, refl, sym, ◌∙◌, subst, int_eq}
 use Rattle.machine.specs.Deadlines.{IsFirst}
 use Rattle.machine.specs.Effect.{AreRising}
 use Rattle.machine.specs.State.{Invocation}

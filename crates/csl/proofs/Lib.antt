@@ -9,3 +9,4 @@ pub mod Invoking
 pub mod Expiry
 pub mod Parameters
 pub mod First
+pub mod Rising

@@ -105,7 +105,7 @@ nat_same x y e = ap (λ n. x == n) (sym e) ∙ sym (unsigned_tied x x) ∙ ap is
 pub nat_is : (x y : ℕ) → (x == y) ≡ true → x ≡ y
 nat_is x y e = nat_cmp-IsAntisymmetric x y ((Equal-is (nat_cmp x y)).0 (unsigned_tied x y ∙ e))
 
--- the hash map behind them
+-- the hash map that they stand in
 
 -- `==` of two keys
 abbrev pub is_key : ℕ → ℕ → Bool

@@ -5,7 +5,7 @@ ghost use Rattle.std.specs.Int.{w8};
 ghost use Rattle.machine.specs.declared.numbers.TheConstants.{REJECT_TIMER};
 ghost use Rattle.machine.specs.State.{is_sent, WaitForReject};
 ghost use Rattle.machine.specs.Outcome.{invoked};
-ghost use Rattle.csl.specs.Seen.{told_of, was};
+ghost use Rattle.csl.specs.Seen.{invocation_of, told_of, was};
 ghost use Rattle.csl.specs.Tables.{is_timed, timer_at};
 
 use crate::was::Was;
@@ -49,6 +49,13 @@ impl Default for Invocation {
 }
 
 impl Invocation {
+    /// An invocation of this invoke id, in this state, whose timer expires at this time.
+    pub(crate) fn new(id: i8, was: Was, deadline: u64) -> Self
+        ensures { result ≡ invocation_of id was deadline }
+    {
+        Invocation { id, was, deadline }
+    }
+
     /// An invocation that is invoked now.
     pub(crate) fn sent(id: i8, now: u64) -> Self
         requires { now ≤ 2 ^ 62 }

@@ -158,7 +158,7 @@ impl Invocations {
         self.first_due(now)
     }
 
-    /// The same where a timer is due. It stands apart, never inlined, since at nearly each look none is.
+    /// The same if a timer is due. It stands apart, never inlined, since at nearly each look none is.
     #[inline(never)]
     fn first_due(&self, now: u64) -> Option<Due>
         ensures due { IfSome result (λ due. IsNext self.now now due.id due.invoke (was due.was)) }

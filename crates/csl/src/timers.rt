@@ -17,7 +17,7 @@ fn has_timer(list: &[Invocation], own: &Invocation) -> bool
     list.iter().any(|other| other.is_timed_as(own))
 }
 
-/// Inserts the timers of these invocations of a dialogue, where they are missing. On error nothing changes.
+/// Inserts the timers of these invocations of a dialogue, if they are missing. On error nothing changes.
 pub(crate) fn insert_timers(
     timers: &mut Timers,
     id: Tid,

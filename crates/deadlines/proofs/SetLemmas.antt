@@ -23,7 +23,7 @@ pub has_remove : (s : TimerSet) (k q : Timer) → has (set.remove s k) q ≡ con
 has_remove s k q = set.contains-remove timer_total s k q ∙ ap (λ b. not b && has s q) ((eq_by_cmp_equiv timer_total).symm q k)
     ∙ neither (is_timer k q) (has s q)
 
--- the tree behind it
+-- the tree that it stands in
 
 pub has_key : (s : sorted.BTreeSet Timer) (q : Timer) → has (set.from_list s.keys) q ≡ sorted.contains timer_cmp s q
 has_key s q = set.contains-from_list timer_total s.keys q

@@ -1,4 +1,4 @@
--- The finite map behind the indexes, after several deadlines are set.
+-- The finite map that the indexes stand for, after several deadlines are set.
 use Rattle.std.proofs.Common.{◌≡◌, ℕ, cond, List, [], ◌∷◌, Some, refl, sym, ap, ◌∙◌}
 use Rattle.std.specs.Prelude.{Result, Ok, Err, OnOk, OnErr}
 use Rattle.std.specs.Cmp.{eq_by_cmp_equiv}

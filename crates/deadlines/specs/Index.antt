@@ -1,4 +1,4 @@
--- The two indexes behind the deadlines.
+-- The two indexes that the deadlines stand in.
 use Rattle.std.specs.Prelude.{◌≡◌, ℕ, Bool, true, false, cond, List, [], ◌∷◌, Option, Some, None, ◌⊎◌}
 use Rattle.std.specs.BTreeMap as tree
 use Rattle.std.specs.FinSet as set

@@ -3,41 +3,59 @@ use Rattle.std.proofs.Common.{◌≡◌, ◌≢◌, ◌+◌, ◌<◌, ◌≤◌,
 use Rattle.std.specs.FinMap as finite
 use Rattle.std.specs.List.{slice_index_or, slice_set}
 use Rattle.std.specs.Option.{option_map, is_some, IsNone}
-use Rattle.std.specs.Result.{OnErr}
+use Rattle.std.specs.Result.{IfOk, OnErr}
 use Rattle.std.proofs.lemmas.List.{length-set, get_or-set_same, get_or-set_other}
 use Rattle.std.proofs.Math.Path.{fun_ext}
 use Rattle.hlr_types.specs.Orders.{octets_cmp}
 use Rattle.hlr_types.specs.Ids.{IsIdOf}
+use Rattle.hlr_types.proofs.OrderLemmas.{octets_total, octets_exact}
 use Rattle.machine.specs.Keys.{put, same}
 use Rattle.machine.specs.State.{Invocation, Transaction, Dialogue}
 use Rattle.machine_laws.proofs.Keys.{same_is, same_not, same_refl}
-use Rattle.tidalloc.specs.LiveIds.{slot_of}
-use Rattle.tsl.specs.Transactions.{OpenTransactions, Begins, HaveOwnSlots, MayBegin, at, closed, next_of, none_open, slot_if_open, count, with_transaction}
+use Rattle.tidalloc.specs.LiveIds.{LiveIds, no_ids, slot_of}
+use Rattle.tsl.specs.Transactions.{OpenTransactions, Begins, HaveOwnSlots, MayBegin, at, closed, next_of, none_with, slot_if_open, count, with_transaction}
 use Rattle.csl.specs.Tables.{InvocationLists, invocations_at, put_list, list_in}
 use Rattle.dialogues.specs.declared.talk.Talk.{Talk}
 use Rattle.dialogues.specs.Dialogues.{OpenDialogues, IsFresh, dialogues_of}
+use Rattle.dialogues.specs.Dialogues as dialogues
 use Rattle.dialogues.specs.Joined.{no_talk, talk_of, dialogue_from, dialogue_at, joined, AreTied}
-use Rattle.dialogues.proofs.JoinLemmas.{dialogues-joined, transaction_open}
+use Rattle.dialogues.proofs.JoinLemmas.{dialogues-joined, get-remade, transaction_open}
 use Rattle.dialogues.proofs.ChangeLemmas.{ChangesAt, some≢none, get-inserted, at-closed, count-closed, count-set, count-opened, invocations-put, changed, tied_changed, same_joined}
 
 -- ---- nothing open yet
-at_none : (shard : ℕ) (q : List ℕ) → at (none_open shard) q ≡ None
-at_none shard q = finite.get-empty octets_cmp q
+at_none : (ids : LiveIds) (q : List ℕ) → at (none_with ids) q ≡ None
+at_none ids q = finite.get-empty octets_cmp q
 
-pub tied_none : (shard : ℕ) → AreTied (none_open shard) finite.empty []
-tied_none shard = record {
-  have_talks = λ q some. absurd (some (at_none shard q));
+pub tied_none : (ids : LiveIds) → AreTied (none_with ids) finite.empty []
+tied_none ids = record {
+  have_talks = λ q some. absurd (some (at_none ids q));
   only_open = λ q none. ap list_in (finite.get-empty octets_cmp q);
-  of_shard = λ q some. absurd (some (at_none shard q));
-  few = let none : finite.len (none_open shard).open_ones ≡ 0 = finite.len-empty octets_cmp Transaction in omega (arith, none);
+  of_shard = λ q some. absurd (some (at_none ids q));
+  few = let none : finite.len (none_with ids).open_ones ≡ 0 = finite.len-empty octets_cmp Transaction in omega (arith, none);
 }
 
-pub fresh_none : (shard : ℕ) → IsFresh shard (joined (none_open shard) finite.empty [])
+pub joined_none : (ids : LiveIds) → joined (none_with ids) finite.empty [] ≡ dialogues.none_with ids
+joined_none ids = λ i. record { shard = ids.shard; supply = ids.supply; open_ones = none i }
+  where
+    none : (joined (none_with ids) finite.empty []).open_ones ≡ finite.empty
+    none = finite.same_map octets_total octets_exact _ _ (λ q.
+        get-remade (dialogue_at finite.empty []) (none_with ids).open_ones q
+        ∙ ap (option_map (dialogue_at finite.empty [] q)) (at_none ids q)
+        ∙ sym (finite.get-empty octets_cmp q))
+
+fresh_none : (shard : ℕ) → IsFresh shard (dialogues.none_with (no_ids shard))
+unfolding dialogues_of
 fresh_none shard = record {
   of_shard = refl;
   never_used = refl;
-  none_open = fun_ext (λ q. dialogues-joined (none_open shard) finite.empty [] q ∙ ap (option_map (dialogue_at finite.empty [] q)) (at_none shard q));
+  none_open = fun_ext (λ q. finite.get-empty octets_cmp q);
 }
+
+pub fresh_if_none : {E : Type 0} (shard : ℕ) (ids : LiveIds) (r : Result OpenDialogues E) → ids ≡ no_ids shard
+    → IfOk r (λ d. d ≡ dialogues.none_with ids) → IfOk r (IsFresh shard)
+fresh_if_none shard ids (Ok d) e is =
+    subst (IsFresh shard) (sym (is ∙ ap (λ (v : LiveIds). dialogues.none_with v) e)) (fresh_none shard)
+fresh_if_none shard ids (Err e) same is = tt
 
 -- ---- one closes
 module _ (id : List ℕ) (t t' : OpenTransactions) (lists lists' : InvocationLists) (talks : List Talk) (closes : t' ≡ closed t id)

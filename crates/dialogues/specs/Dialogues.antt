@@ -5,7 +5,7 @@ use Rattle.std.specs.FinMap as map
 use Rattle.hlr_types.specs.Orders.{octets_cmp}
 use Rattle.machine.specs.Expiries.{without}
 use Rattle.machine.specs.State.{Invocation, Dialogue, IsIdOf}
-use Rattle.tidalloc.specs.LiveIds.{Supply, supply_code, unused, next_id, after_taking, after_freeing}
+use Rattle.tidalloc.specs.LiveIds.{LiveIds, Supply, supply_code, unused, next_id, after_taking, after_freeing}
 use Rattle.tsl.specs.Transactions.{active}
 use Rattle.dialogues.specs.Codes.{coded_octets, coded_dialogue}
 
@@ -64,6 +64,10 @@ pub record IsFresh (n : ℕ) (d : OpenDialogues) : Type 0 where
   pub of_shard : d.shard ≡ n
   pub never_used : d.supply ≡ unused 0
   pub none_open : dialogues_of d ≡ (λ _. None)
+
+-- No dialogue is open, and the next ids are those of these.
+abbrev pub none_with : LiveIds → OpenDialogues
+none_with ids = record { shard = ids.shard; supply = ids.supply; open_ones = map.empty }
 
 -- An id under which a dialogue may open: one of the shard that names no open dialogue.
 pub record IsNew (d : OpenDialogues) (id : List ℕ) : Type 0 where

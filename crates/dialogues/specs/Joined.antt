@@ -1,4 +1,4 @@
--- The tables behind the open dialogues, joined.
+-- The tables that the open dialogues stand in, joined.
 use Rattle.std.specs.Prelude.{◌≡◌, ◌≢◌, ◌<◌, ◌≤◌, ℕ, List, [], None, length, slice_index_or}
 use Rattle.std.specs.Prelude as lists
 use Rattle.std.specs.FinMap as map

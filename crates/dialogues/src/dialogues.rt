@@ -3,25 +3,28 @@
 ghost use Rattle.std.specs.Prelude.{◌≡◌, ◌≢◌, ◌<◌, ◌≤◌, ◌^◌, ◌-◌, ◌↔◌, ℕ, List, Some, None, IfOk, IfSome, IsNone, IsTrue, OnOk, OnErr, FitsSigned, map, option_map};
 ghost use Rattle.std.specs.Int.{w8};
 ghost use Rattle.std.specs.FinMap as finite;
+ghost use Rattle.std.specs.FinSet as set;
 ghost use Rattle.machine.specs.Deadlines.{IsFirst, IsTimer};
 ghost use Rattle.machine.specs.Effect.{effect};
 ghost use Rattle.machine.specs.Keys.{put};
 ghost use Rattle.machine.specs.State.{State, IsFull, IsIdOf};
 ghost use Rattle.machine.specs.Turns.{Expiry};
 ghost use Rattle.tidalloc.specs.LiveIds.{after_freeing, after_taking, next_id, next_use};
+ghost use Rattle.tidalloc.specs.Resumed.{ascending};
 ghost use Rattle.tsl.specs.Received.{destination_of};
 ghost use Rattle.csl.specs.Effects.{IsEffect, offered};
 ghost use Rattle.csl.specs.Seen.{heard, told_of};
 ghost use Rattle.csl.specs.Tables.{first_invoked};
 
 use crate::dialogue::Dialogue;
-use crate::parts::{begin, close, make_room, reserve, slot_of};
+use crate::parts::{begin, close, make_room, place_for, slot_of};
 use crate::talk::Talk;
 use csl::{Due, Effect, Invocations, Offer, Remaining, Was};
 use hlr_types::{Peer, RemoteId, Tid};
 use q773_comp::Component;
 use std::alloc::{AllocError, Global};
 use std::marker::Model;
+use tidalloc::Ids;
 use tsl::{Head, Received, Transactions};
 
 /// The open dialogues of a shard, at most 4,096: the transaction, the invocations, the subscriber and the kind of each.
@@ -48,7 +51,7 @@ impl Model for Dialogues {
 }
 
 impl Dialogues {
-    ghost use Rattle.dialogues.specs.Dialogues.{IsFresh, IsNew, KeepsIds, activated, beginning_after, count, dialogues_of, invocations_in, gone_on, forgotten, next_of};
+    ghost use Rattle.dialogues.specs.Dialogues.{IsFresh, IsNew, KeepsIds, activated, beginning_after, count, dialogues_of, invocations_in, gone_on, forgotten, next_of, none_with};
     ghost use Rattle.dialogues.specs.Expiring.{HasDialogues, expiry_turn};
     ghost use Rattle.dialogues.specs.Looking.{looked};
     ghost use Rattle.dialogues.specs.Seen.{dialogue_with};
@@ -58,11 +61,29 @@ impl Dialogues {
         requires { shard < 16 }
         ensures { IfOk result (IsFresh shard) }
     {
+        Self::with_ids(alloc, Ids::new(alloc, shard)?)
+    }
+
+    /// No dialogue is open, and the next ids are those of these, of which none is live: so a shard goes on with the ids that it had.
+    pub fn with_ids(alloc: Global, ids: Ids) -> Result<Self, AllocError>
+        requires { ids.live ≡ set.empty }
+        ensures { IfOk result (λ dialogues. dialogues ≡ none_with ids) }
+    {
         Ok(Dialogues {
-            transactions: Transactions::new(alloc, shard)?,
+            transactions: Transactions::with_ids(alloc, ids)?,
             invocations: Invocations::new(alloc),
             talks: Vec::new(alloc),
         })
+    }
+
+    /// The ids: those of the open dialogues, and those that come next.
+    pub fn ids(&self) -> &Ids
+        ensures shard { result.now.shard ≡ self.now.shard }
+        ensures supply { result.now.supply ≡ self.now.supply }
+        ensures live { ascending result.now.live ≡ finite.keys self.now.open_ones }
+        ensures count { set.len result.now.live ≡ count self.now }
+    {
+        self.transactions.ids()
     }
 
     /// The open dialogue with this id, if there is one.
@@ -231,10 +252,23 @@ impl Dialogues {
         ensures shard { self.new.shard ≡ self.old.shard }
         ensures err { OnErr result (self.new ≡ self.old) }
     {
-        let id = self.transactions.next_id().unwrap();
-        reserve(&mut self.transactions)?;
-        make_room(&mut self.talks, slot_of(id), dialogue.talk())?;
+        let id = place_for(&mut self.transactions, &mut self.talks, dialogue)?;
         self.invocations.invoke_each(id, invokes, now)?;
+        Ok(begin(&mut self.transactions, &mut self.talks, dialogue))
+    }
+
+    /// Opens a dialogue again under the next id, with these invocations. On error nothing changes.
+    pub fn reopen(&mut self, dialogue: &Dialogue, left: &Remaining) -> Result<Tid, AllocError>
+        requires { next_of self.old ≢ None }
+        ensures next { IfOk result (λ id. next_of self.old ≡ Some id) }
+        ensures used { OnOk result (self.new.supply ≡ after_taking self.old.supply) }
+        ensures opened { IfOk result (λ id. dialogues_of self.new
+            ≡ put (dialogues_of self.old) id (Some (dialogue_with left.now dialogue.now))) }
+        ensures shard { self.new.shard ≡ self.old.shard }
+        ensures err { OnErr result (self.new ≡ self.old) }
+    {
+        let next = place_for(&mut self.transactions, &mut self.talks, dialogue)?;
+        self.invocations.leave(next, left)?;
         Ok(begin(&mut self.transactions, &mut self.talks, dialogue))
     }
 

@@ -1,6 +1,6 @@
 //! Changes of the tables of open dialogues, shared by the calls.
 
-ghost use Rattle.std.specs.Prelude.{◌≡◌, ◌≢◌, ◌<◌, ◌≤◌, ℕ, [], None, IfSome, OnOk, length, slice_index_or, slice_set};
+ghost use Rattle.std.specs.Prelude.{◌≡◌, ◌≢◌, ◌<◌, ◌≤◌, ℕ, [], None, Some, IfOk, IfSome, OnOk, length, slice_index_or, slice_set};
 ghost use Rattle.tidalloc.specs.LiveIds.{slot_of};
 ghost use Rattle.tsl.specs.Transactions.{Begins, HaveOwnSlots, at, closed, count, next_of, transaction_of};
 ghost use Rattle.csl.specs.Tables.{put_list};
@@ -46,6 +46,28 @@ pub(crate) fn reserve(transactions: &mut Transactions) -> Result<(), AllocError>
         Err(TslFault::NoRoom) => unreachable!(),
         Err(TslFault::Memory) => Err(AllocError),
     }
+}
+
+/// Makes room for a dialogue under the next id, and returns that id: memory for its transaction, and a talk at its slot.
+pub(crate) fn place_for(
+    transactions: &mut Transactions,
+    talks: &mut Vec<Talk>,
+    dialogue: &Dialogue,
+) -> Result<Tid, AllocError>
+    requires { next_of transactions.old ≢ None }
+    ensures next { IfOk result (λ id. next_of transactions.old ≡ Some id) }
+    ensures reserved { OnOk result (0 < transactions.new.room) }
+    ensures room { IfOk result (λ id. slot_of id < length talks.new.items) }
+    ensures few { OnOk result (count transactions.old ≢ 4096) }
+    ensures ok { transactions.new ≡ record transactions.old { room = transactions.new.room } }
+    ensures longer { length talks.old.items ≤ length talks.new.items }
+    ensures kept { (k : ℕ) (d : Talk) → k < length talks.old.items
+        → slice_index_or talks.new.items k d ≡ slice_index_or talks.old.items k d }
+{
+    let id = transactions.next_id().unwrap();
+    reserve(transactions)?;
+    make_room(talks, slot_of(id), dialogue.talk())?;
+    Ok(id)
 }
 
 /// Opens this transaction, in Initiation Sent if the peer's id is not known. Does not allocate.

@@ -7,5 +7,5 @@ pub mod Lookups
 pub mod Registers
 pub mod Replay
 pub mod Replaying
-pub mod Rooms
+pub mod Buffers
 pub mod Waiting

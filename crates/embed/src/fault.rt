@@ -1,4 +1,4 @@
-//! Why a text was not written into a caller's room, and why a log was not replayed.
+//! Why a text was not written into a caller's buffer, and why a log was not replayed.
 
 ghost use Rattle.std.specs.Prelude.{◌≡◌};
 
@@ -6,10 +6,10 @@ use std::alloc::AllocError;
 use thiserror::Error;
 use wholenode::Cause;
 
-/// Why a text was not written into a caller's room.
+/// Why a text was not written into a caller's buffer.
 #[derive(Clone, Copy, Debug, PartialEq, Eq, Drop, Error)]
-pub enum RoomFault {
-    /// The room has fewer octets than the text, which has this many.
+pub enum BufferFault {
+    /// The buffer has fewer octets than the text, which has this many.
     #[error("the text has {0} octets")]
     Small(usize),
     /// Out of memory.
@@ -17,14 +17,14 @@ pub enum RoomFault {
     Memory,
 }
 
-impl From<AllocError> for RoomFault {
+impl From<AllocError> for BufferFault {
     ghost use Rattle.std.specs.Prelude.{◌≡◌};
-    ghost use Rattle.embed.specs.declared.fault.RoomFault.TheVariants.{Memory};
+    ghost use Rattle.embed.specs.declared.fault.BufferFault.TheVariants.{Memory};
 
     ghost from_gives = { λ _ fault. fault ≡ Memory };
 
-    fn from(_refused: AllocError) -> RoomFault {
-        RoomFault::Memory
+    fn from(_refused: AllocError) -> BufferFault {
+        BufferFault::Memory
     }
 }
 

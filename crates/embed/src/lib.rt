@@ -2,6 +2,7 @@
 //! wait, and events from octets, texts and numbers.
 #![tactic(auto)]
 
+mod buffer;
 mod events;
 mod examples;
 mod fault;
@@ -9,16 +10,15 @@ mod laws;
 mod log_line;
 mod lookups;
 mod register;
-mod room;
 mod waiting;
 
+pub use buffer::write_record;
 pub use events::{
     codes_event, expiry_event, frame_event, read_imsi, read_number, withdrawal_event,
 };
 pub use examples::{law_log_lines, law_log_texts};
-pub use fault::{LineFault, ReplayFault, RoomFault};
+pub use fault::{BufferFault, LineFault, ReplayFault};
 pub use laws::{logs_are_replayed, replays_agree};
 pub use log_line::{LogLine, read_log_line};
 pub use register::Register;
-pub use room::write_record;
 pub use wholenode::Keep;

@@ -25,7 +25,7 @@ pub(crate) fn shard_at(node: &Node, number: u8) -> &Shard
     &shards[place]
 }
 
-/// Whether the event does nothing: an expiry where no timer is due, or an operator's change of a subscriber without a record.
+/// Whether the event does nothing: an expiry when no timer is due, or an operator's change of a subscriber without a record.
 pub(crate) fn is_idle(node: &Node, raw: &RawEvent) -> bool
     ensures { IsTrue result ↔ IsIdle node.now (raw_event raw.now) }
 {

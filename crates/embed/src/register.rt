@@ -14,12 +14,12 @@ ghost use Rattle.embed.specs.Lookups.{IsTimerOf, record_by_number, record_of};
 ghost use Rattle.embed.specs.Registers.{Answers, Gives, Opens, SetsClocks};
 ghost use Rattle.embed.specs.Journals.{CutsOff, ListsOpen, ListsShard};
 ghost use Rattle.embed.specs.Replay.{Does, Fails, IsLogLine, Replays, StopsReplay, octets_of, whole_lines};
-ghost use Rattle.embed.specs.Rooms.{Writes};
+ghost use Rattle.embed.specs.Buffers.{Writes};
 
-use crate::fault::{LineFault, ReplayFault, RoomFault};
+use crate::buffer::{check_buffer, write_text};
+use crate::fault::{BufferFault, LineFault, ReplayFault};
 use crate::log_line::{LogLine, read_log_line};
 use crate::lookups::{first_deadline, is_idle, record_by_number, record_of, shard_at};
-use crate::room::{check_room, write_text};
 use crate::waiting::Waiting;
 use audit::{list_dialogues, list_journal, save_records};
 use bumpalo::Bump;
@@ -94,7 +94,7 @@ impl Register {
     }
 
     /// Handles one event, and puts the frames that it sends after those that wait. They are to be read by `front` and taken by
-    /// `drop_front`, one after the other. An event that would do nothing is not handled, and `false` is returned: an expiry where no timer
+    /// `drop_front`, one after the other. An event that would do nothing is not handled, and `false` is returned: an expiry when no timer
     /// is due, or an operator's change of a subscriber without a record. Then, and on error, nothing changes, and the event is dropped.
     ///
     /// - `JournalFull`: the journal of its shard has 65,536 entries, until `cut`.
@@ -138,7 +138,7 @@ impl Register {
     /// nothing changes.
     ///
     /// - `JournalFull`: a journal has 65,536 entries, until `cut`.
-    /// - `Memory`: out of memory, which can be only where journals are kept.
+    /// - `Memory`: out of memory, which can be only if journals are kept.
     pub fn set_clocks(&mut self, now: u64) -> Result<(), Cause>
         ensures sets { OnOk result (SetsClocks self.old now self.new) }
         ensures refused { IfErr result (RefusesTicks self.old.node now) }
@@ -254,23 +254,27 @@ impl Register {
         Ok(())
     }
 
-    /// The same, with the listing of the journal (`audit::list_journal`) at the front of the room. Returns the number of octets
-    /// written. On error nothing changes, in the room neither.
-    pub fn cut_listed(&mut self, shard: ShardNumber, room: &mut [u8]) -> Result<usize, RoomFault>
+    /// The same, with the listing of the journal (`audit::list_journal`) at the front of the buffer. Returns the number of octets
+    /// written. On error nothing changes, the buffer included.
+    pub fn cut_listed(
+        &mut self,
+        shard: ShardNumber,
+        buffer: &mut [u8],
+    ) -> Result<usize, BufferFault>
         ensures cuts { OnOk result (CutsOff self.old shard self.new) }
         ensures lists { IfOk result (λ count.
             (text : List ℕ) × ListsShard self.old.node shard text
-            × Writes text room.old count room.new) }
-        ensures small { (n : ℕ) → result ≡ Err (RoomFault.Small n)
-            → (text : List ℕ) × ListsShard self.old.node shard text × (length room.old < n)
+            × Writes text buffer.old count buffer.new) }
+        ensures small { (n : ℕ) → result ≡ Err (BufferFault.Small n)
+            → (text : List ℕ) × ListsShard self.old.node shard text × (length buffer.old < n)
             × (n ≡ length text) }
         ensures err { OnErr result (self.new ≡ self.old) }
-        ensures room { OnErr result (room.new ≡ room.old) }
+        ensures buffer { OnErr result (buffer.new ≡ buffer.old) }
     {
         let text = self.listing(shard)?;
-        check_room(room, text.as_bytes())?;
+        check_buffer(buffer, text.as_bytes())?;
         self.cut(shard)?;
-        Ok(write_text(room, text.as_bytes()))
+        Ok(write_text(buffer, text.as_bytes()))
     }
 
     /// The listing of a shard's journal.
@@ -281,20 +285,24 @@ impl Register {
         list_journal(self.alloc, slice::from_ref(shard))
     }
 
-    /// Writes the listing of a shard's open dialogues (`audit::list_dialogues`) at the front of the room, and returns the number of octets
-    /// written. On error the room is unchanged.
-    pub fn list_dialogues(&self, shard: ShardNumber, room: &mut [u8]) -> Result<usize, RoomFault>
+    /// Writes the listing of a shard's open dialogues (`audit::list_dialogues`) at the front of the buffer, and returns the number of octets
+    /// written. On error the buffer is unchanged.
+    pub fn list_dialogues(
+        &self,
+        shard: ShardNumber,
+        buffer: &mut [u8],
+    ) -> Result<usize, BufferFault>
         ensures lists { IfOk result (λ count.
             (text : List ℕ) × ListsOpen self.now.node shard text
-            × Writes text room.old count room.new) }
-        ensures small { (n : ℕ) → result ≡ Err (RoomFault.Small n)
-            → (text : List ℕ) × ListsOpen self.now.node shard text × (length room.old < n)
+            × Writes text buffer.old count buffer.new) }
+        ensures small { (n : ℕ) → result ≡ Err (BufferFault.Small n)
+            → (text : List ℕ) × ListsOpen self.now.node shard text × (length buffer.old < n)
             × (n ≡ length text) }
-        ensures err { OnErr result (room.new ≡ room.old) }
+        ensures err { OnErr result (buffer.new ≡ buffer.old) }
     {
         let lines = self.open_dialogues(shard)?;
-        check_room(room, lines.as_bytes())?;
-        Ok(write_text(room, lines.as_bytes()))
+        check_buffer(buffer, lines.as_bytes())?;
+        Ok(write_text(buffer, lines.as_bytes()))
     }
 
     /// The listing of a shard's open dialogues.
@@ -305,19 +313,19 @@ impl Register {
         list_dialogues(self.alloc, slice::from_ref(shard))
     }
 
-    /// Writes the records as a records file (`audit::save_records`) at the front of the room, and returns the number of octets
-    /// written. On error the room is unchanged.
-    pub fn save(&self, room: &mut [u8]) -> Result<usize, RoomFault>
+    /// Writes the records as a records file (`audit::save_records`) at the front of the buffer, and returns the number of octets
+    /// written. On error the buffer is unchanged.
+    pub fn save(&self, buffer: &mut [u8]) -> Result<usize, BufferFault>
         ensures saves { IfOk result (λ count.
             (text : List ℕ) × Saves self.now.node.shards text
-            × Writes text room.old count room.new) }
-        ensures small { (n : ℕ) → result ≡ Err (RoomFault.Small n)
-            → (text : List ℕ) × Saves self.now.node.shards text × (length room.old < n)
+            × Writes text buffer.old count buffer.new) }
+        ensures small { (n : ℕ) → result ≡ Err (BufferFault.Small n)
+            → (text : List ℕ) × Saves self.now.node.shards text × (length buffer.old < n)
             × (n ≡ length text) }
-        ensures err { OnErr result (room.new ≡ room.old) }
+        ensures err { OnErr result (buffer.new ≡ buffer.old) }
     {
         let file = save_records(self.alloc, self.node.shards())?;
-        check_room(room, file.as_bytes())?;
-        Ok(write_text(room, file.as_bytes()))
+        check_buffer(buffer, file.as_bytes())?;
+        Ok(write_text(buffer, file.as_bytes()))
     }
 }

@@ -37,7 +37,7 @@ pub fn trees_are_judged()
     ensures { TreesAreJudged }
 {}
 
-/// The reader of octets, which can be run on any, reads the tree that they spell (X.690, 8.1). Where it reads none, they spell none.
+/// The reader of octets, which can be run on any, reads the tree that they spell (X.690, 8.1). If it reads none, they spell none.
 pub fn trees_are_read()
     ensures { TreesAreRead }
 {}

@@ -78,7 +78,7 @@ impl Gate for Open {
     fn done(&self, _job: u64) {}
 }
 
-/// The receipts of a batch that so many workers share, `None` where it has none.
+/// The receipts of a batch that so many workers share, `None` if it has none.
 pub(crate) fn run<R: Threads + Wait + Sync, G: Gate + Sync>(
     rt: &R,
     alloc: Global,

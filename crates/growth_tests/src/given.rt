@@ -7,7 +7,7 @@ use records::{Loaded, Records, read_records};
 use std::alloc::Global;
 
 /// Whether a test shows what it is to show. One that itself ran out of memory shows nothing, and says so: `failing/run` wants none of
-/// that where nothing was refused.
+/// that if nothing was refused.
 pub(crate) fn is_shown(rt: &HostRuntime, shown: Option<bool>) -> bool {
     if shown.is_none() {
         let _ = println!(rt; "out of memory");

@@ -22,7 +22,7 @@ pub(crate) fn copied(alloc: Global, indication: &Indication) -> Option<Indicatio
     indication.try_copy(alloc).ok()
 }
 
-/// The outcome of a Begin, none where it is out of memory.
+/// The outcome of a Begin, none if it is out of memory.
 fn begun(alloc: Global, indication: &Indication, records: &Records) -> Option<Outcome> {
     let Verdict::Read(message) = indication.verdict() else {
         return None;

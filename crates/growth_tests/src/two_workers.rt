@@ -39,7 +39,7 @@ fn jobs(alloc: Global, first: u64, last: u64) -> Option<Vec<Job>> {
     Some(jobs)
 }
 
-/// The receipts of a batch of these jobs, `None` where it has none.
+/// The receipts of a batch of these jobs, `None` if it has none.
 fn shared<R: Threads + Wait + Sync>(
     rt: &R,
     alloc: Global,

@@ -10,7 +10,7 @@ use Rattle.hlr_input.specs.CommandLine.{Said, Place, anywhere, number, behind, o
 use Rattle.hlr_input.proofs.CommandRows.{Pending, Settles, Tells, fails, fails_first, fails_second, held, help_built, idle_walk, number_walk, rules, wants_number}
 use Rattle.hlr_input.proofs.CommandOptions.{Doomed, Long, Paths, Short, Turns, doomed_walk, fault_by, option_turn, path_fault, path_turn, pending_of, said_of, used_before, walked_by, workers_settle}
 
--- ---- a hyphen with more behind it
+-- ---- a hyphen with more after it
 
 -- there is a first character
 abbrev pub HasCharacter : List ℕ → Type 0

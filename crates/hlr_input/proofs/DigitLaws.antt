@@ -66,7 +66,7 @@ digits_stand known text even all = sym (groups_of_digits known text (digits_have
 
 -- ---- what they stand for
 
--- the octets behind those found so far
+-- the octets after those found so far
 abbrev Behind : List (List ℕ) → List ℕ → ℕ → Type 0
 Behind ids more i = (found : List ℕ) → octets_after ids found more ≡ option_map (λ octets. found ++ octets) (result_ok (decode_pairs i more))
 

@@ -33,7 +33,7 @@ imsi_only text r digits e is = e ∙ imsi_again text digits is
 
 -- ---- parts
 
--- behind a character and a space are the parts of the rest
+-- after a character and a space are the parts of the rest
 pub kind_cut : (kind : ℕ) (rest : List ℕ) → (kind == 32) ≡ false → parts 32 (kind ∷ 32 ∷ rest) ≡ (kind ∷ []) ∷ parts 32 rest
 kind_cut kind rest other =
     slice_split-cons_no (λ b. b == 32) kind (32 ∷ rest) other ∙ ap (onto_first kind) (slice_split-cons_yes (λ b. b == 32) 32 rest refl)

@@ -13,7 +13,7 @@ use Rattle.hlr_input.specs.Digits.{value_of}
 pub value_below : (digit : ℕ) → value_of digit < 16
 value_below digit = grind (arith)
 
--- ---- a digit behind a 0, which is the character 48
+-- ---- a digit after a 0, which is the character 48
 
 value_found : (digit : ℕ) (octets : List ℕ) (o : Option ℕ) → hex_digit_value digit ≡ o → decode_sized (48 ∷ digit ∷ []) 1 ≡ Ok octets
     → slice_index_or octets 0 0 ≡ unwrap_or o 0

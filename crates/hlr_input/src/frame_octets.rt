@@ -51,7 +51,7 @@ fn are_digit_pairs(text: &[u8]) -> bool
 }
 
 /// Whether each character is a hexadecimal digit, of either case. It looks at all of them, since the compiler takes sixteen at a
-/// time where no character ends the loop.
+/// time if no character ends the loop.
 fn are_digits(text: &[u8]) -> bool
     ensures { result ≡ list_all is_hex_digit text.now }
 {

@@ -46,7 +46,7 @@ fn read_written<'a>(line: &'a [u8]) -> Option<Item<'a>>
     }
 }
 
-/// A frame's line, behind its kind.
+/// A frame's line, after its kind.
 fn read_frame<'a>(rest: &'a [u8]) -> Option<Item<'a>>
     ensures { Reads (IsWritten (70 ∷ 32 ∷ rest.now)) result }
 {

@@ -29,7 +29,7 @@ use Rattle.hlr_program.proofs.PrintLemmas.{prints_join, prints_none}
 use Rattle.hlr_program.proofs.RegisterLemmas.{ran_each, ran_join, ran_none, unknown_before}
 use Rattle.hlr_program.proofs.RunLemmas.{flat_join, runs_join}
 
--- ---- events behind events
+-- ---- events after events
 
 pub adds_none : (a : Progress) → Adds a [] a
 adds_none a = record { handled = []; outs = []; order = append-nil a.part; ran = ran_none a.register; prints = prints_none a.answers }

@@ -56,7 +56,7 @@ pub nothing_left : (text : List ℕ) → length text ≡ 0 → lines text ≡ []
 nothing_left [] none = lines_nil
 nothing_left (x ∷ text) none = absurd (omega (arith, none))
 
--- ---- one batch behind others
+-- ---- one batch after others
 
 flat_append : {A B : Type 0} (f : A → List B) (xs ys : List A) → flat_map f (xs ++ ys) ≡ flat_map f xs ++ flat_map f ys
 flat_append f [] ys = refl

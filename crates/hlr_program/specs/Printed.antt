@@ -20,7 +20,7 @@ abbrev pub noted_in : List (List ℕ) → List RawOut → List (List ℕ)
 noted_in ids [] = ids
 noted_in ids (frame ∷ more) = noted_in (noted ids (originating_id frame.octets)) more
 
--- The lines that a batch has so far, and the ids that letters stand for behind it.
+-- The lines that a batch has so far, and the ids that letters stand for after it.
 pub record SoFar : Type 0 where
   pub text : List ℕ
   pub ids : List (List ℕ)

@@ -28,7 +28,7 @@ impl Ahead {
         Ahead { events, room: 0 }
     }
 
-    /// How many events are left of their part, or, where none is, how many the next part has: 65,536, or those that are left of the batch.
+    /// How many events are left of their part, or, if none is, how many the next part has: 65,536, or those that are left of the batch.
     pub fn left_of_part(&self) -> usize
         ensures within { 0 < self.now.room → result ≡ self.now.room }
         ensures next { self.now.room ≡ 0 → result ≡ min self.now.events MAX_ENTRIES }

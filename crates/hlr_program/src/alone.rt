@@ -41,9 +41,9 @@ pub struct Alone {
     alloc: Global,
     node: Node,
     bump: Bump,
-    /// Where the journals are not listed, nobody can see an entry, and none is kept, which spares time.
+    /// If the journals are not listed, nobody can see an entry, and none is kept, which spares time.
     keep: Keep,
-    /// Where entries are kept, what of the batch is not handled yet.
+    /// If entries are kept, what of the batch is not handled yet.
     ahead: Ahead,
     /// Frames and changes that are not handled yet.
     gathered: Vec<RawEvent>,
@@ -173,7 +173,7 @@ impl Alone {
         Ok(())
     }
 
-    /// Handles an event of a shard, where none are gathered, and appends the lines of what it sends.
+    /// Handles an event of a shard, if none are gathered, and appends the lines of what it sends.
     #[inline(always)]
     fn take_for(
         &mut self,
@@ -223,7 +223,7 @@ fn keep_of(listed: bool) -> Keep
     if listed { Keep::Entries } else { Keep::Nothing }
 }
 
-/// How many events a lot has at most. Where entries are kept, it ends with its part.
+/// How many events a lot has at most. If entries are kept, it ends with its part.
 fn lot_of(keep: Keep, ahead: &Ahead) -> usize
     ensures few { result ≤ 64 }
     ensures ends { keep ≡ Keep.Entries → 0 < ahead.now.room → result ≤ ahead.now.room }
@@ -235,8 +235,8 @@ fn lot_of(keep: Keep, ahead: &Ahead) -> usize
     }
 }
 
-/// Before so many events. Where they begin a part of the batch, all journals are cut, if one of them has no room for all events of the
-/// part (profile). A part has 65,536 events, or those that are left of the batch. Where no entry is kept there is always room.
+/// Before so many events. If they begin a part of the batch, all journals are cut, if one of them has no room for all events of the
+/// part (profile). A part has 65,536 events, or those that are left of the batch. If no entry is kept there is always room.
 #[inline(always)]
 fn begin_part(keep: Keep, node: &mut Node, ahead: &mut Ahead, count: usize)
     requires few { count ≤ MAX_ENTRIES }
@@ -330,7 +330,7 @@ fn handle_lot(
     Ok(())
 }
 
-/// Keeps the octets of a frame that was handled, so that the next one is read into their buffer. They are dropped where memory is
+/// Keeps the octets of a frame that was handled, so that the next one is read into their buffer. They are dropped if memory is
 /// refused.
 fn keep_room(handled: RawEvent, spare: &mut Vec<Vec<u8>>) {
     if let RawEvent::Frame { octets, .. } = handled {

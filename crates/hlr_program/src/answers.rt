@@ -11,7 +11,7 @@ use hlr_input::Letters;
 use hlrcore::{Out, OutList};
 use std::alloc::{AllocError, Global};
 
-/// The lines of the frames that a batch has sent so far, and the local ids that letters stand for behind it. Nothing is printed
+/// The lines of the frames that a batch has sent so far, and the local ids that letters stand for after it. Nothing is printed
 /// yet, so that a batch with a fault prints nothing.
 #[derive(Drop)]
 pub struct Answers {

@@ -62,7 +62,7 @@ pub fn handle_batch<'a, R: Threads + Wait + Sync>(
     Ok(behind)
 }
 
-/// A batch begins. Its events are counted where the register asks for their number.
+/// A batch begins. Its events are counted if the register asks for their number.
 fn begin_batch(register: &mut Register, from: Lines)
     ensures { register.new ≡ register.old }
 {

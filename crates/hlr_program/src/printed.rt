@@ -13,7 +13,7 @@ use std::alloc::AllocError;
 use std::fmt::Write as _;
 use std::io::{ErrorKind, Write};
 
-/// Room for the longest fault line: the words around a number of 20 digits.
+/// A buffer for the longest fault line: the words around a number of 20 digits.
 const MAX_TOLD: usize = 64;
 
 /// Prints a text. If the writer fails, a prefix of the text was written.

@@ -69,7 +69,7 @@ impl Register {
         }
     }
 
-    /// An empty list for the octets of a frame, where there is one with the buffer of a frame that is handled.
+    /// An empty list for the octets of a frame, if there is one with the buffer of a frame that is handled.
     pub fn take_room(&mut self) -> Vec<u8>
         ensures { self.new ≡ self.old }
     {

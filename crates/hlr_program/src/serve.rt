@@ -218,7 +218,7 @@ fn run<R: Threads + Wait + Sync, W: Write>(
     Ok(())
 }
 
-/// The ids, where the script has letters.
+/// The ids, if the script has letters.
 fn ids_for<'a>(script: &Script, ids: &'a [Tid]) -> Option<&'a [Tid]>
     ensures { ArePassed script.now.lettered (option_map (λ i. i.now) result) ids.now }
 {

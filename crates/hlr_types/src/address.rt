@@ -104,7 +104,7 @@ fn octets_sent(digits: &Digits) -> ShortList<9>
     let tbcd = tbcd_write(digits);
     let mut items = [0u8; 9];
     items[0] = INTERNATIONAL_E164;
-    // The zeros behind the digits are copied too, as eight octets are moved at once.
+    // The zeros after the digits are copied too, as eight octets are moved at once.
     items[1..].copy_from_slice(tbcd.padded());
     ShortList::of_parts(&items, tbcd.len() as u8 + 1)
 }

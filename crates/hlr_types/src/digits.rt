@@ -21,7 +21,7 @@ use std::marker::Model;
 /// 1 to 16 digits from 0 to 9, which contracts see as a list. Digits are a text: leading zeros count, and the order is that
 /// of texts, so `12` comes before `2` and before `120`.
 ///
-/// They are kept in one word of sixteen half octets, from the highest on: each digit plus one, and 0 where there is none.
+/// They are kept in one word of sixteen half octets, from the highest on: each digit plus one, and 0 if there is none.
 /// So the order of words is the order of texts.
 #[derive(Clone, Copy, Debug)]
 pub struct Digits {
@@ -56,7 +56,7 @@ impl Digits {
         from_text(text)
     }
 
-    /// The digits that an ASCII text begins with, if they are 1 to 16 and this character follows them, and the text behind it.
+    /// The digits that an ASCII text begins with, if they are 1 to 16 and this character follows them, and the text after it.
     /// One look finds where they end and that they are digits: nearly every line of a script has an address that is read so.
     pub fn from_front(text: &[u8], end: u8) -> Option<(Digits, &[u8])>
         ensures found { IfSome result (λ r. AreSomeDigits r.0 × (text.now ≡ text_of r.0 ++ end ∷ r.1.now)) }
@@ -250,7 +250,7 @@ fn leading_number(text: &[u8]) -> (u64, usize)
     ensures most { result.1 ≤ 16 }
     ensures digits { list_all is_digit (take result.1 text.now) ≡ true }
     ensures number { result.0 ≡ packed result.1 (map (λ octet. octet - 48) (take result.1 text.now)) }
-    // Behind them the text ends or has another character, or they are sixteen.
+    // After them the text ends or has another character, or they are sixteen.
     ensures last { result.1 < 16 → result.1 < length text.now → is_digit (slice_index text.now result.1) ≡ false }
 {
     let mut number = 0;

@@ -10,7 +10,7 @@ ghost use Rattle.std.proofs.Common.{rules};
 use std::cmp::Ordering;
 use std::marker::Model;
 
-/// At most N octets in an array, where N is below 256. Lists are ordered by their octets, and a prefix comes before the
+/// At most N octets in an array, with N below 256. Lists are ordered by their octets, and a prefix comes before the
 /// longer list.
 #[derive(Clone, Copy, Debug)]
 pub struct ShortList<const N: usize> {

@@ -126,7 +126,7 @@ fn octets_of(word: u64) -> Tbcd
     ShortList::of_parts(&items, count as u8)
 }
 
-/// The octet of two half octets of a word, the first digit in its low half. Both are digits plus one; where the second is the 0
+/// The octet of two half octets of a word, the first digit in its low half. Both are digits plus one; if the second is the 0
 /// of no digit, one less is the filler.
 fn octet_of(pair: u8) -> u8
     ensures { result ≡ (pair % 16 * 16 + pair / 16 + 239) % 256 }

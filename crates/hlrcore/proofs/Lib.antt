@@ -22,3 +22,4 @@ pub mod DeadlineLemmas
 pub mod IdsLemmas
 pub mod ReplayLemmas
 pub mod StartLemmas
+pub mod ResumingLemmas

@@ -17,3 +17,4 @@ pub mod Sound
 pub mod Running
 pub mod Ids
 pub mod Replaying
+pub mod Resuming

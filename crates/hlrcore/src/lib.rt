@@ -25,6 +25,7 @@ mod out_list;
 mod parts;
 mod plan;
 mod receiving;
+mod resuming;
 mod routing;
 mod running;
 mod same;

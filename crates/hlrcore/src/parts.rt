@@ -23,7 +23,7 @@ use std::sync::Arc;
 pub struct ShardParts {
     pub(crate) alloc: Global,
     number: u8,
-    clock: u64,
+    pub(crate) clock: u64,
     pub(crate) records: Records,
     pub(crate) dialogues: Dialogues,
     directory: Arc<Directory>,

@@ -1,8 +1,11 @@
 //! The state of a shard.
 
-ghost use Rattle.std.specs.Prelude.{◌≡◌, ◌≢◌, ◌<◌, ◌↔◌, IfOk, OnOk, OnErr, Err, IsTrue};
+ghost use Rattle.std.specs.Prelude.{◌≡◌, ◌≢◌, ◌<◌, ◌≤◌, ◌↔◌, true, None, IfOk, Ok, OnOk, OnErr, Err, IsTrue};
+ghost use Rattle.std.specs.FinSet as set;
 ghost use Rattle.std.specs.Arc.{arc_value};
 ghost use Rattle.frames.specs.Octets.{IsRouted, RawClock, RawExpire};
+ghost use Rattle.machine.specs.declared.numbers.TheConstants.{MAX_CLOCK};
+ghost use Rattle.machine.specs.Effect.{AreRising};
 ghost use Rattle.machine.specs.Deadlines.{HasDue, IsFirst, IsTimer};
 ghost use Rattle.machine.specs.Opening.{opening};
 ghost use Rattle.machine.specs.Parts.{part};
@@ -15,6 +18,9 @@ ghost use Rattle.hlrcore.specs.Addressees.{IsAddressee};
 ghost use Rattle.hlrcore.specs.Events.{event_of, raw_of};
 ghost use Rattle.hlrcore.specs.Ids.{MovesIds};
 ghost use Rattle.hlrcore.specs.Leading.{Leads, Steps};
+ghost use Rattle.hlrcore.specs.Resuming.{may_reopen, reopened, resumed};
+ghost use Rattle.dialogues.specs.Dialogues.{dialogues_of};
+ghost use Rattle.dialogues.specs.Seen.{dialogue_with};
 ghost use Rattle.hlrcore.specs.Sound.{IsSoundShard};
 
 use crate::answer::StepAnswer;
@@ -23,12 +29,14 @@ use crate::fault::StepFault;
 use crate::parts::ShardParts;
 use crate::routing::{Addressee, addressee_of};
 use crate::unchanged::silent;
-use dialogues::Dialogues;
+use csl::Remaining;
+use dialogues::{Dialogue, Dialogues};
 use hlr_types::IsdnAddress;
 use records::{Directory, Loaded, Records};
 use std::alloc::{AllocError, Global};
 use std::marker::Model;
 use std::sync::Arc;
+use tidalloc::Ids;
 
 /// The state of one shard, which handles events. It is always a sound state of its shard.
 #[derive(Drop)]
@@ -201,6 +209,38 @@ impl State {
     {
         self.parts.tick(now);
         silent()
+    }
+
+    /// Begins again at this clock, with these ids, of which none is live, in place of its own; the shard has no open dialogue. On error nothing
+    /// changes.
+    pub fn resume(&mut self, clock: u64, ids: Ids) -> Result<(), AllocError>
+        requires none_open { dialogues_of self.old.dialogues ≡ (λ _. None) }
+        requires shard { ids.shard ≡ self.old.shard }
+        requires early { clock ≤ MAX_CLOCK }
+        requires none_live { ids.live ≡ set.empty }
+        ensures ok { OnOk result (self.new ≡ resumed self.old clock ids) }
+        ensures err { OnErr result (self.new ≡ self.old) }
+    {
+        self.parts.resume(clock, ids)
+    }
+
+    /// Puts a dialogue back under the next id, with these invocations; it may be the current update of its subscriber. `false`, and nothing
+    /// changes, if it cannot be put back: the shard is full, no invocation waits for its answer, or the subscriber cannot have it. On error
+    /// nothing changes.
+    pub fn reopen(
+        &mut self,
+        dialogue: &Dialogue,
+        is_current: bool,
+        left: &Remaining,
+    ) -> Result<bool, AllocError>
+        requires rising { AreRising left.now }
+        ensures may { IfOk result (λ is. is
+            ≡ may_reopen self.old is_current (dialogue_with left.now dialogue.now)) }
+        ensures opened { result ≡ Ok true
+            → self.new ≡ reopened self.old is_current (dialogue_with left.now dialogue.now) }
+        ensures same { result ≢ Ok true → self.new ≡ self.old }
+    {
+        self.parts.reopen(dialogue, is_current, left)
     }
 
     /// Law: the state is a sound state of its shard, which is its invariant.

@@ -63,7 +63,7 @@ impl ShardParts {
         self.expire_due()
     }
 
-    /// The same where something is due. It stands apart, never inlined, since at nearly each expiry nothing is: only here is room made
+    /// The same if something is due. It stands apart, never inlined, since at nearly each expiry nothing is: only here is space made
     /// for a plan.
     #[inline(never)]
     fn expire_due(&mut self) -> Result<StepAnswer, AllocError>

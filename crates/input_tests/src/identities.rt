@@ -353,20 +353,20 @@ fn texts(rt: HostRuntime) -> Result<(), Fail> {
     check_texts(&rt, rt.alloc(), &TEXTS)
 }
 
-/// Texts, the digits in front of a space (none if there are no such), and what is behind it.
+/// Texts, the digits in front of a space (none if there are no such), and what comes after it.
 const FRONTS: [(&str, &str, &str); 7] = [
     ("0123456789 00 1", "0123456789", "00 1"),
     // Sixteen digits, seventeen, none.
     ("0123456789012345 ", "0123456789012345", ""),
     ("01234567890123456 00", "", ""),
     (" 00", "", ""),
-    // Another character, and no character, behind the digits.
+    // Another character, and no character, after the digits.
     ("12-00", "", ""),
     ("12a 00", "", ""),
     ("12", "", ""),
 ];
 
-/// Whether the text begins with these digits and a space, and this is behind it.
+/// Whether the text begins with these digits and a space, and this comes after it.
 fn has_front(text: &str, front: &str, behind: &str) -> bool {
     match Digits::from_front(text.as_bytes(), b' ') {
         Some((found, rest)) => digits(front) == Some(found) && rest == behind.as_bytes(),

@@ -10,7 +10,7 @@ use Rattle.embed.specs.Journals.{CutsOff, ListsShard}
 use Rattle.embed.specs.LogLines.{IsClockLine, IsEventLine}
 use Rattle.embed.specs.Lookups.{IsIdle}
 use Rattle.embed.specs.Registers.{RegisterState, Opens, Answers, SetsClocks}
-use Rattle.embed.specs.Rooms.{Writes}
+use Rattle.embed.specs.Buffers.{Writes}
 use Rattle.kunchrol.specs.Handles.{Held}
 
 -- Whether journals are kept, by the number that asks for them.
@@ -67,7 +67,7 @@ pub record SendsFrame (before : Held) (to : List ℕ) (to_len : ℕ) (octets : L
   pub octets_len_is : octets_len ≡ length out.octets
   pub octets_is : take octets_len octets ≡ out.octets
 
--- The records are written at the front of the room as a records file.
+-- The records are written at the front of the buffer as a records file.
 pub record SavesRecords (before : Held) (room_before : List ℕ) (count : ℕ) (room_after : List ℕ) (after : Held) : Type 0 where
   pub was : RegisterState
   pub before_is : before ≡ Some was
@@ -76,7 +76,7 @@ pub record SavesRecords (before : Held) (room_before : List ℕ) (count : ℕ) (
   pub saves : Saves was.node.shards text
   pub writes : Writes text room_before count room_after
 
--- The journal of a shard is cut off, and its listing is written at the front of the room.
+-- The journal of a shard is cut off, and its listing is written at the front of the buffer.
 pub record CutsJournal (before : Held) (shard : ℕ) (room_before : List ℕ) (count : ℕ) (room_after : List ℕ) (after : Held) : Type 0 where
   pub was : RegisterState
   pub is : RegisterState

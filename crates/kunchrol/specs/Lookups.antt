@@ -10,7 +10,7 @@ use Rattle.wholenode.specs.Nodes.{NodeState}
 use Rattle.embed.specs.Journals.{ListsOpen}
 use Rattle.embed.specs.Lookups.{IsTimerOf, record_by_number, record_of}
 use Rattle.embed.specs.Registers.{RegisterState}
-use Rattle.embed.specs.Rooms.{Writes}
+use Rattle.embed.specs.Buffers.{Writes}
 use Rattle.kunchrol.specs.Handles.{Held}
 use Rattle.kunchrol.specs.Refusals.{IsClosed, RefusesRoom}
 
@@ -37,7 +37,7 @@ IsImsiRecord imsi node found = (digits : List ℕ) × IsImsiNumber imsi digits �
 abbrev pub IsNumberRecord : (msisdn : List ℕ) → NodeState → Option Subscriber → Type 0
 IsNumberRecord msisdn node found = (digits : List ℕ) × IsText msisdn digits × (found ≡ record_by_number node digits)
 
--- A record that is found is written at the front of the room, as a line of a records file.
+-- A record that is found is written at the front of the buffer, as a line of a records file.
 pub record WritesRecord (IsFound : NodeState → Option Subscriber → Type 0) (held : Held) (room_before : List ℕ) (count : ℕ)
     (room_after : List ℕ) : Type 0 where
   pub is : RegisterState
@@ -47,20 +47,20 @@ pub record WritesRecord (IsFound : NodeState → Option Subscriber → Type 0) (
   pub writes : Writes (record_line Two subscriber) room_before count room_after
 
 -- There is none (1), or its line is not written.
-abbrev pub RefusesFound : Option Subscriber → (room len code : ℕ) → Type 0
-RefusesFound None room len code = code ≡ 1
-RefusesFound (Some s) room len code = RefusesRoom (λ text. text ≡ record_line Two s) room len code
+abbrev pub RefusesFound : Option Subscriber → (buffer len code : ℕ) → Type 0
+RefusesFound None buffer len code = code ≡ 1
+RefusesFound (Some s) buffer len code = RefusesRoom (λ text. text ≡ record_line Two s) buffer len code
 
 -- The text is not of its form (3), or the handle is closed, or there is no record, or its line is not written.
-abbrev pub RefusesRecord : (IsFound : NodeState → Option Subscriber → Type 0) → Held → (room len code : ℕ) → Type 0
-RefusesRecord IsFound held room len code =
+abbrev pub RefusesRecord : (IsFound : NodeState → Option Subscriber → Type 0) → Held → (buffer len code : ℕ) → Type 0
+RefusesRecord IsFound held buffer len code =
     (code ≡ 3) × ((node : NodeState) (found : Option Subscriber) → IsFound node found → ⊥)
     ⊎ IsClosed held code
-    ⊎ ((is : RegisterState) × (held ≡ Some is) × (found : Option Subscriber) × IsFound is.node found × RefusesFound found room len code)
+    ⊎ ((is : RegisterState) × (held ≡ Some is) × (found : Option Subscriber) × IsFound is.node found × RefusesFound found buffer len code)
 
 -- ---- open dialogues
 
--- The listing of a shard's open dialogues is written at the front of the room.
+-- The listing of a shard's open dialogues is written at the front of the buffer.
 pub record ListsDialogues (shard : ℕ) (held : Held) (room_before : List ℕ) (count : ℕ) (room_after : List ℕ) : Type 0 where
   pub is : RegisterState
   pub held_is : held ≡ Some is
@@ -69,7 +69,7 @@ pub record ListsDialogues (shard : ℕ) (held : Held) (room_before : List ℕ) (
   pub writes : Writes text room_before count room_after
 
 -- There is no such shard (3), or the handle is closed, or the listing is not written.
-abbrev pub RefusesDialogues : (shard : ℕ) → Held → (room len code : ℕ) → Type 0
-RefusesDialogues shard held room len code =
+abbrev pub RefusesDialogues : (shard : ℕ) → Held → (buffer len code : ℕ) → Type 0
+RefusesDialogues shard held buffer len code =
     (code ≡ 3) × (16 ≤ shard)
-    ⊎ (shard < 16) × (IsClosed held code ⊎ ((is : RegisterState) × (held ≡ Some is) × RefusesRoom (ListsOpen is.node shard) room len code))
+    ⊎ (shard < 16) × (IsClosed held code ⊎ ((is : RegisterState) × (held ≡ Some is) × RefusesRoom (ListsOpen is.node shard) buffer len code))

@@ -10,8 +10,8 @@ use Rattle.wholenode.specs.declared.fault.Cause.TheVariants.{Memory, JournalFull
 use Rattle.wholenode.specs.Handling.{Refuses}
 use Rattle.wholenode.specs.Ticking.{RefusesTicks}
 use Rattle.audit.specs.Saving.{Saves}
-use Rattle.embed.specs.declared.fault.RoomFault.{RoomFault}
-use Rattle.embed.specs.declared.fault.RoomFault.TheVariants as room
+use Rattle.embed.specs.declared.fault.BufferFault.{BufferFault}
+use Rattle.embed.specs.declared.fault.BufferFault.TheVariants as buffer
 use Rattle.embed.specs.Journals.{ListsShard}
 use Rattle.embed.specs.Keeping.{KeepsNothing}
 use Rattle.embed.specs.LogLines.{IsClockLine, IsEventLine}
@@ -45,14 +45,14 @@ line_of_file (file.BadLine line) = line
 line_of_file (file.Twice line) = line
 line_of_file file.Memory = 0
 
--- The number where a text is not written into a room, and the length that is put, if one is.
-abbrev pub code_of_room : RoomFault → ℕ
-code_of_room (room.Small _) = 2
-code_of_room room.Memory = 8
+-- The number where a text is not written into a buffer, and the length that is put, if one is.
+abbrev pub code_of_room : BufferFault → ℕ
+code_of_room (buffer.Small _) = 2
+code_of_room buffer.Memory = 8
 
-abbrev pub len_of_room : (before : ℕ) → RoomFault → ℕ
-len_of_room before (room.Small len) = len
-len_of_room before room.Memory = before
+abbrev pub len_of_room : (before : ℕ) → BufferFault → ℕ
+len_of_room before (buffer.Small len) = len
+len_of_room before buffer.Memory = before
 
 -- The register does not handle the event for this cause, and the code is its number.
 pub record Hinders (is : RegisterState) (raw : RawEvent) (code : ℕ) : Type 0 where
@@ -104,7 +104,7 @@ RefusesText text held line code =
     ⊎ (code ≡ 9) × (held ≡ None) × IsBadLine text line
     ⊎ (code ≡ 10) × (held ≡ None) × IsTwice text line
 
--- A frame does not fit: it waits, its lengths are put, and a room has fewer octets.
+-- A frame does not fit: it waits, its lengths are put, and a buffer has fewer octets.
 pub record TooSmall (is : RegisterState) (to_room octets_room to_len octets_len : ℕ) : Type 0 where
   pub out : RawOut
   pub first : slice_get is.waiting 0 ≡ Some out
@@ -119,17 +119,17 @@ RefusesNext held to_room octets_room to_len octets_len code =
     ⊎ ((is : RegisterState) × (held ≡ Some is)
     × ((code ≡ 1) × (slice_get is.waiting 0 ≡ None) ⊎ (code ≡ 2) × TooSmall is to_room octets_room to_len octets_len))
 
--- A text of this kind is longer than the room, and its length is put (2); or memory ran out.
-abbrev pub RefusesRoom : (IsText : List ℕ → Type 0) → (room len code : ℕ) → Type 0
-RefusesRoom IsText room len code = IsMemory code ⊎ (code ≡ 2) × ((text : List ℕ) × IsText text × (room < len) × (len ≡ length text))
+-- A text of this kind is longer than the buffer, and its length is put (2); or memory ran out.
+abbrev pub RefusesRoom : (IsText : List ℕ → Type 0) → (buffer len code : ℕ) → Type 0
+RefusesRoom IsText buffer len code = IsMemory code ⊎ (code ≡ 2) × ((text : List ℕ) × IsText text × (buffer < len) × (len ≡ length text))
 
 -- The records are not written.
-abbrev pub RefusesSave : Held → (room len code : ℕ) → Type 0
-RefusesSave held room len code =
-    IsClosed held code ⊎ ((is : RegisterState) × (held ≡ Some is) × RefusesRoom (Saves is.node.shards) room len code)
+abbrev pub RefusesSave : Held → (buffer len code : ℕ) → Type 0
+RefusesSave held buffer len code =
+    IsClosed held code ⊎ ((is : RegisterState) × (held ≡ Some is) × RefusesRoom (Saves is.node.shards) buffer len code)
 
 -- The journal is not cut: there is no such shard (3), or the handle is closed, or the listing is not written.
-abbrev pub RefusesCut : (shard : ℕ) → Held → (room len code : ℕ) → Type 0
-RefusesCut shard held room len code =
+abbrev pub RefusesCut : (shard : ℕ) → Held → (buffer len code : ℕ) → Type 0
+RefusesCut shard held buffer len code =
     (code ≡ 3) × (16 ≤ shard)
-    ⊎ (shard < 16) × (IsClosed held code ⊎ ((is : RegisterState) × (held ≡ Some is) × RefusesRoom (ListsShard is.node shard) room len code))
+    ⊎ (shard < 16) × (IsClosed held code ⊎ ((is : RegisterState) × (held ≡ Some is) × RefusesRoom (ListsShard is.node shard) buffer len code))

@@ -12,7 +12,7 @@ pub const OK: u32 = 0;
 /// No frame waits.
 pub const NONE: u32 = 1;
 
-/// The room is too small.
+/// The buffer is too small.
 pub const SMALL: u32 = 2;
 
 /// Digits, codes, a shard or a clock value are not of their form.

@@ -4,12 +4,12 @@
 //! register, but for the lines of a log that `kunchrol_replay` has done.
 #![tactic(auto)]
 
+mod buffer;
 mod code;
 mod handle;
 mod lookups;
 mod next;
 mod replay;
-mod room;
 
 ghost use Rattle.std.specs.Prelude.{◌≡◌, ◌≢◌, length, true, None, Some};
 ghost use Rattle.hlrcore.specs.Events.{raw_event};
@@ -18,6 +18,7 @@ ghost use Rattle.embed.specs.Registers.{Gives, SetsClocks};
 ghost use Rattle.kunchrol.specs.Calls.{OpensText, Takes, SetsAll, GivesLine, SendsFrame, SavesRecords, CutsJournal, keep_of};
 ghost use Rattle.kunchrol.specs.Refusals.{Refused, RefusesClock, RefusesClocks, RefusesCut, RefusesEvent, RefusesKind, RefusesLine, RefusesNext, RefusesSave, RefusesText};
 
+use buffer::{cut_journal, save_records};
 use code::{ARGUMENT, CLOSED, MEMORY, NONE, OK, OPEN, code_of_cause, code_of_records, line_of};
 use embed::{
     Keep, LogLine, Register, codes_event, expiry_event, frame_event, read_log_line,
@@ -31,7 +32,6 @@ pub use lookups::{
 use machine::numbers::MAX_CLOCK;
 use next::next_frame;
 pub use replay::{kunchrol_drop_frames, kunchrol_replay};
-use room::{cut_journal, save_records};
 use std::alloc::Global;
 
 /// The release: 65,536 times its first number, 256 times its second, and its third. This is 0.1.0.
@@ -227,7 +227,7 @@ fn answer(register: &mut Register, event: RawEvent) -> u32
 }
 
 /// Takes the frame that is to be sent next: the text of the digits that it goes to, and its octets, each with its length. Where
-/// a room is too small the lengths are put all the same, and the frame still waits.
+/// a buffer is too small the lengths are put all the same, and the frame still waits.
 #[unsafe(no_mangle)]
 pub extern "C" fn kunchrol_next(
     alloc: Global,
@@ -254,43 +254,43 @@ pub extern "C" fn kunchrol_next(
     code
 }
 
-/// Writes the records as a records file into the room, and its length at `len`, also where the room is too small.
+/// Writes the records as a records file into the buffer, and its length at `len`, also if the buffer is too small.
 #[unsafe(no_mangle)]
 pub extern "C" fn kunchrol_save(
     alloc: Global,
     handle: &mut Handle,
-    room: &mut [u8],
+    buffer: &mut [u8],
     len: &mut usize,
 ) -> u32
     ensures saved { result ≡ 0
-        → SavesRecords handle.old.value room.old len.new room.new handle.new.value }
-    ensures why { result ≢ 0 → RefusesSave handle.old.value (length room.old) len.new result }
+        → SavesRecords handle.old.value buffer.old len.new buffer.new handle.new.value }
+    ensures why { result ≢ 0 → RefusesSave handle.old.value (length buffer.old) len.new result }
     ensures unchanged { handle.new.value ≡ handle.old.value }
-    ensures refused { result ≢ 0 → room.new ≡ room.old }
+    ensures refused { result ≢ 0 → buffer.new ≡ buffer.old }
     ensures len { result ≢ 0 → result ≢ 2 → len.new ≡ len.old }
 {
     let Some(register) = handle.take(alloc) else {
         return CLOSED;
     };
-    let code = save_records(&register, room, len);
+    let code = save_records(&register, buffer, len);
     handle.put(register);
     code
 }
 
-/// Cuts the journal of a shard off, with its listing in the room and its length at `len`, also where the room is too small.
+/// Cuts the journal of a shard off, with its listing in the buffer and its length at `len`, also if the buffer is too small.
 #[unsafe(no_mangle)]
 pub extern "C" fn kunchrol_cut(
     alloc: Global,
     handle: &mut Handle,
     shard: u8,
-    room: &mut [u8],
+    buffer: &mut [u8],
     len: &mut usize,
 ) -> u32
     ensures cut { result ≡ 0
-        → CutsJournal handle.old.value shard room.old len.new room.new handle.new.value }
-    ensures why { result ≢ 0 → RefusesCut shard handle.old.value (length room.old) len.new result }
+        → CutsJournal handle.old.value shard buffer.old len.new buffer.new handle.new.value }
+    ensures why { result ≢ 0 → RefusesCut shard handle.old.value (length buffer.old) len.new result }
     ensures refused { result ≢ 0 → handle.new.value ≡ handle.old.value }
-    ensures room { result ≢ 0 → room.new ≡ room.old }
+    ensures buffer { result ≢ 0 → buffer.new ≡ buffer.old }
     ensures len { result ≢ 0 → result ≢ 2 → len.new ≡ len.old }
 {
     let Some(shard) = ShardNumber::new(shard) else {
@@ -299,7 +299,7 @@ pub extern "C" fn kunchrol_cut(
     let Some(mut register) = handle.take(alloc) else {
         return CLOSED;
     };
-    let code = cut_journal(&mut register, shard, room, len);
+    let code = cut_journal(&mut register, shard, buffer, len);
     handle.put(register);
     code
 }

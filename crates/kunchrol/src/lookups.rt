@@ -5,9 +5,9 @@ ghost use Rattle.machine.specs.Deadlines.{IsFirst};
 ghost use Rattle.embed.specs.Lookups.{IsTimerOf};
 ghost use Rattle.kunchrol.specs.Lookups.{IsImsiRecord, IsNumberRecord, ListsDialogues, RefusesDeadline, RefusesDialogues, RefusesRecord, TellsDeadline, WritesRecord};
 
+use crate::buffer::{list_dialogues, write_found};
 use crate::code::{ARGUMENT, CLOSED, NONE, OK};
 use crate::handle::Handle;
-use crate::room::{list_dialogues, write_found};
 use embed::{Register, read_imsi, read_number};
 use hlrcore::ShardNumber;
 use std::alloc::Global;
@@ -40,22 +40,22 @@ fn first_deadline(register: &Register, when: &mut u64) -> u32
     OK
 }
 
-/// Writes the record of a subscriber into the room, as a line of a records file, and its length at `len`, also where the room is too
+/// Writes the record of a subscriber into the buffer, as a line of a records file, and its length at `len`, also if the buffer is too
 /// small. The text of an IMSI.
 #[unsafe(no_mangle)]
 pub extern "C" fn kunchrol_record(
     alloc: Global,
     handle: &mut Handle,
     imsi: &[u8],
-    room: &mut [u8],
+    buffer: &mut [u8],
     len: &mut usize,
 ) -> u32
     ensures written { result ≡ 0 → WritesRecord (IsImsiRecord imsi.now)
-        handle.old.value room.old len.new room.new }
+        handle.old.value buffer.old len.new buffer.new }
     ensures why { result ≢ 0 → RefusesRecord (IsImsiRecord imsi.now)
-        handle.old.value (length room.old) len.new result }
+        handle.old.value (length buffer.old) len.new result }
     ensures unchanged { handle.new.value ≡ handle.old.value }
-    ensures refused { result ≢ 0 → room.new ≡ room.old }
+    ensures refused { result ≢ 0 → buffer.new ≡ buffer.old }
     ensures len { result ≢ 0 → result ≢ 2 → len.new ≡ len.old }
 {
     let Some(imsi) = read_imsi(imsi) else {
@@ -64,7 +64,7 @@ pub extern "C" fn kunchrol_record(
     let Some(register) = handle.take(alloc) else {
         return CLOSED;
     };
-    let code = write_found(alloc, register.record(&imsi), room, len);
+    let code = write_found(alloc, register.record(&imsi), buffer, len);
     handle.put(register);
     code
 }
@@ -75,15 +75,15 @@ pub extern "C" fn kunchrol_record_of_number(
     alloc: Global,
     handle: &mut Handle,
     msisdn: &[u8],
-    room: &mut [u8],
+    buffer: &mut [u8],
     len: &mut usize,
 ) -> u32
     ensures written { result ≡ 0 → WritesRecord (IsNumberRecord msisdn.now)
-        handle.old.value room.old len.new room.new }
+        handle.old.value buffer.old len.new buffer.new }
     ensures why { result ≢ 0 → RefusesRecord (IsNumberRecord msisdn.now)
-        handle.old.value (length room.old) len.new result }
+        handle.old.value (length buffer.old) len.new result }
     ensures unchanged { handle.new.value ≡ handle.old.value }
-    ensures refused { result ≢ 0 → room.new ≡ room.old }
+    ensures refused { result ≢ 0 → buffer.new ≡ buffer.old }
     ensures len { result ≢ 0 → result ≢ 2 → len.new ≡ len.old }
 {
     let Some(msisdn) = read_number(msisdn) else {
@@ -92,24 +92,24 @@ pub extern "C" fn kunchrol_record_of_number(
     let Some(register) = handle.take(alloc) else {
         return CLOSED;
     };
-    let code = write_found(alloc, register.record_by_number(&msisdn), room, len);
+    let code = write_found(alloc, register.record_by_number(&msisdn), buffer, len);
     handle.put(register);
     code
 }
 
-/// Writes the listing of a shard's open dialogues into the room, and its length at `len`, also where the room is too small.
+/// Writes the listing of a shard's open dialogues into the buffer, and its length at `len`, also if the buffer is too small.
 #[unsafe(no_mangle)]
 pub extern "C" fn kunchrol_dialogues(
     alloc: Global,
     handle: &mut Handle,
     shard: u8,
-    room: &mut [u8],
+    buffer: &mut [u8],
     len: &mut usize,
 ) -> u32
-    ensures listed { result ≡ 0 → ListsDialogues shard handle.old.value room.old len.new room.new }
-    ensures why { result ≢ 0 → RefusesDialogues shard handle.old.value (length room.old) len.new result }
+    ensures listed { result ≡ 0 → ListsDialogues shard handle.old.value buffer.old len.new buffer.new }
+    ensures why { result ≢ 0 → RefusesDialogues shard handle.old.value (length buffer.old) len.new result }
     ensures unchanged { handle.new.value ≡ handle.old.value }
-    ensures refused { result ≢ 0 → room.new ≡ room.old }
+    ensures refused { result ≢ 0 → buffer.new ≡ buffer.old }
     ensures len { result ≢ 0 → result ≢ 2 → len.new ≡ len.old }
 {
     let Some(shard) = ShardNumber::new(shard) else {
@@ -118,7 +118,7 @@ pub extern "C" fn kunchrol_dialogues(
     let Some(register) = handle.take(alloc) else {
         return CLOSED;
     };
-    let code = list_dialogues(&register, shard, room, len);
+    let code = list_dialogues(&register, shard, buffer, len);
     handle.put(register);
     code
 }

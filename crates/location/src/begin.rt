@@ -171,7 +171,7 @@ fn requested(indication: &Indication) -> Option<&ContextName>
 
 /// A received Begin: answered with an Abort if its dialogue is not accepted, otherwise by its procedure. A dialogue that opens
 /// has the id `new`. Only the effect of the components allocates.
-// A call of its own makes the outcome where it stays; where it is inlined, each of the enums in it is copied part by part.
+// A call of its own makes the outcome where it stays; if it is inlined, each of the enums in it is copied part by part.
 #[inline(never)]
 pub fn begins(
     alloc: Global,

@@ -33,5 +33,6 @@ pub mod Opened
 pub mod Growing
 pub mod Openings
 pub mod Unions
+pub mod Unseen
 pub mod Turned
 pub mod Purging

@@ -3,18 +3,18 @@
 
 ghost use Rattle.std.specs.Prelude.{◌≡◌, ◌^◌, ℕ, ℤ, pos, negsuc, List, Option, Some, None, [], ◌∷◌, true, false};
 ghost use Rattle.std.specs.Ordering.{is_gt};
-ghost use Rattle.machine.specs.Received.{Bad, Begin, Component, Continue, Discard, End, General, Ignored, Invoke, Number, OfError, OfInvoke, OfResult, Read, Refuse, Reject, ResultNotLast, ReturnError, Side};
+ghost use Rattle.machine.specs.Received.{Abort, Bad, Begin, Component, Continue, Discard, End, General, Ignored, Invoke, Number, OfError, OfInvoke, OfResult, Read, Refuse, Reject, ResultNotLast, ReturnError, Side, Typed, Update};
 ghost use Rattle.machine.specs.Sent.{Cancel, Cause, Insert, LocationCancellation, MsPurging, NetworkLocUp, NoCause, Refusing, Rejection, RouteResult, SentAbort, SentBegin, SentContinue, SentEnd, SentError, ShortMsgGateway, UpdateProcedure, UpdateResult, Why};
 ghost use Rattle.machine.specs.State.{IsIdOf, OperationSent, State, Transaction, Updates, WaitForReject};
-ghost use Rattle.machine.specs.Events.{Codes, Frame, Withdraw};
-ghost use Rattle.machine.specs.Turns.{Dismissed, triple_cmp, turn_of_verdict};
+ghost use Rattle.machine.specs.Events.{Codes, Expire, Frame, Withdraw};
+ghost use Rattle.machine.specs.Turns.{Dismissed, TurnsTo, triple_cmp, turn_of_verdict};
 ghost use Rattle.machine.specs.declared.numbers.TheConstants.{MAX_DIALOGUES, MAX_ENTRIES, SHARDS};
 ghost use Rattle.machine.specs.Contexts.{name_of};
 ghost use Rattle.machine.specs.Transactions.{CloseComes, ContinueComes, ForIt, IsSent, Nothing, OwnClose, OwnEnd, Unassigned, row, transact};
 ghost use Rattle.machine.specs.Effect.{rejection};
 ghost use Rattle.machine.specs.Routing.{route};
-ghost use Rattle.machine_laws.specs.Worked.{at_a, at_b, begin_in, continue_to, directory, first_imsi, first_msisdn, first_record, gateway, hlr, id_a, id_b, id_c, id_d, one, result_of, route_of, second_imsi, second_record, start, theirs, update_of, vlr_a, vlr_b};
-ghost use Rattle.machine_laws.specs.Play.{expires_at, is_changed, receives, waits};
+ghost use Rattle.machine_laws.specs.Worked.{at_a, at_b, begin_in, continue_to, directory, fifth_imsi, first_imsi, first_msisdn, first_record, gateway, hlr, id_a, id_b, id_c, id_d, id_e, one, result_of, route_of, second_imsi, second_record, start, theirs, update_of, vlr_a, vlr_b};
+ghost use Rattle.machine_laws.specs.Play.{expires_at, expiry_at, is_changed, receives, waits};
 
 // Components (Q.774, component sublayer)
 
@@ -48,7 +48,7 @@ pub fn late_and_linked_components()
 {}
 
 /// The order of the checks of an Invoke: its id, then what it is linked to at its place in the list, then its operation. Once
-/// the first Invoke of a Begin is accepted, its id is in use.
+/// the first Invoke of a Begin is accepted, its id is in use, for the third component as for the second.
 pub fn checks_of_an_invoke()
     ensures { let begun = receives start vlr_b
         (begin_in NetworkLocUp (update_of second_imsi at_b ∷ [])) id_d in
@@ -65,6 +65,11 @@ pub fn checks_of_an_invoke()
         (route_of first_msisdn ∷ route_of first_msisdn ∷ [])) id_a).answer.sent
         ≡ one gateway (SentEnd theirs (Some ShortMsgGateway)
         (rejection (Some (pos 1)) OfInvoke 0 ∷ [])
+        (RouteResult (pos 1) first_imsi at_a.msc None ∷ [])))
+        × ((receives start gateway (begin_in ShortMsgGateway
+        (route_of first_msisdn ∷ Bad None 0 ∷ route_of first_msisdn ∷ [])) id_a).answer.sent
+        ≡ one gateway (SentEnd theirs (Some ShortMsgGateway)
+        (rejection None General 0 ∷ rejection (Some (pos 1)) OfInvoke 0 ∷ [])
         (RouteResult (pos 1) first_imsi at_a.msc None ∷ []))) }
 {}
 
@@ -77,13 +82,15 @@ pub fn no_invoke_from_the_peer()
         × (asks (is_changed start first_imsi (Codes (0x11 ∷ [])) id_a).state ≡ rejected) }
 {}
 
-/// The frame that opens or ends a dialogue carries the Rejects.
+/// The frame that opens or ends a dialogue carries the Rejects; so does the End of an update that was overtaken.
 pub fn rejects_go_along()
     ensures { let begun = receives start vlr_b
         (begin_in NetworkLocUp (update_of first_imsi at_b ∷ Bad None 0 ∷ [])) id_a in
         let done = receives begun.state vlr_b (continue_to id_a (result_of (pos 1) ∷ Bad None 0 ∷ [])) id_b in
         let failed = receives begun.state vlr_b (continue_to id_a (ReturnError (pos 1) (Number 34) ∷ Bad None 0 ∷ [])) id_b in
         let over = receives done.state vlr_a (continue_to id_b (Bad None 0 ∷ result_of (pos 1) ∷ [])) id_c in
+        let other = receives begun.state vlr_b (begin_in NetworkLocUp (update_of first_imsi at_b ∷ [])) id_b in
+        let overtaken = receives other.state vlr_b (continue_to id_a (result_of (pos 1) ∷ Bad None 0 ∷ [])) id_c in
         let bad = rejection None General 0 ∷ [] in
         (begun.answer.sent ≡ one vlr_b (SentContinue id_a theirs (Some NetworkLocUp) bad
         (Insert (pos 1) None (Some first_msisdn) first_record.codes ∷ [])))
@@ -98,7 +105,8 @@ pub fn rejects_go_along()
               (Cancel (pos 1) first_imsi UpdateProcedure ∷ []);
         } ∷ [])
         × (failed.answer.sent ≡ one vlr_b (SentEnd theirs None bad (SentError (pos 1) 34 ∷ [])))
-        × (over.answer.sent ≡ one vlr_a (SentEnd theirs None bad [])) }
+        × (over.answer.sent ≡ one vlr_a (SentEnd theirs None bad []))
+        × (overtaken.answer.sent ≡ one vlr_b (SentEnd theirs None bad (SentError (pos 1) 34 ∷ []))) }
 {}
 
 /// A Reject of an insert fails the update if its problem is a general or an invoke problem; one of a result or of an error, which
@@ -206,8 +214,8 @@ pub fn refused_before_components()
 
 // Timers, clocks and shards
 
-/// The register waits 20 ticks for an answer, and then 5 for a Reject of it; then it forgets this invocation alone, and the update
-/// stays the current one. A clock never goes back, and never beyond 2^62.
+/// The register waits 20 ticks for an answer, from the value of the clock at which it asked, and then 5 for a Reject of it; then
+/// it forgets this invocation alone, and the update stays the current one. A clock never goes back, and never beyond 2^62.
 pub fn timers_and_clocks()
     ensures timers { let begun = receives start vlr_b
         (begin_in NetworkLocUp (update_of second_imsi at_b ∷ [])) id_d in
@@ -218,6 +226,13 @@ pub fn timers_and_clocks()
           invocations =
               record { id = pos 1; was = WaitForReject; deadline = 8 }
               ∷ record { id = pos 2; was = OperationSent; deadline = 20 } ∷ [];
+          kind = Updates at_b (pos 1);
+        }) }
+    ensures later { (receives (waits start 1 10) vlr_b
+        (begin_in NetworkLocUp (update_of first_imsi at_b ∷ [])) id_a).state.dialogues id_a ≡ Some (record {
+          subscriber = first_imsi;
+          transaction = record { peer = vlr_b; remote = Some theirs };
+          invocations = record { id = pos 1; was = OperationSent; deadline = 30 } ∷ [];
           kind = Updates at_b (pos 1);
         }) }
     ensures forgotten { let begun = receives start vlr_b
@@ -247,13 +262,42 @@ pub fn order_of_what_is_due()
         × (is_gt (triple_cmp 20 id_a (negsuc 0) 20 id_a (pos 0)) ≡ false) }
 {}
 
+/// Two timers are due, at 20 and at 30: an expiry takes the one at 20, and not the other, whose id is the lesser.
+pub fn earlier_of_two_timers()
+    ensures { let first = receives start vlr_b
+        (begin_in NetworkLocUp (update_of first_imsi at_b ∷ [])) id_b in
+        let other = receives (waits first.state 1 10) vlr_b (begin_in NetworkLocUp (update_of fifth_imsi at_b ∷ [])) id_a in
+        let both = waits other.state 1 30 in
+        let takes = λ (id : List ℕ). TurnsTo both (Expire 1) (expiry_at id (both.dialogues id) (pos 1)) in
+        takes id_b × (takes id_a → ⊥) }
+{}
+
 /// A message for an id of four octets goes to the shard of its first octet, if there is such a shard, and otherwise to shard 0.
 pub fn shards_of_ids()
     ensures { let shard_for = λ (id : List ℕ). route directory
         (Frame gateway (Read (continue_to id []))) in
         (shard_for (15 ∷ 0 ∷ 1 ∷ 0 ∷ []) ≡ 15)
         × (shard_for (16 ∷ 0 ∷ 1 ∷ 0 ∷ []) ≡ 0)
-        × (shard_for (1 ∷ 0 ∷ 1 ∷ []) ≡ 0) }
+        × (shard_for (1 ∷ 0 ∷ 1 ∷ []) ≡ 0)
+        × (route directory (Frame gateway (Read (End id_e None []))) ≡ 3)
+        × (route directory (Frame gateway (Read (Abort id_e))) ≡ 3) }
+{}
+
+/// A Begin is for the subscriber that the argument of its first component names, even if that Invoke is linked and therefore
+/// rejected; without such an argument it is for shard 0.
+pub fn shards_of_begins()
+    ensures { let shard_for = λ (component : Component). route directory
+        (Frame vlr_b (Read (begin_in NetworkLocUp (component ∷ update_of second_imsi at_b ∷ [])))) in
+        let linked = Invoke (pos 1) (Some (pos 9)) (Number 2) (Some (Typed (Update first_imsi at_b))) in
+        (shard_for (update_of first_imsi at_b) ≡ 1)
+        × (shard_for linked ≡ 1)
+        × (shard_for (Bad None 0) ≡ 0)
+        × ((receives start vlr_b (begin_in NetworkLocUp (linked ∷ [])) id_a).answer ≡ record {
+          id = None;
+          subject = Some first_imsi;
+          sent = one vlr_b
+              (SentEnd theirs (Some NetworkLocUp) (rejection (Some (pos 1)) OfInvoke 5 ∷ []) []);
+        }) }
 {}
 
 /// A local id has four octets, the shard's first; of the other three one at least is not zero.

@@ -4,7 +4,7 @@
 ghost use Rattle.std.specs.Prelude.{◌≡◌, ℕ, pos, List, Some, None, [], ◌∷◌, true, false};
 ghost use Rattle.machine.specs.Received.{Component, End, Invoke, Number, OfInvoke, Read, ResultNotLast, Route, Typed};
 ghost use Rattle.machine.specs.Sent.{Cancel, Cause, Insert, LocationCancellation, MsPurging, NetworkLocUp, PurgeResult, RouteResult, SentAbort, SentBegin, SentComponent, SentEnd, SentError, ShortMsgGateway, SubscriberDataMngt, SubscriptionWithdraw};
-ghost use Rattle.machine.specs.State.{IsFull, State};
+ghost use Rattle.machine.specs.State.{Data, IsFull, OperationSent, State};
 ghost use Rattle.machine.specs.Step.{Answer, HasNoRoom, Step};
 ghost use Rattle.machine.specs.Events.{Codes, Frame, Operator, Withdraw};
 ghost use Rattle.machine.specs.SmRoute.{NoRoute, RouteTo, sm_route};
@@ -135,6 +135,17 @@ pub fn codes_changed()
         × ((is_changed start second_imsi (Codes []) id_d).answer.sent ≡ [])
         × ((is_changed start hlr (Codes []) id_d).answer
         ≡ record { id = None; subject = None; sent = [] }) }
+{}
+
+/// New codes open a dialogue whose peer is the VLR number of the register, not its MSC number.
+pub fn peer_of_new_codes()
+    ensures { (is_changed start first_imsi (Codes (0x11 ∷ [])) id_a).state.dialogues id_a
+        ≡ Some (record {
+          subscriber = first_imsi;
+          transaction = record { peer = at_a.vlr; remote = None };
+          invocations = record { id = pos 1; was = OperationSent; deadline = 20 } ∷ [];
+          kind = Data;
+        }) }
 {}
 
 /// New codes during an update: the update fails when it would complete, whether or not a register served.

@@ -4,6 +4,7 @@
 
 pub mod dialogue_examples;
 pub mod examples;
+pub mod state_examples;
 pub mod update_examples;
 
 ghost use Rattle.std.specs.Prelude.{◌≡◌, ◌≢◌, ℕ, ℤ, Option, None, Some, is_some, ◌<◌, ◌≤◌, List, [], ◌∷◌, ◌++◌, ◌&&◌, ◌||◌, ◌⊎◌, true, false, length};

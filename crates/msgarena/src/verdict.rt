@@ -96,7 +96,7 @@ fn read_continue(
     }
 }
 
-/// The verdict on an End: discarded where a Begin would be refused.
+/// The verdict on an End: discarded if a Begin would be refused.
 fn read_end(alloc: Global, destination: RemoteId, parts: Portions) -> Result<Verdict, AllocError>
     ensures { IfOk result (λ found. let m = frames.End destination (portions parts.entry) in
         seen found ≡ checked m (read_in m)) }

@@ -46,7 +46,7 @@ with_octets tag a b all behind same e = e ∙ ap (λ x. spelled (Primitive tag x
 pub size_behind : (n : ℕ) (old : List ℕ) (behind : List Tree) → n ≡ length old → old ≡ spelled behind → n ≡ length (spelled behind)
 size_behind n old behind size same = size ∙ ap length same
 
--- the last of the inserts after the first comes before what is behind them
+-- the last of the inserts after the first comes before what is after them
 pub last_put : (insert : ℕ → SentComponent) (count place : ℕ) (behind : List Tree) → count ≡ suc place
     → map component_tree (map insert (below place)) ++ component_tree (insert place) ∷ behind
     ≡ map component_tree (map insert (below count)) ++ behind

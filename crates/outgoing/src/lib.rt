@@ -4,9 +4,9 @@
 //! what it sends without allocating. The octets are the one spelling of the message's tree that is sent.
 #![tactic(auto)]
 
+mod buffer;
 mod component;
 mod message;
-mod room;
 mod spelling;
 mod written_aborts;
 mod written_components;

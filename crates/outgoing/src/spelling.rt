@@ -4,8 +4,8 @@ ghost use Rattle.std.specs.Prelude.{◌≡◌, ◌<◌, IfOk, IfSome};
 ghost use Rattle.frames.specs.SentTrees.{octets_of_sent};
 ghost use Rattle.outgoing.specs.Seen.{message};
 
+use crate::buffer::{Buffer, NoRoom};
 use crate::message::SentMessage;
-use crate::room::{NoRoom, Room};
 use crate::written_messages::put_message;
 use std::alloc::{AllocError, Global};
 
@@ -21,33 +21,33 @@ fn copied(alloc: Global, octets: &[u8]) -> Result<Vec<u8>, AllocError>
     Ok(copy)
 }
 
-/// The octets of a message, written in this room, or none where they do not fit in it.
+/// The octets of a message, written in this buffer, or none if they do not fit in it.
 fn written(
     alloc: Global,
     sent: &SentMessage,
-    room: &mut [u8],
+    buffer: &mut [u8],
 ) -> Result<Option<Vec<u8>>, AllocError>
     ensures { IfOk result (λ found. IfSome found (λ octets.
         octets.items ≡ octets_of_sent (message sent.now))) }
 {
-    let mut room = Room::new(room);
-    match put_message(&mut room, sent) {
-        Ok(()) => Ok(Some(copied(alloc, room.as_slice())?)),
+    let mut buffer = Buffer::new(buffer);
+    match put_message(&mut buffer, sent) {
+        Ok(()) => Ok(Some(copied(alloc, buffer.as_slice())?)),
         Err(NoRoom) => Ok(None),
     }
 }
 
-/// The octets of a message, written in a room of this size from the heap, or of twice the size, and so on, until they fit.
+/// The octets of a message, written in a buffer of this size from the heap, or of twice the size, and so on, until they fit.
 fn long_octets(alloc: Global, sent: &SentMessage, size: usize) -> Result<Vec<u8>, AllocError>
     requires { 0 < size }
     ensures { IfOk result (λ octets. octets.items ≡ octets_of_sent (message sent.now)) }
 {
-    let mut room = Vec::new(alloc);
-    room.resize(size, 0)?;
-    match written(alloc, sent, &mut room)? {
+    let mut buffer = Vec::new(alloc);
+    buffer.resize(size, 0)?;
+    match written(alloc, sent, &mut buffer)? {
         Some(octets) => Ok(octets),
         None => {
-            drop(room);
+            drop(buffer);
             long_octets(alloc, sent, 2 * size)
         }
     }

@@ -30,7 +30,7 @@ cut_found at text ds rest other are is =
     let digits : digits_in (text_of ds) ≡ Some ds = number_again (text_of ds) ds (refl, are) in
     rw (front, next.2, digits) refl
 
--- no digits with a part behind them
+-- no digits with a part after them
 none_cut : (at : ℕ) (text : List ℕ) (ps : List (List ℕ)) → text ≡ join_with_byte at ps
     → ((ds rest : List ℕ) → AreSomeDigits ds → text ≡ text_of ds ++ at ∷ rest → ⊥) → None ≡ first_digits ps
 none_cut at text [] joined none = refl
@@ -52,7 +52,7 @@ cut_is at text (Some r) other found only = cut_found at text r.0 r.1.now other f
 
 -- ---- parts that begin with two numbers
 
--- what reads two numbers and then the parts behind them, of which there is one
+-- what reads two numbers and then the parts after them, of which there is one
 abbrev by_two : {X : Type 0} → (List ℕ → List ℕ → List (List ℕ) → Option X) → List (List ℕ) → Option X
 by_two after ps = first_digits ps >>= λ a. first_digits a.1 >>= λ b. after a.0 b.0 b.1
 

@@ -31,7 +31,7 @@ None >>= f = None
 abbrev pub is_text : List ℕ → List ℕ → Bool
 is_text a b = pointwise nat_eq a b
 
--- The digits that the first part is, and the parts behind it, of which there is one.
+-- The digits that the first part is, and the parts after it, of which there is one.
 abbrev pub first_digits : List (List ℕ) → Option (List ℕ × List (List ℕ))
 first_digits (first ∷ next ∷ more) = option_map (λ digits. (digits, next ∷ more)) (digits_in first)
 first_digits _ = None
@@ -76,7 +76,7 @@ register_of (vlr ∷ msc ∷ lmsi ∷ mark ∷ []) =
     digits_in vlr >>= λ v. digits_in msc >>= λ m. lmsi_in lmsi >>= λ l. purged_in mark >>= λ p. Some (record { vlr = v; msc = m; lmsi = l }, p)
 register_of _ = None
 
--- The same behind the numbers of the VLR and the MSC.
+-- The same after the numbers of the VLR and the MSC.
 unfoldable pub register_after : List ℕ → List ℕ → List (List ℕ) → Option (Register × Bool)
 register_after vlr msc (lmsi ∷ mark ∷ []) = lmsi_in lmsi >>= λ l. purged_in mark >>= λ p. Some (record { vlr = vlr; msc = msc; lmsi = l }, p)
 register_after vlr msc _ = None
@@ -104,7 +104,7 @@ record_of One (imsi ∷ msisdn ∷ codes ∷ roam ∷ register ∷ []) = subscri
 record_of Two (imsi ∷ msisdn ∷ codes ∷ roam ∷ register ∷ mark ∷ []) = withdrawn_in mark >>= λ w. subscriber_of imsi msisdn codes roam register w
 record_of _ _ = None
 
--- The same behind the numbers of an IMSI and an MSISDN.
+-- The same after the numbers of an IMSI and an MSISDN.
 unfoldable pub record_after : Version → List ℕ → List ℕ → List (List ℕ) → Option Subscriber
 record_after One imsi msisdn (codes ∷ roam ∷ register ∷ []) = subscriber_from imsi msisdn codes roam register false
 record_after Two imsi msisdn (codes ∷ roam ∷ register ∷ mark ∷ []) = withdrawn_in mark >>= λ w. subscriber_from imsi msisdn codes roam register w

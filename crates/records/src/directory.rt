@@ -83,7 +83,7 @@ impl Directory {
         find_in(&self.entries, msisdn)
     }
 
-    /// The same where the table points to the entry. Otherwise `None`, also where there is one.
+    /// The same if the table points to the entry. Otherwise `None`, also if there is one.
     fn find_near(&self, msisdn: &IsdnAddress) -> Option<Imsi>
         ensures { IfSome result (λ imsi. map.get self.now msisdn.now ≡ Some imsi) }
     {

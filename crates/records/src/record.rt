@@ -17,7 +17,7 @@ pub struct Record {
     pub roam: Roam,
     /// The serving register.
     pub register: Option<Register>,
-    /// The teleservice codes (TS 29.002, TeleserviceCode), in the order of the file. They stand behind the words of eight octets, so
+    /// The teleservice codes (TS 29.002, TeleserviceCode), in the order of the file. They stand after the words of eight octets, so
     /// that a record has no gap.
     pub codes: ShortList<32>,
     /// Whether the serving register has purged the subscriber (TS 23.012, Purge MS).

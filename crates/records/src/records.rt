@@ -199,7 +199,7 @@ impl Records {
         Ok(Records::of_sorted(self.alloc, self.in_order.clone()?))
     }
 
-    /// Makes the table. Where its memory is refused there is none.
+    /// Makes the table. If its memory is refused there is none.
     fn make_starts(&mut self)
         ensures { self.new ≡ self.old }
     {
@@ -226,7 +226,7 @@ fn place_of(records: &[Record], starts: &Starts, imsi: &Imsi) -> Option<usize>
     place_in(records, imsi)
 }
 
-/// The same where the table points to the record. Otherwise `None`, also where there is one.
+/// The same if the table points to the record. Otherwise `None`, also if there is one.
 fn place_near(records: &[Record], starts: &Starts, imsi: &Imsi) -> Option<usize>
     ensures { IfSome result (λ at. IsPlaceOf records.now imsi.now at) }
 {
@@ -237,7 +237,7 @@ fn place_near(records: &[Record], starts: &Starts, imsi: &Imsi) -> Option<usize>
 }
 
 /// Where the record with this IMSI is, which is sought by halves. A record that is found is the one that is sought, also
-/// where the records are in no order.
+/// if the records are in no order.
 fn place_in(records: &[Record], imsi: &Imsi) -> Option<usize>
     ensures found { IfSome result (λ at. IsPlaceOf records.now imsi.now at) }
     ensures none { AreInOrder records.now

@@ -36,10 +36,10 @@ pub(crate) fn imsi_word(imsi: &Imsi) -> u64 {
 /// every step.
 ///
 /// The table is a hint and no more. What is sought is compared with the entries that it points to, and what is not
-/// among them is sought among all. So nothing needs to be known of it, and where its memory was refused it is empty.
+/// among them is sought among all. So nothing needs to be known of it, and if its memory was refused it is empty.
 ///
 /// Limitation: the stretches are of one size, with fewer than two for each entry, so that the table has no more than
-/// 8 octets for each of them. Where words are spread unevenly, as where MSISDNs or IMSIs are in blocks far from one another,
+/// 8 octets for each of them. If words are spread unevenly, say as MSISDNs or IMSIs are in blocks far from one another,
 /// many share a stretch, and those are searched by halves.
 #[derive(Drop)]
 pub(crate) struct Starts {
@@ -47,7 +47,7 @@ pub(crate) struct Starts {
     first: u64,
     /// Each stretch has as many words as two to this power.
     shift: u32,
-    /// The place at which the entries of each stretch begin, and behind them the place at which those of the last end.
+    /// The place at which the entries of each stretch begin, and after them the place at which those of the last end.
     places: Vec<u32>,
 }
 
@@ -73,7 +73,7 @@ impl Starts {
         starts
     }
 
-    /// Puts in the places of all stretches, or none where there is no memory for them, or where a place has no number.
+    /// Puts in the places of all stretches, or none if there is no memory for them, or if a place has no number.
     fn fill<T: Worded>(&mut self, entries: &[T]) -> Result<(), AllocError> {
         let (Some(last), Ok(count)) = (entries.last(), u32::try_from(entries.len())) else {
             return Ok(());

@@ -7,6 +7,8 @@
 #[cfg(test)]
 mod given;
 #[cfg(test)]
+mod image_texts;
+#[cfg(test)]
 mod plans;
 #[cfg(test)]
 mod procedures;

@@ -28,7 +28,7 @@ fn taken(alloc: Global, octets: &[u8]) -> Option<Indication> {
     Round::take(alloc, &mut Bump::new(alloc), from, octets).ok()
 }
 
-/// The outcome of a Begin, none where it is out of memory.
+/// The outcome of a Begin, none if it is out of memory.
 fn begun(alloc: Global, indication: &Indication, records: &Records) -> Option<Outcome> {
     let Verdict::Read(message) = indication.verdict() else {
         return None;

@@ -29,13 +29,13 @@ use std::mem;
 /// For how many entries a journal begins with room: an eighth of what it may have.
 const FIRST_ROOM: usize = 8_192;
 
-/// A shard with its journal, which is legal: its entries lead from the base to the state. Where no entries are kept, the journal is
+/// A shard with its journal, which is legal: its entries lead from the base to the state. If no entries are kept, the journal is
 /// empty, and begins in the current state.
 #[derive(Drop)]
 pub struct Shard {
     alloc: Global,
     keep: Keep,
-    /// The base. Where there is none the journal is empty, and begins in the current state.
+    /// The base. If there is none, the journal is empty, and begins in the current state.
     base: Option<State>,
     entries: Vec<Entry>,
     state: State,
@@ -138,7 +138,7 @@ impl Shard {
     }
 
     /// Handles a clock value for this shard: as `handle` does, with nothing to read. `NotMine` if it is for another shard;
-    /// `JournalFull` if the journal is full; `Memory` if an allocation fails, which can be only where entries are kept. On error nothing
+    /// `JournalFull` if the journal is full; `Memory` if an allocation fails, which can be only if entries are kept. On error nothing
     /// changes.
     pub fn tick(&mut self, shard: ShardNumber, now: u64) -> Result<Handled, ShardFault>
         // A step of the machine over octets, which leaves each open dialogue as it is that the event does not name.
@@ -235,7 +235,7 @@ impl Shard {
 }
 
 /// Handles a clock value for each of these shards, as `Shard::tick` does. `JournalFull` if the journal of one of them is full; `Memory`
-/// if an allocation fails, which can be only where entries are kept. What can fail comes first, in each of them: on error nothing changes.
+/// if an allocation fails, which can be only if entries are kept. What can fail comes first, in each of them: on error nothing changes.
 pub fn tick_all(shards: &mut [Shard], now: u64) -> Result<(), ShardFault>
     ensures ticks { OnOk result (AreTicked now shards.old shards.new) }
     ensures hinders { IfErr result (Hinders shards.old) }
@@ -274,7 +274,7 @@ fn first_entries(alloc: Global, keep: Keep) -> Result<Vec<Entry>, AllocError>
     }
 }
 
-/// If entries are kept, makes room for one more, and keeps the state as the base where there is none yet. `JournalFull` if there are
+/// If entries are kept, makes room for one more, and keeps the state as the base if there is none yet. `JournalFull` if there are
 /// 65,536. What is held stays the same.
 fn make_room(
     keep: Keep,
@@ -320,7 +320,7 @@ fn sent(answer: StepAnswer) -> Handled
     }
 }
 
-/// Copies the state as the base, where there is none yet. What is the base stays the same.
+/// Copies the state as the base, if there is none yet. What is the base stays the same.
 fn keep_base(base: &mut Option<State>, state: &State) -> Result<(), AllocError>
     ensures kept { OnOk result (base.new ≡ Some (base_of base.old state.now)) }
     ensures err { OnErr result (base.new ≡ base.old) }

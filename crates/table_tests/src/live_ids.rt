@@ -175,7 +175,7 @@ fn a_copy_is_a_value_of_its_own(rt: HostRuntime) -> Result<(), Fail> {
     Ok(())
 }
 
-/// Where there is room, the id taken is the one that was next.
+/// If there is room, the id taken is the one that was next.
 const WITH_ROOM: [Step; 4] = [
     Step::IsFull(false),
     Step::NextIs(Some(Tid([3, 0, 0x10, 0]))),

@@ -4,3 +4,7 @@ pub mod SlotLemmas
 pub mod SupplyLemmas
 pub mod NextLemmas
 pub mod StepLemmas
+pub mod UseLemmas
+pub mod ListingLemmas
+pub mod TakenLemmas
+pub mod ResumedLemmas

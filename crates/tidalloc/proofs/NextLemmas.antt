@@ -8,12 +8,12 @@ use Rattle.std.specs.List.{slice_get}
 use Rattle.std.specs.Ordering.{eq_by_cmp}
 use Rattle.std.specs.FinSet as set
 use Rattle.hlr_types.specs.Orders.{octets_cmp}
-use Rattle.hlr_types.proofs.OrderLemmas.{same_octets}
-use Rattle.tidalloc.proofs.IdLemmas.{slot_of-id_at, id_at-generation, IsIdOf-id_at, next_generation-is}
+use Rattle.hlr_types.proofs.OrderLemmas.{eq_octets}
+use Rattle.tidalloc.proofs.IdLemmas.{slot_of-id_at, IsIdOf-id_at, next_generation-is}
 use Rattle.tidalloc.proofs.SlotLemmas.{contains-live_of, within_free}
 use Rattle.tidalloc.specs.declared.slot.Slot.{Slot}
 use Rattle.tidalloc.specs.LiveIds.{id_at, slot_of, next_generation, MayBeTaken}
-use Rattle.tidalloc.specs.Slots.{live_of, ids_of, is_at, was_at, is_free, generation_in, AreSlots}
+use Rattle.tidalloc.specs.Slots.{live_of, ids_of, is_at, comes_at, is_free, generation_in, AreSlots}
 use Rattle.tidalloc.proofs.SupplyLemmas.{slot_next, id_next}
 
 -- no id of the slot is live
@@ -36,17 +36,18 @@ none_at_unused shard q None e = refl
 none_at_unused shard q (Some s) e = elim s.is_live as (λ b. cond b false true ≡ true
     → (b && eq_by_cmp octets_cmp q (id_at shard (slot_of q) s.generation)) ≡ false) [ true ↦ λ e. cc | false ↦ λ e. refl ] e
 
--- an unused slot whose id was freed last has that id's generation
-own_unused : (shard first k : ℕ) (id : List ℕ) (o : Option Slot) → is_unused o ≡ true → was_at shard id o ≡ true → slot_of id ≡ k
-    → id ≡ id_at shard k (generation_in first o)
+-- an id that does not come next at an unused slot is not that slot's next id
+not_coming : (shard first k : ℕ) (id : List ℕ) (o : Option Slot) → is_unused o ≡ true → comes_at shard id o ≡ false → slot_of id ≡ k
+    → id ≡ id_at shard k (next_generation (generation_in first o)) → ⊥
 unfolding is_unused
-own_unused shard first k id None free was here = cc
-own_unused shard first k id (Some s) free was here =
-    elim s.is_live as (λ b. cond b false true ≡ true → cond b true (eq_by_cmp octets_cmp id (id_at shard (slot_of id) s.generation)) ≡ true
-    → id ≡ id_at shard k s.generation) [
-      | true ↦ λ f w. cc
-      | false ↦ λ f w. same_octets id _ w ∙ ap (λ n. id_at shard n s.generation) here
-    ] free was
+not_coming shard first k id None free other here same = cc
+not_coming shard first k id (Some s) free other here same =
+    let is = eq_octets id (id_at shard (slot_of id) (next_generation s.generation)) (same ∙ ap (λ n. id_at shard n (next_generation s.generation)) (sym here)) in
+    elim s.is_live as (λ b. cond b false true ≡ true
+    → cond b false (eq_by_cmp octets_cmp id (id_at shard (slot_of id) (next_generation s.generation))) ≡ false → ⊥) [
+      | true ↦ λ f o. cc
+      | false ↦ λ f o. cc
+    ] free other
 
 module _ (shard : ℕ) (first : ℕ) (slots : List Slot) (free : List ℕ) (freed : Option (List ℕ)) (room of_free : ℕ) (a : AreSlots shard first slots free freed room of_free) where
   -- the next id of an unused slot may be taken
@@ -55,9 +56,9 @@ module _ (shard : ℕ) (first : ℕ) (slots : List Slot) (free : List ℕ) (free
     another id e same =
         let g = generation_in first (slice_get slots k) in
         let here : slot_of id ≡ k = ap slot_of same ∙ slot_of-id_at shard k (next_generation g) small in
-        let was : was_at shard id (slice_get slots k) ≡ true = ap (λ n. was_at shard id (slice_get slots n)) (sym here) ∙ (a.freed id e).own in
-        let own = own_unused shard first k id (slice_get slots k) unused was here in
-        (next_generation-is g (a.generations k)).2 (id_at-generation shard k (next_generation g) g (sym same ∙ own))
+        let other : comes_at shard id (slice_get slots k) ≡ false =
+        ap (λ n. comes_at shard id (slice_get slots n)) (sym here) ∙ (a.freed id e).not_next in
+        not_coming shard first k id (slice_get slots k) unused other here same
 
     pub may_take : MayBeTaken (ids_of shard first slots free freed) (id_at shard k (next_generation (generation_in first (slice_get slots k))))
     may_take =

@@ -11,7 +11,7 @@ use Rattle.tidalloc.proofs.Places.{slice_get-set_same, slice_get-set_other, slic
 use Rattle.tidalloc.proofs.IdLemmas.{slot_of-id_at}
 use Rattle.tidalloc.specs.declared.slot.Slot.{Slot}
 use Rattle.tidalloc.specs.LiveIds.{id_at, slot_of}
-use Rattle.tidalloc.specs.Slots.{ids_from, live_of, is_at, was_at, is_free}
+use Rattle.tidalloc.specs.Slots.{ids_from, live_of, is_at, is_free}
 
 -- an id of another slot
 pub apart_from : (q : List ℕ) (shard n g : ℕ) → n < 4096 → (slot_of q ≡ n → ⊥) → eq_by_cmp octets_cmp q (id_at shard n g) ≡ false
@@ -27,7 +27,7 @@ none_or false c e = refl
 
 module _ (shard : ℕ) (q : List ℕ) where
   -- no id of a later slot is q
-  none_below : (n : ℕ) (slots : List Slot) → n + length slots ≤ 4096 → slot_of q < n → list_any (eq_by_cmp octets_cmp q) (ids_from shard n slots) ≡ false
+  pub none_below : (n : ℕ) (slots : List Slot) → n + length slots ≤ 4096 → slot_of q < n → list_any (eq_by_cmp octets_cmp q) (ids_from shard n slots) ≡ false
   none_below n [] few below = refl
   none_below n (s ∷ slots) few below =
       let rest = none_below (n + 1) slots (omega arith) (omega arith) in
@@ -95,10 +95,10 @@ live_of-take shard old new number g puts was_free =
     or_nothing true b e = refl
     or_nothing false b e = e
 
-pub live_of-give_back : (shard : ℕ) (old new : List Slot) (number g : ℕ) → Puts old new number (record { generation = g; is_live = false })
+pub live_of-give_back : (shard : ℕ) (old new : List Slot) (number g h : ℕ) → Puts old new number (record { generation = h; is_live = false })
     → slice_get old number ≡ Some (record { generation = g; is_live = true })
     → live_of shard new ≡ set.remove (live_of shard old) (id_at shard number g)
-live_of-give_back shard old new number g puts was =
+live_of-give_back shard old new number g h puts was =
     set.same_set octets_total octets_exact _ _ (λ q.
     contains-live_of shard q new puts.still_few
     ∙ elim (cases_eq (slot_of q) number) [
@@ -129,11 +129,6 @@ pub within_free : (slots : List Slot) (k : ℕ) → is_free (slice_get slots k) 
 within_free [] k e = cc
 within_free (s ∷ slots) zero e = omega arith
 within_free (s ∷ slots) (suc k) e = let rest = within_free slots k e in omega arith
-
-pub within_was : (shard : ℕ) (id : List ℕ) (slots : List Slot) (k : ℕ) → was_at shard id (slice_get slots k) ≡ true → k < length slots
-within_was shard id [] k e = cc
-within_was shard id (s ∷ slots) zero e = omega arith
-within_was shard id (s ∷ slots) (suc k) e = let rest = within_was shard id slots k e in omega arith
 
 pub within_at : (shard : ℕ) (id : List ℕ) (slots : List Slot) (k : ℕ) → is_at shard id (slice_get slots k) ≡ true → k < length slots
 within_at shard id [] k e = cc

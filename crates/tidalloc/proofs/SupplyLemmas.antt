@@ -14,17 +14,17 @@ pub counted : (slots : List Slot) → length (generations slots) ≡ length slot
 counted [] = refl
 counted (s ∷ slots) = ap suc (counted slots)
 
-generation_at : (first : ℕ) (slots : List Slot) (k : ℕ) → get_or (generations slots) k first ≡ generation_in first (slice_get slots k)
+pub generation_at : (first : ℕ) (slots : List Slot) (k : ℕ) → get_or (generations slots) k first ≡ generation_in first (slice_get slots k)
 generation_at first [] k = refl
 generation_at first (s ∷ slots) zero = refl
 generation_at first (s ∷ slots) (suc k) = generation_at first slots k
 
-generations-set : (slots : List Slot) (k : ℕ) (s : Slot) → generations (set slots k s) ≡ set (generations slots) k s.generation
+pub generations-set : (slots : List Slot) (k : ℕ) (s : Slot) → generations (set slots k s) ≡ set (generations slots) k s.generation
 generations-set [] k s = refl
 generations-set (t ∷ slots) zero s = refl
 generations-set (t ∷ slots) (suc k) s = ap (λ gs. t.generation ∷ gs) (generations-set slots k s)
 
-generations-push : (slots : List Slot) (s : Slot) → generations (slots ++ s ∷ []) ≡ generations slots ++ s.generation ∷ []
+pub generations-push : (slots : List Slot) (s : Slot) → generations (slots ++ s ∷ []) ≡ generations slots ++ s.generation ∷ []
 generations-push [] s = refl
 generations-push (t ∷ slots) s = ap (λ gs. t.generation ∷ gs) (generations-push slots s)
 
@@ -47,7 +47,7 @@ next_is shard first slots free =
 
 -- ---- an id is taken
 
-all_but_last : (free : List ℕ) (k : ℕ) → take (length (free ++ k ∷ []) - 1) (free ++ k ∷ []) ≡ free
+pub all_but_last : (free : List ℕ) (k : ℕ) → take (length (free ++ k ∷ []) - 1) (free ++ k ∷ []) ≡ free
 all_but_last free k = front free (length (free ++ k ∷ []) - 1) (omega (arith, length-append free (k ∷ [])))
   where
     front : (xs : List ℕ) (n : ℕ) → n ≡ length xs → take n (xs ++ k ∷ []) ≡ xs
@@ -56,7 +56,7 @@ all_but_last free k = front free (length (free ++ k ∷ []) - 1) (omega (arith, 
     front (x ∷ xs) zero e = absurd (omega arith)
     front (x ∷ xs) (suc n) e = ap (λ ys. x ∷ ys) (front xs n (omega arith))
 
-at_used : (gs : List ℕ) (k g : ℕ) → k < length gs → with_generation gs k g ≡ set gs k g
+pub at_used : (gs : List ℕ) (k g : ℕ) → k < length gs → with_generation gs k g ≡ set gs k g
 at_used gs k g h = ap (λ b. cond b (set gs k g) (gs ++ g ∷ [])) (lt-ltb k (length gs) h)
 
 at_end : (gs : List ℕ) (k g : ℕ) → k ≡ length gs → with_generation gs k g ≡ gs ++ g ∷ []

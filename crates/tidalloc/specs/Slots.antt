@@ -1,10 +1,11 @@
--- The table of slots behind the ids.
-use Rattle.std.specs.Prelude.{◌≡◌, ◌≢◌, ℕ, ◌+◌, ◌<◌, ◌≤◌, List, [], ◌∷◌, Bool, true, false, cond, ◌&&◌, Option, Some, None, length, map, slice_get, slice_index}
+-- The table of slots that the ids stand in.
+use Rattle.std.specs.Prelude.{◌≡◌, ◌≢◌, ℕ, ◌+◌, ◌<◌, ◌≤◌, ◌==◌, List, [], ◌∷◌, Bool, true, false, cond, ◌&&◌, Option, Some, None, length, map, slice_get, slice_index}
+use Rattle.std.specs.List.{list_any}
 use Rattle.std.specs.Ordering.{eq_by_cmp}
 use Rattle.std.specs.FinSet as set
 use Rattle.hlr_types.specs.Orders.{octets_cmp}
 use Rattle.tidalloc.specs.declared.slot.Slot.{Slot}
-use Rattle.tidalloc.specs.LiveIds.{LiveIds, Supply, id_at, slot_of}
+use Rattle.tidalloc.specs.LiveIds.{LiveIds, Supply, id_at, slot_of, next_generation}
 
 -- The live ids of these slots, numbered from this number on.
 abbrev pub ids_from : ℕ → ℕ → List Slot → List (List ℕ)
@@ -38,19 +39,19 @@ abbrev pub is_at : ℕ → List ℕ → Option Slot → Bool
 is_at shard id None = false
 is_at shard id (Some s) = s.is_live && eq_by_cmp octets_cmp id (id_at shard (slot_of id) s.generation)
 
--- The slot has this id, or is live.
-abbrev pub was_at : ℕ → List ℕ → Option Slot → Bool
-was_at shard id None = false
-was_at shard id (Some s) = cond s.is_live true (eq_by_cmp octets_cmp id (id_at shard (slot_of id) s.generation))
+-- Whether this is the next id of a slot that is free. Of a slot that was never used it may be.
+abbrev pub comes_at : ℕ → List ℕ → Option Slot → Bool
+comes_at shard id None = true
+comes_at shard id (Some s) = cond s.is_live false (eq_by_cmp octets_cmp id (id_at shard (slot_of id) (next_generation s.generation)))
 
 abbrev pub is_free : Option Slot → Bool
 is_free None = false
 is_free (Some s) = cond s.is_live false true
 
--- The id freed last is not live. If its slot was not used again, it is that slot's id.
+-- The id freed last is not live, and is not the next id of its slot if that is free.
 pub record WasFreed (shard : ℕ) (slots : List Slot) (id : List ℕ) : Type 0 where
   pub not_live : is_at shard id (slice_get slots (slot_of id)) ≡ false
-  pub own : was_at shard id (slice_get slots (slot_of id)) ≡ true
+  pub not_next : comes_at shard id (slice_get slots (slot_of id)) ≡ false
 
 -- The generation before a first use, the slots, the numbers of the free ones, the id freed last, and how many slots and free numbers there
 -- is memory for.
@@ -62,6 +63,8 @@ pub record AreSlots (shard first : ℕ) (slots : List Slot) (free : List ℕ) (f
   pub room_for_free : 4096 ≤ of_free
   pub counted : length free + set.len (live_of shard slots) ≡ length slots
   pub generations : (k : ℕ) → generation_in first (slice_get slots k) < 4096
+  pub begun : (k : ℕ) → 0 < generation_in 1 (slice_get slots k)
   pub free_ones : (i : ℕ) → i < length free → is_free (slice_get slots (slice_index free i)) ≡ true
+  pub all_free : (k : ℕ) → is_free (slice_get slots k) ≡ true → list_any (λ n. k == n) free ≡ true
   pub different : (i j : ℕ) → i < j → j < length free → slice_index free i ≢ slice_index free j
   pub freed : (id : List ℕ) → freed_last ≡ Some id → WasFreed shard slots id

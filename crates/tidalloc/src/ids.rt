@@ -1,10 +1,14 @@
 //! The ids of a shard.
 
-ghost use Rattle.std.specs.Prelude.{◌≡◌, ◌<◌, ◌≤◌, ◌↔◌, true, Some, IfOk, IfSome, OnErr, IsNone, IsFalse, IsTrue, Err};
+ghost use Rattle.std.specs.Prelude.{◌≡◌, ◌<◌, ◌≤◌, ◌↔◌, ◌++◌, ◌∷◌, List, ℕ, true, Some, IfOk, IfSome, OnOk, OnErr, IsNone, IsFalse, IsTrue, Err, option_map, slice_get};
 ghost use Rattle.std.specs.FinSet as set;
-ghost use Rattle.tidalloc.specs.LiveIds.{LiveIds, MayBeTaken, Takes, beginning_after, is_live, next_of, no_ids, given_back, slot_of, slot_if_live, next_use, HaveOwnSlots};
+ghost use Rattle.tidalloc.specs.LiveIds.{LiveIds, MayBeTaken, Takes, beginning_after, is_live, next_of, no_ids, given_back, id_at, slot_of, slot_if_live, next_use, HaveOwnSlots};
+ghost use Rattle.tidalloc.specs.Resumed.{AreTakenAgain, IsNextUnused, IsResumed, ascending, set_back, untaken, with_used};
 
-use crate::slot::{Slot, id_at, next_generation, next_use, same_generations, slot_of};
+use crate::slot::{
+    Slot, generation_before, generation_of, id_at, live_in, next_generation, next_use,
+    same_generations, slot_of,
+};
 use hlr_types::Tid;
 use machine::numbers::MAX_DIALOGUES;
 use std::alloc::{AllocError, Global};
@@ -85,7 +89,7 @@ impl Ids {
         Ok(self.take_one())
     }
 
-    /// Takes the next id, where there is room for one. Does not allocate.
+    /// Takes the next id, if there is room for one. Does not allocate.
     pub fn take_one(&mut self) -> Tid
         requires { set.len self.old.live < 4096 }
         ensures { Takes self.old result self.new }
@@ -168,6 +172,113 @@ impl Ids {
         };
         self.free.push_reserved(slot as u16);
         self.freed_last = Some(id);
+    }
+
+    /// Uses the next slot that was never used, under this id, which is live then: so a shard has again the ids that it had. `false`, and
+    /// nothing changes, if the id is not of this shard and that slot, if its generation is 0, or if all slots are used. Does not allocate.
+    pub fn use_slot(&mut self, id: Tid) -> bool
+        ensures used { IsTrue result ↔ IsNextUnused self.old id }
+        ensures after { IsTrue result → self.new ≡ with_used self.old id }
+        ensures same { IsFalse result → self.new ≡ self.old }
+    {
+        if !self.is_next_unused(id) {
+            return false;
+        }
+        self.slots.push_reserved(Slot {
+            generation: generation_of(id),
+            is_live: true,
+        });
+        true
+    }
+
+    fn is_next_unused(&self, id: Tid) -> bool
+        ensures { IsTrue result ↔ IsNextUnused self.now id }
+    {
+        let slot = self.slots.len();
+        let generation = generation_of(id);
+        if slot == Self::MAX_IDS || generation == 0 {
+            return false;
+        }
+        id == id_at(self.shard, slot, generation)
+    }
+
+    /// As if the live ids had not been taken yet: none is live, and they are the next ones, in ascending order. On error nothing changes.
+    pub fn set_back(&mut self) -> Result<(), AllocError>
+        ensures ok { OnOk result (self.new ≡ set_back self.old) }
+        ensures err { OnErr result (self.new ≡ self.old) }
+    {
+        let ids = self.live_ids()?;
+        for place in (0..ids.len()).rev() {
+            self.untake(ids[place]);
+        }
+        Ok(())
+    }
+
+    /// The live ids, in ascending order.
+    fn live_ids(&self) -> Result<Vec<Tid>, AllocError>
+        ensures { IfOk result (λ ids. ids.items ≡ ascending self.now.live) }
+    {
+        let mut ids = live_in(*self.slots.allocator(), self.shard, &self.slots)?;
+        ids.sort_unstable();
+        Ok(ids)
+    }
+
+    /// As if a live id had not been taken yet. Does not allocate.
+    fn untake(&mut self, id: Tid)
+        requires { is_live self.old id ≡ true }
+        ensures { self.new ≡ record self.old {
+          live = set.remove self.old.live id;
+          supply = untaken self.old.supply id;
+        } }
+    {
+        let place = slot_of(id);
+        let generation = generation_before(self.slots[place].generation);
+        self.slots[place] = Slot {
+            generation,
+            is_live: false,
+        };
+        self.free.push_reserved(place as u16);
+    }
+
+    /// The generation before the first use of a slot.
+    pub fn first(&self) -> u16
+        ensures { result ≡ self.now.supply.first }
+    {
+        self.first
+    }
+
+    /// The id under which a slot is used, or was used last. `None` if it was never used.
+    pub fn id_of_slot(&self, slot: usize) -> Option<Tid>
+        ensures { result ≡ option_map (id_at self.now.shard slot)
+            (slice_get self.now.supply.generations slot) }
+    {
+        match self.slots.get(slot) {
+            Some(used) => Some(id_at(self.shard, slot, used.generation)),
+            None => None,
+        }
+    }
+
+    /// The slots that are free again, the one that was freed last at the end.
+    pub fn free_slots(&self) -> &[u16]
+        ensures { result.now ≡ self.now.supply.free }
+    {
+        &self.free
+    }
+
+    /// Law: what `use_slot` makes of the ids of all slots, and `give_back` then of those that are free, are these ids again, whichever was
+    /// freed last.
+    pub fn law_resumed(&self)
+        ensures { IsResumed self.now }
+    {
+        let _invariant = &self.slots;
+    }
+
+    /// Law: ids that were set back are taken again, each in its turn.
+    pub fn law_taken_again(&self)
+        ensures { (front more : List (List ℕ)) (id : List ℕ)
+            → ascending self.now.live ≡ front ++ id ∷ more → AreTakenAgain self.now id more }
+    {
+        let _invariant = &self.slots;
     }
 
     /// Whether the id is live.

@@ -10,4 +10,4 @@ mod laws;
 mod slot;
 
 pub use ids::{IdFault, Ids};
-pub use laws::{law_generations_in_turn, law_ids_in_turn};
+pub use laws::{law_generations_in_turn, law_ids_in_turn, law_ids_put_back};

@@ -1,9 +1,12 @@
 //! Slots with generations, and the ids that they stand for.
 
-ghost use Rattle.std.specs.Prelude.{◌≡◌, ◌<◌, ◌↔◌, IsTrue, map};
+ghost use Rattle.std.specs.Prelude.{◌≡◌, ◌<◌, ◌≤◌, ◌↔◌, ℕ, IfOk, IsTrue, length, map, slice_get};
 ghost use Rattle.tidalloc.specs.LiveIds.{id_at, slot_of, generation_of, next_generation, next_use};
+ghost use Rattle.tidalloc.specs.Resumed.{generation_before};
+ghost use Rattle.tidalloc.specs.Slots.{generation_in, ids_from};
 
 use hlr_types::Tid;
+use std::alloc::{AllocError, Global};
 
 /// Holds one id at a time.
 #[derive(Clone, Copy)]
@@ -25,6 +28,19 @@ pub(crate) fn next_generation(generation: u16) -> u16
         1
     } else {
         generation + 1
+    }
+}
+
+/// The generation of a slot before it was used at this one.
+pub(crate) fn generation_before(generation: u16) -> u16
+    requires begun { 0 < generation }
+    requires small { generation < 4096 }
+    ensures { result ≡ generation_before generation }
+{
+    if generation == 1 {
+        LAST_GENERATION
+    } else {
+        generation - 1
     }
 }
 
@@ -53,11 +69,27 @@ pub(crate) fn next_use(id: Tid) -> Tid
 }
 
 /// The generation of an id: the twelve bits before those of the slot.
-fn generation_of(id: Tid) -> u16
+pub(crate) fn generation_of(id: Tid) -> u16
     ensures value { result ≡ generation_of id }
     ensures small { result < 4096 }
 {
     (id.number() / 4096) as u16
+}
+
+/// The ids of the slots that are live, by slot.
+pub(crate) fn live_in(alloc: Global, shard: u8, slots: &[Slot]) -> Result<Vec<Tid>, AllocError>
+    requires few { length slots.now ≤ 4096 }
+    requires small { (k : ℕ) → generation_in 0 (slice_get slots.now k) < 4096 }
+    ensures { IfOk result (λ ids. ids.items ≡ ids_from shard 0 slots.now) }
+{
+    let mut ids = Vec::with_capacity(alloc, slots.len())?;
+    for number in 0..slots.len() {
+        let slot = slots[number];
+        if slot.is_live {
+            ids.push(id_at(shard, number, slot.generation))?;
+        }
+    }
+    Ok(ids)
 }
 
 /// Whether the slots of two tables have the same generations.

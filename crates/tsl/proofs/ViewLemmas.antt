@@ -10,9 +10,9 @@ use Rattle.hlr_types.specs.Orders.{octets_cmp}
 use Rattle.hlr_types.specs.Ids.{IsIdOf}
 use Rattle.hlr_types.proofs.OrderLemmas.{octets_total, octets_exact, same_octets, eq_octets}
 use Rattle.machine.specs.State.{Transaction}
-use Rattle.tidalloc.specs.LiveIds.{LiveIds, is_live, slot_of, slot_if_live, no_ids}
+use Rattle.tidalloc.specs.LiveIds.{LiveIds, is_live, slot_of, slot_if_live}
 use Rattle.tsl.specs.declared.transactions.Entry.{Entry}
-use Rattle.tsl.specs.Transactions.{at, count, none_open, transaction_of}
+use Rattle.tsl.specs.Transactions.{at, count, none_with, transaction_of}
 use Rattle.tsl.specs.Table.{entry_at, with_entry, transactions_of, open_of, AreEntries}
 
 -- what an entry stands for
@@ -196,10 +196,13 @@ module _ (ids : LiveIds) (keys : List ℕ) (slab : Slab Entry) (room : ℕ) (a :
       cc
 
 -- ---- nothing open
-pub AreEntries-none : (shard : ℕ) (keys : List ℕ) (slab : Slab Entry) → length keys ≡ 4096 → slab.slots ≡ [] → AreEntries (no_ids shard) keys slab 0
-AreEntries-none shard keys slab all empty =
-    let dead : (id : List ℕ) → is_live (no_ids shard) id ≡ true → ⊥ = λ id live. let none : is_live (no_ids shard) id
-    ≡ false = set.contains-empty octets_cmp id in cc in
+none_live : (ids : LiveIds) → ids.live ≡ set.empty → (id : List ℕ) → is_live ids id ≡ false
+none_live ids none id = ap (λ (live : set.FinSet octets_cmp). set.contains live id) none ∙ set.contains-empty octets_cmp id
+
+pub AreEntries-none : (ids : LiveIds) (keys : List ℕ) (slab : Slab Entry) → ids.live ≡ set.empty → length keys ≡ 4096 → slab.slots ≡ []
+    → AreEntries ids keys slab 0
+AreEntries-none ids keys slab none all empty =
+    let dead : (id : List ℕ) → is_live ids id ≡ true → ⊥ = λ id live. let not_live = none_live ids none id in cc in
     record {
       all_slots = all;
       of_shard = λ id live. absurd (dead id live);
@@ -207,15 +210,15 @@ AreEntries-none shard keys slab all empty =
       no_other = λ key e stands. let none : get slab key ≡ None = ap (λ s. slice_index_or s key None) empty in absurd
           (let x : Some e ≡ None = sym stands ∙ none in cc);
       room_in_slab = let n : slab_len slab ≡ 0 = ap (λ s. slab_len (record slab { slots = s })) empty in omega (arith, n);
-      few = let n : set.len (no_ids shard).live ≡ 0 = set.len-empty octets_cmp in omega (arith, n);
+      few = let n : set.len ids.live ≡ 0 = ap set.len none ∙ set.len-empty octets_cmp in omega (arith, n);
     }
 
-pub open_of-none : (shard : ℕ) (keys : List ℕ) (slab : Slab Entry) → open_of (no_ids shard) keys slab 0 ≡ none_open shard
-open_of-none shard keys slab = λ i. record (none_open shard) { open_ones = empty i }
+pub open_of-none : (ids : LiveIds) (keys : List ℕ) (slab : Slab Entry) → ids.live ≡ set.empty → open_of ids keys slab 0 ≡ none_with ids
+open_of-none ids keys slab none = λ i. record (none_with ids) { open_ones = empty i }
   where
-    empty : (open_of (no_ids shard) keys slab 0).open_ones ≡ map.empty
+    empty : (open_of ids keys slab 0).open_ones ≡ map.empty
     empty = map.same_map octets_total octets_exact _ _ (λ q.
-        at-open_of (no_ids shard) keys slab 0 q ∙ ap (λ b. cond b (stored keys slab q) None) (set.contains-empty octets_cmp q)
+        at-open_of ids keys slab 0 q ∙ ap (λ b. cond b (stored keys slab q) None) (none_live ids none q)
         ∙ sym (map.get-empty octets_cmp q))
 
 -- ---- a copy

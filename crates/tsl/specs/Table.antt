@@ -1,4 +1,4 @@
--- The slab behind the transactions, and its keys by the slot of the id.
+-- The slab that the transactions stand in, and its keys by the slot of the id.
 use Rattle.std.specs.Prelude.{◌≡◌, ℕ, ◌+◌, ◌≤◌, List, [], ◌∷◌, true, Option, Some, None, length, slice_index, option_map}
 use Rattle.std.specs.FinMap as map
 use Rattle.std.specs.FinSet as set

@@ -6,7 +6,7 @@ use Rattle.std.specs.FinMap as map
 use Rattle.machine.specs.State.{Transaction}
 use Rattle.hlr_types.specs.Orders.{octets_cmp}
 use Rattle.hlr_types.specs.Ids.{IsIdOf}
-use Rattle.tidalloc.specs.LiveIds.{Supply, supply_code, unused, next_id, slot_of, after_taking, after_freeing}
+use Rattle.tidalloc.specs.LiveIds.{LiveIds, Supply, supply_code, unused, next_id, slot_of, after_taking, after_freeing}
 use Rattle.tsl.specs.declared.transaction.Transaction as seen
 
 -- ---- one transaction
@@ -71,6 +71,16 @@ none_open shard = record {
   open_ones = map.empty;
   freed_last = None;
   supply = unused 0;
+  room = 0;
+}
+
+-- No transaction is open, and the next ids are those of these.
+abbrev pub none_with : LiveIds → OpenTransactions
+none_with ids = record {
+  shard = ids.shard;
+  open_ones = map.empty;
+  freed_last = ids.freed_last;
+  supply = ids.supply;
   room = 0;
 }
 

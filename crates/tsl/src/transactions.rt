@@ -2,6 +2,7 @@
 
 ghost use Rattle.std.specs.Prelude.{◌≡◌, ◌≢◌, ◌+◌, ◌<◌, ◌≤◌, ◌↔◌, List, ℕ, IsTrue, Some, None, Err, IsOk, IfOk, IfSome, OnOk, OnErr, IsNone, option_map};
 ghost use Rattle.std.specs.FinMap as map;
+ghost use Rattle.std.specs.FinSet as set;
 ghost use Rattle.tsl.specs.Table.{ids_of_entries};
 ghost use Rattle.machine.specs.Transactions.{OwnBegin, Answered, CloseComes, OwnContinue, OwnEnd, OwnClose, IsSent, ForIt, Nothing, transact, row};
 
@@ -70,7 +71,8 @@ impl Model for Transactions {
 
 impl Transactions {
     ghost use Rattle.tidalloc.specs.LiveIds.{next_use};
-    ghost use Rattle.tsl.specs.Transactions.{MayBegin, Begins, IsActive, IsInitiated, HaveIdsOfShard, transaction_of, known_as, initiated, active, at, beginning_after, count, next_of, none_open, with_transaction, closed, slot_if_open, HaveOwnSlots};
+    ghost use Rattle.tidalloc.specs.Resumed.{ascending};
+    ghost use Rattle.tsl.specs.Transactions.{MayBegin, Begins, IsActive, IsInitiated, HaveIdsOfShard, transaction_of, known_as, initiated, active, at, beginning_after, count, next_of, none_open, none_with, with_transaction, closed, slot_if_open, HaveOwnSlots};
     ghost use Rattle.tsl.specs.Opening.{Opens};
     ghost use Rattle.tsl.specs.Received.{received, after, told_continue, told_close, activated};
 
@@ -82,12 +84,30 @@ impl Transactions {
         requires { shard < 16 }
         ensures { IfOk result (λ t. t ≡ none_open shard) }
     {
+        Self::with_ids(alloc, Ids::new(alloc, shard)?)
+    }
+
+    /// No transaction is open, and the next ids are those of these, of which none is live: so a shard goes on with the ids that it had.
+    pub fn with_ids(alloc: Global, ids: Ids) -> Result<Self, AllocError>
+        requires { ids.live ≡ set.empty }
+        ensures { IfOk result (λ t. t ≡ none_with ids) }
+    {
         Ok(Transactions {
-            ids: Ids::new(alloc, shard)?,
+            ids,
             keys: vec![in alloc; 0; Self::MAX_TRANSACTIONS]?,
             entries: Slab::new(alloc),
             room: 0,
         })
+    }
+
+    /// The ids: those of the open transactions, and those that come next.
+    pub fn ids(&self) -> &Ids
+        ensures shard { result.now.shard ≡ self.now.shard }
+        ensures supply { result.now.supply ≡ self.now.supply }
+        ensures live { ascending result.now.live ≡ map.keys self.now.open_ones }
+        ensures count { set.len result.now.live ≡ count self.now }
+    {
+        &self.ids
     }
 
     /// Opens a transaction for an own Begin (TR-BEGIN), in Initiation Sent. `NoRoom` if 4,096 are open, `Memory` if an

@@ -182,7 +182,7 @@ impl Node {
     /// Handles a clock value of each of the sixteen shards, in the order of their numbers. On error nothing changes, in no shard.
     ///
     /// - `JournalFull`: a journal has 65,536 entries, until `cut`.
-    /// - `Memory`: out of memory, which can be only where entries are kept.
+    /// - `Memory`: out of memory, which can be only if entries are kept.
     pub fn tick_all(&mut self, now: u64) -> Result<(), Cause>
         ensures ticks { OnOk result (TicksAll self.old now self.new) }
         ensures refused { IfErr result (RefusesTicks self.old now) }
@@ -251,7 +251,7 @@ impl Node {
     }
 }
 
-/// An empty list, with room for so many values where memory suffices. Room for each is made again before it is there, so that nothing
+/// An empty list, with room for so many values if memory suffices. Room for each is made again before it is there, so that nothing
 /// rests on this; it spares moving them as their list grows.
 fn room_for<T: Drop>(alloc: Global, values: usize) -> Vec<T>
     ensures { result.items ≡ [] }

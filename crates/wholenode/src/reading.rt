@@ -12,7 +12,7 @@ use hlrcore::{Event, RawEvent};
 use std::alloc::Global;
 
 /// Reads events, which are taken out of their list, for `Node::handle`: each frame is decoded in the arena. They stand in `read` then,
-/// in place of what was there. Where memory runs out, the events are dropped.
+/// in place of what was there. If memory runs out, the events are dropped.
 ///
 /// Both lists keep their buffers, so that the next events need none of their own.
 ///

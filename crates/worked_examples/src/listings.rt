@@ -27,7 +27,7 @@ const ROUTE: &str =
     "S 447700909999 64554904000000016B2A2828060700118605010101A01D611B80020780A109060704000001001403A203020100A305A\
     1030201006C21A21F020101301A02012D3015040832140500000000F1A009810791447700090010\n";
 
-/// The listing behind the route: the records, no dialogue, and the one entry.
+/// The listing after the route: the records, no dialogue, and the one entry.
 const LISTED_ROUTE: &str = "R 234150000000001 447700900000 11,21 * 447700900011,447700900001,-,s a
 R 234150000000002 447700900202 11,12,20,21,22,61,62,91,92 * - a
 R 234150000000003 447700900203 21 4478 - a
@@ -73,7 +73,7 @@ fn all_list(
     Ok(())
 }
 
-/// The first route with its listing; the same request cut behind its first octets; and version 2 of the records.
+/// The first route with its listing; the same request cut after its first octets; and version 2 of the records.
 #[test]
 fn listings_of_routes(rt: HostRuntime) -> Result<(), Fail> {
     all_list(

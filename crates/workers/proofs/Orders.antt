@@ -20,7 +20,7 @@ use Rattle.workers.specs.Journals.{journal_list}
 use Rattle.workers.specs.Shared.{IsRunInSomeOrder, event_and_frames, events_of_jobs, jobs_of_receipts, numbers_of_jobs, sent_at, sent_for}
 use Rattle.workers.proofs.MergedRuns.{merges_are_runs_of_jobs}
 
--- ---- one run behind the other
+-- ---- one run after the other
 
 zip-append : {A B : Type 0} (xs us : List A) (ys vs : List B) → length ys ≡ length xs → zip (xs ++ us) (ys ++ vs) ≡ zip xs ys ++ zip us vs
 zip-append [] us [] vs same = refl

@@ -26,7 +26,7 @@ returns-clause-cut c = λ is.
 pub returns-clause-why : goal.returns-clause-why
 returns-clause-why c = λ no.
     let was = c.deref_mut.result.now in
-    let room = length c.args.room.now in
+    let buffer = length c.args.buffer.now in
     let len = c.cut_journal-code.new.len in
     let code = c.cut_journal-code.result in
     let before : c.args.handle.now.value ≡ Some was = search rules in
@@ -34,5 +34,5 @@ returns-clause-why c = λ no.
     let stands : c.args.shard < 16 = search rules in
     inr (
       stands,
-      inr (was, before, subst (λ (n : ℕ). RefusesRoom (ListsShard was.node n) room len code) shard_is (c.cut_journal-code.ensures.why no)),
+      inr (was, before, subst (λ (n : ℕ). RefusesRoom (ListsShard was.node n) buffer len code) shard_is (c.cut_journal-code.ensures.why no)),
     )

@@ -21,7 +21,7 @@ returns-clause-listed c = λ is.
 pub returns-clause-why : goal.returns-clause-why
 returns-clause-why c = λ no.
     let was = c.deref.result.now in
-    let room = length c.args.room.now in
+    let buffer = length c.args.buffer.now in
     let len = c.list_dialogues-code.new.len in
     let code = c.list_dialogues-code.result in
     let before : c.args.handle.now.value ≡ Some was = search rules in
@@ -29,5 +29,5 @@ returns-clause-why c = λ no.
     let stands : c.args.shard < 16 = search rules in
     inr (
       stands,
-      inr (was, before, subst (λ (n : ℕ). RefusesRoom (ListsOpen was.node n) room len code) shard_is (c.list_dialogues-code.ensures.why no)),
+      inr (was, before, subst (λ (n : ℕ). RefusesRoom (ListsOpen was.node n) buffer len code) shard_is (c.list_dialogues-code.ensures.why no)),
     )

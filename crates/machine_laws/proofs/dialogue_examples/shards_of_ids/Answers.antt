@@ -8,4 +8,4 @@ use Rattle.machine_laws.proofs.dialogue_examples.shards_of_ids.Goals as goal
 
 pub returns : goal.returns
 unfolding put put_at local_of local_of_nobody effect conclusion_of accepted context_of refused_name shard_of shard_of_id opening
-returns c = (refl, refl, refl)
+returns c = (refl, refl, refl, refl, refl)

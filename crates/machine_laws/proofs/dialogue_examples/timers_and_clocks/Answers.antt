@@ -10,6 +10,10 @@ pub returns-clause-timers : goal.returns-clause-timers
 unfolding put put_at local_of local_of_nobody effect conclusion_of accepted context_of refused_name shard_of shard_of_id opening
 returns-clause-timers c = refl
 
+pub returns-clause-later : goal.returns-clause-later
+unfolding put put_at local_of local_of_nobody effect conclusion_of accepted context_of refused_name shard_of shard_of_id opening
+returns-clause-later c = refl
+
 pub returns-clause-forgotten : goal.returns-clause-forgotten
 unfolding put put_at local_of local_of_nobody effect conclusion_of accepted context_of refused_name shard_of shard_of_id opening
 returns-clause-forgotten c = refl

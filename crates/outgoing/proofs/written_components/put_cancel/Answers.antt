@@ -22,5 +22,5 @@ returns c = λ behind same.
     let two = with_octets OCTET_STRING _ (tbcd c.args.imsi.now) _ (kind ∷ behind) (c.as_slice.ensures.value ∙ c.octets.ensures.value)
     (c.in_ok-put_primitive-2.ensures (kind ∷ behind) one) in
     let three = c.in_ok-wrap.ensures (imsi ∷ kind ∷ []) behind two size in
-    subst (λ i. OnOk c.put_invoke.result (c.put_invoke.new.room ≡ spelled (invoke_tree i CANCEL_LOCATION argument ∷ behind))) same_id
+    subst (λ i. OnOk c.put_invoke.result (c.put_invoke.new.buffer ≡ spelled (invoke_tree i CANCEL_LOCATION argument ∷ behind))) same_id
     (c.put_invoke.ensures argument behind three size)

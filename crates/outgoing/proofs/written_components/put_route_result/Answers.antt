@@ -25,5 +25,5 @@ returns c = λ behind same.
     let three = with_octets OCTET_STRING _ (tbcd c.args.imsi.now) _ (location ∷ behind)
     (c.as_slice-2.ensures.value ∙ c.octets-2.ensures.value) (c.in_ok-put_primitive-2.ensures (location ∷ behind) two) in
     let four = c.in_ok-wrap-2.ensures (imsi ∷ location ∷ []) behind three size in
-    subst (λ i. OnOk c.put_result_last.result (c.put_result_last.new.room ≡ spelled (result_tree i SEND_ROUTING_INFO_FOR_SM answer ∷ behind))) same_id
+    subst (λ i. OnOk c.put_result_last.result (c.put_result_last.new.buffer ≡ spelled (result_tree i SEND_ROUTING_INFO_FOR_SM answer ∷ behind))) same_id
     (c.put_result_last.ensures answer behind four size)

@@ -17,5 +17,5 @@ returns c = λ behind same.
     let one = with_octets OCTET_STRING _ octets _ behind (c.as_slice.ensures.value ∙ c.octets.ensures.value)
     (c.in_ok-put_primitive.ensures behind same) in
     let two = c.in_ok-wrap.ensures (Primitive OCTET_STRING octets ∷ []) behind one size in
-    subst (λ i. OnOk c.put_result_last.result (c.put_result_last.new.room ≡ spelled (result_tree i UPDATE_LOCATION answer ∷ behind))) same_id
+    subst (λ i. OnOk c.put_result_last.result (c.put_result_last.new.buffer ≡ spelled (result_tree i UPDATE_LOCATION answer ∷ behind))) same_id
     (c.put_result_last.ensures answer behind two size)

@@ -6,5 +6,5 @@ use Rattle.outgoing.proofs.written_inserts.put_codes.Given as goal
 
 abbrev pub invariant-loop-place : goal.invariant-loop-place
 invariant-loop-place l =
-    (behind : List Tree) → l.fn.room ≡ spelled behind
-    → l.room ≡ spelled (map teleservice_tree (drop l.place l.codes) ++ behind)
+    (behind : List Tree) → l.fn.buffer ≡ spelled behind
+    → l.buffer ≡ spelled (map teleservice_tree (drop l.place l.codes) ++ behind)

@@ -21,5 +21,5 @@ returns c = λ behind same.
     let three = c.in_ok-put_identity.ensures (subscriber ++ (codes ++ behind)) two in
     let regroup = sym (append_assoc imsi (subscriber ++ codes) behind ∙ ap (λ x. imsi ++ x) (append_assoc subscriber codes behind)) in
     let four = c.in_ok-wrap.ensures (imsi ++ (subscriber ++ codes)) behind (three ∙ ap spelled regroup) size in
-    subst (λ i. OnOk c.put_invoke.result (c.put_invoke.new.room ≡ spelled (invoke_tree i INSERT_SUBSCRIBER_DATA argument ∷ behind))) same_id
+    subst (λ i. OnOk c.put_invoke.result (c.put_invoke.new.buffer ≡ spelled (invoke_tree i INSERT_SUBSCRIBER_DATA argument ∷ behind))) same_id
     (c.put_invoke.ensures argument behind four size)

@@ -7,5 +7,5 @@ use Rattle.outgoing.proofs.written_messages.put_rejects.Given as goal
 
 abbrev pub invariant-loop-place : goal.invariant-loop-place
 invariant-loop-place l =
-    (behind : List Tree) → l.fn.room ≡ spelled behind
-    → l.room ≡ spelled (map reject_tree (map rejection (drop l.place l.rejects)) ++ behind)
+    (behind : List Tree) → l.fn.buffer ≡ spelled behind
+    → l.buffer ≡ spelled (map reject_tree (map rejection (drop l.place l.rejects)) ++ behind)

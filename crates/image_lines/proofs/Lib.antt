@@ -1,0 +1,9 @@
+pub mod PartLemmas
+pub mod NumberLemmas
+pub mod SignedLemmas
+pub mod OctetLemmas
+pub mod WordLemmas
+pub mod LackLemmas
+pub mod KindLaws
+pub mod LineLaws
+pub mod ReadingOf

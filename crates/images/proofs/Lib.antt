@@ -1,0 +1,10 @@
+pub mod ReadingLemmas
+pub mod ImageLemmas
+pub mod TextLemmas
+pub mod AgainLemmas
+pub mod WriteLemmas
+pub mod SlotsUsed
+pub mod OpenEntries
+pub mod EndLemmas
+pub mod NextLemmas
+pub mod ReadLemmas
