@@ -7,16 +7,17 @@
  * Octets and texts are passed as a pointer and a length. Pointers must not be null, even if the length is 0, and nobody else may change
  * what they point to during a call. Buffers must not overlap. A text is ASCII and ends by its length, not by a zero octet.
  *
- * A struct kunchrol begins as KUNCHROL_CLOSED_HANDLE. From kunchrol_open on it owns memory. Do not copy it, use it in one call at a
- * time and always from the same thread, and leave `at` alone. kunchrol_close frees all its memory. No call keeps a pointer
+ * A struct kunchrol begins as KUNCHROL_CLOSED_HANDLE. From kunchrol_open or kunchrol_restore on it owns memory. Do not copy it, use it in
+ * one call at a time and always from the same thread, and leave `at` alone. kunchrol_close frees all its memory. No call keeps a pointer
  * that it was passed, blocks, starts a thread, reads a clock, opens a file or prints.
  *
  * Each call but kunchrol_close and kunchrol_version returns KUNCHROL_OK, or the reason why it did nothing. In that case the register, its
  * clocks and the frames that wait are unchanged, and so is what the call was to write, but for the lengths after KUNCHROL_SMALL, the line
- * of kunchrol_open, and kunchrol_replay, which leaves the lines done that it did before. Any call with a register may return KUNCHROL_CLOSED.
+ * of kunchrol_open and kunchrol_restore, and kunchrol_replay, which leaves the lines done that it did before. Any call with a register may
+ * return KUNCHROL_CLOSED.
  *
- * A register that is opened with KUNCHROL_KEEP_JOURNALS keeps a journal of each of its sixteen shards: an entry for each event, with the
- * whole frame that came and the frames that were sent. A journal grows until it has 65,536 entries, whether anybody reads it or not;
+ * A register that is opened or restored with KUNCHROL_KEEP_JOURNALS keeps a journal of each of its sixteen shards: an entry for each event,
+ * with the whole frame that came and the frames that were sent. A journal grows until it has 65,536 entries, whether anybody reads it or not;
  * kunchrol_cut empties it. Without that flag no entry is kept, no memory is taken for one, and no event is refused for a full journal.
  */
 #ifndef KUNCHROL_H
@@ -43,16 +44,18 @@ extern "C" {
 
 enum {
 	KUNCHROL_OK = 0,
-	KUNCHROL_NONE = 1,     /* no frame waits; no timer is due, or runs; there is no such record */
-	KUNCHROL_SMALL = 2,    /* a buffer is too small; the lengths that are needed are stored */
-	KUNCHROL_ARGUMENT = 3, /* digits, codes, a shard, a clock value or a line of a log are not of their form */
-	KUNCHROL_CLOSED = 4,   /* the handle has no register */
-	KUNCHROL_OPEN = 5,     /* kunchrol_open: the handle already has a register */
-	KUNCHROL_JOURNAL = 6,  /* a journal in which an entry is to be made has 65,536: call kunchrol_cut, then repeat the call */
-	KUNCHROL_NO_ROOM = 7,  /* an operator's change would open a dialogue, and 4,096 are open in the shard */
-	KUNCHROL_MEMORY = 8,   /* out of memory; the call may be repeated */
-	KUNCHROL_LINE = 9,     /* kunchrol_open: a line of the records file is not of its form */
-	KUNCHROL_TWICE = 10    /* kunchrol_open: the IMSI or MSISDN of a line stands on an earlier line */
+	KUNCHROL_NONE = 1,        /* no frame waits; no timer is due, or runs; there is no such record */
+	KUNCHROL_SMALL = 2,       /* a buffer is too small; the lengths that are needed are stored */
+	KUNCHROL_ARGUMENT = 3,    /* digits, codes, a shard, a clock value or a line of a log are not of their form */
+	KUNCHROL_CLOSED = 4,      /* the handle has no register */
+	KUNCHROL_OPEN = 5,        /* kunchrol_open, kunchrol_restore: the handle already has a register */
+	KUNCHROL_JOURNAL = 6,     /* a journal in which an entry is to be made has 65,536: call kunchrol_cut, then repeat the call */
+	KUNCHROL_NO_ROOM = 7,     /* an operator's change would open a dialogue, and 4,096 are open in the shard */
+	KUNCHROL_MEMORY = 8,      /* out of memory; the call may be repeated */
+	KUNCHROL_LINE = 9,        /* kunchrol_open, kunchrol_restore: a line of the records file is not of its form */
+	KUNCHROL_TWICE = 10,      /* the same calls: the IMSI or MSISDN of a line of the records file stands on an earlier line */
+	KUNCHROL_IMAGE_LINE = 11, /* kunchrol_restore: a line of the image is not of its form, or cannot follow those before it */
+	KUNCHROL_IMAGE_SHORT = 12 /* kunchrol_restore: the image ends before all shards are whole */
 };
 
 enum {
@@ -72,7 +75,7 @@ struct kunchrol {
 static inline const char *kunchrol_name(uint32_t code)
 {
 	static const char *const names[] = { "ok", "none", "buffer too small", "argument", "closed", "open", "journal full", "no room",
-					     "memory", "records line", "records line twice" };
+					     "memory", "records line", "records line twice", "image line", "image ends early" };
 
 	return code < sizeof(names) / sizeof(names[0]) ? names[code] : "unknown";
 }
@@ -81,7 +84,7 @@ static inline const char *kunchrol_name(uint32_t code)
 uint32_t kunchrol_version(void);
 
 enum {
-	KUNCHROL_KEEP_JOURNALS = 1 /* kunchrol_open: keep the entries that kunchrol_cut lists */
+	KUNCHROL_KEEP_JOURNALS = 1 /* kunchrol_open, kunchrol_restore: keep the entries that kunchrol_cut lists */
 };
 
 /*
@@ -95,6 +98,21 @@ enum {
  */
 KUNCHROL_CHECKED uint32_t kunchrol_open(const uint8_t *records, size_t records_len, uint8_t journals, uint32_t start, struct kunchrol *hlr,
 					uint64_t *line);
+
+/*
+ * Opens, in a closed handle, the register that goes on where it was saved: records is the text that kunchrol_save wrote, and image what
+ * kunchrol_image wrote of each of the sixteen shards, one after the other in the order of their numbers, with no event between all these
+ * calls. Open dialogues, timers, local ids and clocks are as they were, so there is no number of a start. Journals are kept or not as in
+ * kunchrol_open, and are empty. No frame waits: those that waited when the register was saved are not in the texts.
+ *
+ * The first line with a fault is reported, of the records (KUNCHROL_LINE, KUNCHROL_TWICE) before the image (KUNCHROL_IMAGE_LINE): its
+ * number in its text, from 1, is stored at line, otherwise 0. An image that is cut off is refused, wherever it is cut: only its last line
+ * feed may be missing. Nothing else tells whether the two texts belong together and are whole, so that is for the caller to see to
+ * (docs/OPERATING.md, "Restart without loss"). Records that lack their last lines, an image of another save, and octets that have changed, such
+ * as a digit of a deadline, are restored if each line can follow.
+ */
+KUNCHROL_CHECKED uint32_t kunchrol_restore(const uint8_t *records, size_t records_len, const uint8_t *image, size_t image_len,
+					   uint8_t journals, struct kunchrol *hlr, uint64_t *line);
 
 /*
  * The four calls below give one event each, and kunchrol_clock sixteen. What an event sends waits for kunchrol_next, after the frames
@@ -140,7 +158,8 @@ KUNCHROL_CHECKED uint32_t kunchrol_withdraw(struct kunchrol *hlr, const uint8_t 
  * `X <imsi>` kunchrol_withdraw. KUNCHROL_ARGUMENT if it is no such line.
  *
  * If you write each line to a log and then give it, the log has exactly what the register was given. The same lines, given in the same
- * order to a register that was opened on the same text with the same start, send the same frames, local ids included, and lead to the same state.
+ * order to a register that was opened on the same text with the same start, or restored from the same texts, send the same frames, local
+ * ids included, and lead to the same state.
  */
 KUNCHROL_CHECKED uint32_t kunchrol_line(struct kunchrol *hlr, const uint8_t *line, size_t line_len);
 
@@ -176,6 +195,13 @@ KUNCHROL_CHECKED uint32_t kunchrol_record_of_number(struct kunchrol *hlr, const 
 						    size_t size, size_t *len);
 
 /*
+ * Stores how many dialogues are open in a shard, of which 4,096 fit, and how many entries its journal has, of which 65,536 fit. When 4,096
+ * are open, a peer's Begin that needs one is turned away, and an operator's change that needs one answers KUNCHROL_NO_ROOM. This is for
+ * monitoring: it copies and allocates nothing. KUNCHROL_ARGUMENT if there is no such shard.
+ */
+KUNCHROL_CHECKED uint32_t kunchrol_counts(struct kunchrol *hlr, uint8_t shard, size_t *dialogues, size_t *entries);
+
+/*
  * Lists the open dialogues of a shard, each as a line D and a line I for each of its invocations (docs/PROTOCOL.md, "The program
  * profile"), with the length at len, which is 0 if none is open.
  */
@@ -183,10 +209,18 @@ KUNCHROL_CHECKED uint32_t kunchrol_dialogues(struct kunchrol *hlr, uint8_t shard
 
 /*
  * Writes the records as a records file of version 2 into the buffer, with its length at len. A line has at most 312 octets, the first
- * line 22. Open dialogues, clocks and journals are not in it. To make it last is the caller's job (docs/OPERATING.md). There is no limit
- * here or in kunchrol_open, but the program hlr loads no file of more than 16,777,216 octets.
+ * line 22. Open dialogues and clocks are not in it (kunchrol_image writes them), nor journals and the frames that wait. To make it last is
+ * the caller's job (docs/OPERATING.md). There is no limit here, in kunchrol_open or in kunchrol_restore, but the program hlr loads no file
+ * of more than 16,777,216 octets.
  */
 KUNCHROL_CHECKED uint32_t kunchrol_save(struct kunchrol *hlr, uint8_t *buffer, size_t size, size_t *len);
+
+/*
+ * Writes the image of a shard into the buffer, with its length at len: its clock, its local ids and its open dialogues with their timers
+ * (docs/PROTOCOL.md, "The image of a register"). Nothing changes. For kunchrol_restore call it for each shard from 0 to 15, and
+ * kunchrol_save, with no event between these calls; take the frames that wait, before or after.
+ */
+KUNCHROL_CHECKED uint32_t kunchrol_image(struct kunchrol *hlr, uint8_t shard, uint8_t *buffer, size_t size, size_t *len);
 
 /*
  * Empties the journal of a shard, and writes its listing into the buffer, with its length at len: a line of at most 31 octets for each

@@ -1,86 +1,16 @@
 /*
- * Checks what the calls answer and what they leave: calls [--again] [--full]. With --again a call that returns MEMORY is made once more, and
- * all has to be as without. With --full a journal is filled before the clocks are set. What does not hold is reported with its line on
- * standard error, and the status is then 1.
+ * Checks what the calls answer and what they leave: calls [--again]. With --again a call that returns MEMORY is made once more, and all has to
+ * be as without. What does not hold is reported with its line on standard error, and the status is then 1.
  */
-#include "../../include/kunchrol.h"
-#include "frames.h"
+#include "answers.h"
 
-enum { FILL = 0x5A, MAX_TEXT = 512, MAX_LISTING = 4194304, ENTRIES = 65536 };
+enum { MAX_LISTING = 8192 };
 
-static struct kunchrol hlr = KUNCHROL_CLOSED_HANDLE;
-static uint8_t to[KUNCHROL_MAX_DIGITS], octets[KUNCHROL_MAX_OCTETS], text[MAX_TEXT], listing[MAX_LISTING];
-static size_t to_len, len, left_over;
-static int is_made_again, faults;
+static uint8_t listing[MAX_LISTING];
+static size_t left_over;
 
-static const char KNOWN[] = "234150000000001", OTHER[] = "234150000000003", NUMBER[] = "447700900000";
+static const char OTHER[] = "234150000000003", NUMBER[] = "447700900000";
 static const char RECORD[] = "234150000000001 447700900000 11,21 * 447700900011,447700900001,-,s a";
-
-/* the call, and once more where memory was refused and is no longer */
-#define MADE(code, call) \
-	do { \
-		if (((code) = (call)) == KUNCHROL_MEMORY && is_made_again) \
-			(code) = (call); \
-	} while (0)
-
-#define HOLDS(fact) \
-	do { \
-		if (!(fact)) { \
-			faults++; \
-			dprintf(STANDARD_ERROR, "calls: line %d: %s\n", __LINE__, #fact); \
-		} \
-	} while (0)
-
-#define ANSWERS(wanted, call) \
-	do { \
-		uint32_t answered; \
-		MADE(answered, call); \
-		if (answered != (wanted)) { \
-			faults++; \
-			dprintf(STANDARD_ERROR, "calls: line %d: %s: %s\n", __LINE__, #call, kunchrol_name(answered)); \
-		} \
-	} while (0)
-
-/* a text of C as the two words that it is passed as */
-#define TEXT(words) (const uint8_t *)(words), strlen(words)
-
-/* fills what a call may write, so that it is seen whether it did */
-static void fill(void)
-{
-	for (size_t at = 0; at < sizeof(text); at++)
-		text[at] = FILL;
-	for (size_t at = 0; at < sizeof(octets); at++)
-		octets[at] = FILL;
-	for (size_t at = 0; at < sizeof(to); at++)
-		to[at] = FILL;
-	to_len = len = FILL;
-}
-
-static int is_filled(const uint8_t *buffer, size_t size)
-{
-	for (size_t at = 0; at < size; at++)
-		if (buffer[at] != FILL)
-			return 0;
-	return 1;
-}
-
-static int is_untouched(void)
-{
-	return is_filled(text, sizeof(text)) && is_filled(octets, sizeof(octets)) && is_filled(to, sizeof(to));
-}
-
-static int is_text(const uint8_t *buffer, size_t count, const char *wanted)
-{
-	return count == strlen(wanted) && !memcmp(buffer, wanted, count);
-}
-
-static void open_register(uint8_t journals, uint32_t start)
-{
-	uint64_t line = FILL;
-
-	ANSWERS(KUNCHROL_OK, kunchrol_open(TEXT(RECORDS), journals, start, &hlr, &line));
-	HOLDS(line == 0);
-}
 
 static void check_closed(void)
 {
@@ -104,8 +34,10 @@ static void check_closed(void)
 	ANSWERS(KUNCHROL_CLOSED, kunchrol_record_of_number(&hlr, TEXT(NUMBER), text, sizeof(text), &len));
 	ANSWERS(KUNCHROL_CLOSED, kunchrol_dialogues(&hlr, 1, text, sizeof(text), &len));
 	ANSWERS(KUNCHROL_CLOSED, kunchrol_save(&hlr, text, sizeof(text), &len));
+	ANSWERS(KUNCHROL_CLOSED, kunchrol_image(&hlr, 1, text, sizeof(text), &len));
 	ANSWERS(KUNCHROL_CLOSED, kunchrol_cut(&hlr, 1, text, sizeof(text), &len));
 	HOLDS(is_untouched() && len == FILL && to_len == FILL && when == FILL);
+	HOLDS(is_no_count(1, KUNCHROL_CLOSED));
 	kunchrol_close(&hlr);
 }
 
@@ -117,6 +49,9 @@ static void check_opening(void)
 	HOLDS(line == 2);
 	open_register(0, 0);
 	ANSWERS(KUNCHROL_OPEN, kunchrol_open(TEXT(RECORDS), 0, 0, &hlr, &line));
+	line = FILL;
+	ANSWERS(KUNCHROL_OPEN, kunchrol_restore(TEXT(RECORDS), TEXT("S1 0 0 0"), 0, &hlr, &line));
+	HOLDS(line == 0);
 	HOLDS(kunchrol_version() == KUNCHROL_VERSION_NUMBER);
 }
 
@@ -134,9 +69,12 @@ static void check_arguments(void)
 	ANSWERS(KUNCHROL_ARGUMENT, kunchrol_record(&hlr, TEXT("1234567890123456"), text, sizeof(text), &len));
 	ANSWERS(KUNCHROL_ARGUMENT, kunchrol_record_of_number(&hlr, TEXT("+44"), text, sizeof(text), &len));
 	ANSWERS(KUNCHROL_ARGUMENT, kunchrol_dialogues(&hlr, KUNCHROL_SHARDS, text, sizeof(text), &len));
+	ANSWERS(KUNCHROL_ARGUMENT, kunchrol_image(&hlr, KUNCHROL_SHARDS, text, sizeof(text), &len));
 	ANSWERS(KUNCHROL_ARGUMENT, kunchrol_cut(&hlr, 255, text, sizeof(text), &len));
 	ANSWERS(KUNCHROL_NONE, kunchrol_next(&hlr, to, sizeof(to), &to_len, octets, sizeof(octets), &len));
 	HOLDS(is_untouched() && len == FILL && to_len == FILL);
+	HOLDS(is_no_count(KUNCHROL_SHARDS, KUNCHROL_ARGUMENT));
+	HOLDS(is_no_count(255, KUNCHROL_ARGUMENT));
 }
 
 /* what is no line of a log, a script's lines that are none included */
@@ -193,7 +131,9 @@ static void check_timers(void)
 	ANSWERS(KUNCHROL_OK, kunchrol_clock(&hlr, 3));
 	ANSWERS(KUNCHROL_OK, kunchrol_deadline(&hlr, &when));
 	HOLDS(when == 20);
+	HOLDS(is_count(1, 1, 0));
 	ANSWERS(KUNCHROL_OK, kunchrol_expire(&hlr, 1));
+	HOLDS(is_count(1, 0, 0));
 	check_no_expiry();
 	when = FILL;
 	ANSWERS(KUNCHROL_NONE, kunchrol_deadline(&hlr, &when));
@@ -225,10 +165,27 @@ static void check_dialogues(void)
 	fill();
 	ANSWERS(KUNCHROL_OK, kunchrol_dialogues(&hlr, 2, text, sizeof(text), &len));
 	HOLDS(is_untouched() && len == 0);
+	HOLDS(is_count(1, 1, 0));
+	HOLDS(is_count(2, 0, 0));
 	ANSWERS(KUNCHROL_SMALL, kunchrol_dialogues(&hlr, 1, text, 1, &len));
 	HOLDS(is_untouched() && len >= strlen(begins));
 	ANSWERS(KUNCHROL_OK, kunchrol_dialogues(&hlr, 1, text, sizeof(text), &len));
 	HOLDS(len >= strlen(begins) && !memcmp(text, begins, strlen(begins)));
+}
+
+/* the image of a shard that is as it began, and of one with an open update */
+static void check_image(void)
+{
+	static const char image[] = "S1 1 0 0\nT 01001000\nI 1 sent 20\n"
+				    "D 01001000 234150000000001 447700909999 0000000B * update 447700900012 447700900002 - 1\nE\n";
+
+	fill();
+	ANSWERS(KUNCHROL_SMALL, kunchrol_image(&hlr, 1, text, strlen(image) - 1, &len));
+	HOLDS(is_untouched() && len == strlen(image));
+	ANSWERS(KUNCHROL_OK, kunchrol_image(&hlr, 1, text, strlen(image), &len));
+	HOLDS(is_text(text, len, image) && is_filled(text + len, sizeof(text) - len));
+	ANSWERS(KUNCHROL_OK, kunchrol_image(&hlr, 2, text, sizeof(text), &len));
+	HOLDS(is_text(text, len, "S1 2 0 0\nE\n"));
 }
 
 /* a change of nobody's record is no event; one of a record opens a dialogue with the VLR that serves it */
@@ -254,41 +211,97 @@ static void check_journals(void)
 
 	open_register(KUNCHROL_KEEP_JOURNALS, 0);
 	ANSWERS(KUNCHROL_OK, kunchrol_frame(&hlr, TEXT(ASKING), UPDATE, sizeof(UPDATE)));
+	HOLDS(is_count(1, 1, 1));
 	code = kunchrol_clock(&hlr, 20);
 	if (code == KUNCHROL_MEMORY) {
+		HOLDS(is_count(1, 1, 1));
 		check_no_expiry();
 		MADE(code, kunchrol_clock(&hlr, 20));
 	}
 	HOLDS(code == KUNCHROL_OK);
+	HOLDS(is_count(3, 0, 1));
 	ANSWERS(KUNCHROL_OK, kunchrol_expire(&hlr, 1));
 	ANSWERS(KUNCHROL_NONE, kunchrol_expire(&hlr, 1));
+	HOLDS(is_count(1, 0, 3));
 	ANSWERS(KUNCHROL_NONE, kunchrol_withdraw(&hlr, TEXT(OTHER)));
 	ANSWERS(KUNCHROL_OK, kunchrol_cut(&hlr, 1, text, sizeof(text), &len));
 	HOLDS(is_text(text, len, "J 1 0 F 234150000000001 1\nJ 1 1 C - 0\nJ 1 2 E 234150000000001 1\n"));
+	HOLDS(is_count(1, 0, 0));
 	ANSWERS(KUNCHROL_OK, kunchrol_cut(&hlr, 3, text, sizeof(text), &len));
 	HOLDS(is_text(text, len, "J 3 0 C - 0\n"));
 	kunchrol_close(&hlr);
 }
 
-/* one full journal has no clock set; the others are cut in vain */
-static void check_full_journal(void)
+/* the records in `text`, and the images of all shards in the listing; the length of these */
+static size_t save_both(void)
 {
-	open_register(KUNCHROL_KEEP_JOURNALS, 0);
-	ANSWERS(KUNCHROL_OK, kunchrol_frame(&hlr, TEXT(ASKING), UPDATE, sizeof(UPDATE)));
-	for (unsigned entry = 0; entry < ENTRIES - 1; entry++)
-		ANSWERS(KUNCHROL_OK, kunchrol_frame(&hlr, TEXT(ASKING), ROUTE, sizeof(ROUTE)));
-	ANSWERS(KUNCHROL_JOURNAL, kunchrol_frame(&hlr, TEXT(ASKING), ROUTE, sizeof(ROUTE)));
+	size_t count = 0;
+
 	for (uint8_t shard = 0; shard < KUNCHROL_SHARDS; shard++) {
-		ANSWERS(KUNCHROL_JOURNAL, kunchrol_clock(&hlr, 20));
-		check_no_expiry();
-		if (shard != 1) {
-			ANSWERS(KUNCHROL_OK, kunchrol_cut(&hlr, shard, listing, sizeof(listing), &len));
-			HOLDS(len == 0);
-		}
+		ANSWERS(KUNCHROL_OK, kunchrol_image(&hlr, shard, listing + count, sizeof(listing) - count, &len));
+		count += len;
 	}
-	ANSWERS(KUNCHROL_OK, kunchrol_cut(&hlr, 1, listing, sizeof(listing), &len));
-	ANSWERS(KUNCHROL_OK, kunchrol_clock(&hlr, 20));
-	ANSWERS(KUNCHROL_OK, kunchrol_expire(&hlr, 1));
+	ANSWERS(KUNCHROL_OK, kunchrol_save(&hlr, text, sizeof(text), &len));
+	return count;
+}
+
+/* no register is restored from texts with a fault, of which the first is named */
+static void check_no_restore(const char *records, const char *image, uint32_t code, uint64_t number)
+{
+	uint64_t line = FILL, when = FILL;
+
+	ANSWERS(code, kunchrol_restore(TEXT(records), TEXT(image), 0, &hlr, &line));
+	HOLDS(line == number);
+	ANSWERS(KUNCHROL_CLOSED, kunchrol_deadline(&hlr, &when));
+}
+
+static void check_bad_images(void)
+{
+	static const char twice[] = "HLR1 447700900100\n234150000000001 1 11 * -\n234150000000001 2 11 * -\n";
+	static const char unknown[] = "S1 0 0 0\nE\nS1 1 0 0\nT 01001000\nI 1 sent 20\nD 01001000 234150000000033 4477 - - data\n";
+
+	check_no_restore("HLR1 447700900100\n1\n", "x\n", KUNCHROL_LINE, 2);
+	check_no_restore(twice, "x\n", KUNCHROL_TWICE, 3);
+	check_no_restore(RECORDS, "x\n", KUNCHROL_IMAGE_LINE, 1);
+	check_no_restore(RECORDS, "S1 0 0 0\nS1 1 0 0\n", KUNCHROL_IMAGE_LINE, 2);
+	check_no_restore(RECORDS, "S1 0 0 0\nE\nS1 2 0 0\n", KUNCHROL_IMAGE_LINE, 3);
+	check_no_restore(RECORDS, "S1 0 0 0\nE\nE\n", KUNCHROL_IMAGE_LINE, 3);
+	check_no_restore(RECORDS, unknown, KUNCHROL_IMAGE_LINE, 6);
+	check_no_restore(RECORDS, "S1 0 0 0\nE\nS1 1 0 0\n", KUNCHROL_IMAGE_SHORT, 0);
+	check_no_restore(RECORDS, "S1 0 0 0\nE\nS1 1 0 0\nE\n", KUNCHROL_IMAGE_SHORT, 0);
+	check_no_restore(RECORDS, "", KUNCHROL_IMAGE_SHORT, 0);
+}
+
+/* a register is restored with its clock and its update, which completes; frames that waited are gone, and a journal begins */
+static void check_restored(void)
+{
+	static const uint8_t end[] = { 0x65, 0x13, 0x48, 4, 0, 0, 0, 11, 0x49, 4, 1, 0, 0x10, 0, 0x6C, 5, 0xA2, 3, 2, 1, 1 };
+	static uint8_t records[sizeof(text)], image[sizeof(text)];
+	size_t records_len, image_len;
+	uint64_t line = FILL, when = FILL;
+
+	open_register(0, 0);
+	ANSWERS(KUNCHROL_OK, kunchrol_clock(&hlr, 5));
+	ANSWERS(KUNCHROL_OK, kunchrol_frame(&hlr, TEXT(ASKING), UPDATE, sizeof(UPDATE)));
+	image_len = save_both();
+	records_len = len;
+	memcpy(records, text, records_len);
+	memcpy(image, listing, image_len);
+	kunchrol_close(&hlr);
+	ANSWERS(KUNCHROL_OK, kunchrol_restore(records, records_len, image, image_len, KUNCHROL_KEEP_JOURNALS, &hlr, &line));
+	HOLDS(line == 0 && save_both() == image_len && !memcmp(listing, image, image_len));
+	HOLDS(len == records_len && !memcmp(text, records, records_len));
+	ANSWERS(KUNCHROL_NONE, kunchrol_next(&hlr, to, sizeof(to), &to_len, octets, sizeof(octets), &len));
+	ANSWERS(KUNCHROL_OK, kunchrol_deadline(&hlr, &when));
+	HOLDS(when == 25);
+	HOLDS(is_count(1, 1, 0));
+	ANSWERS(KUNCHROL_OK, kunchrol_cut(&hlr, 1, text, sizeof(text), &len));
+	HOLDS(len == 0);
+	ANSWERS(KUNCHROL_OK, kunchrol_frame(&hlr, TEXT(ASKING), end, sizeof(end)));
+	ANSWERS(KUNCHROL_OK, kunchrol_cut(&hlr, 1, text, sizeof(text), &len));
+	HOLDS(is_text(text, len, "J 1 0 F 234150000000001 2\n"));
+	ANSWERS(KUNCHROL_OK, kunchrol_record(&hlr, TEXT(KNOWN), text, sizeof(text), &len));
+	HOLDS(is_text(text, len, "234150000000001 447700900000 11,21 * 447700900012,447700900002,-,s a"));
 	kunchrol_close(&hlr);
 }
 
@@ -381,12 +394,7 @@ static void check_replay(void)
 
 int main(int argc, char **argv)
 {
-	int is_full = 0;
-
-	for (int word = 1; word < argc; word++) {
-		is_made_again |= !strcmp(argv[word], "--again");
-		is_full |= !strcmp(argv[word], "--full");
-	}
+	is_made_again = argc == 2 && !strcmp(argv[1], "--again");
 	check_closed();
 	check_opening();
 	check_arguments();
@@ -394,6 +402,7 @@ int main(int argc, char **argv)
 	check_records();
 	check_waiting();
 	check_dialogues();
+	check_image();
 	check_timers();
 	check_changes();
 	kunchrol_close(&hlr);
@@ -401,7 +410,7 @@ int main(int argc, char **argv)
 	check_starts();
 	check_lines();
 	check_replay();
-	if (is_full)
-		check_full_journal();
+	check_bad_images();
+	check_restored();
 	return faults != 0;
 }

@@ -14,19 +14,25 @@ struct timespec {
 
 int printf(const char *form, ...);
 int dprintf(int file, const char *form, ...);
+int snprintf(char *text, size_t size, const char *form, ...);
 int open(const char *path, int how, ...);
 long read(int file, void *room, size_t count);
 int close(int file);
 long write(int file, const void *from, size_t count);
 long lseek(int file, long at, int from);
 int ftruncate(int file, long len);
+int fsync(int file);
+int rename(const char *from, const char *to);
+int chdir(const char *path);
 int raise(int signal);
 int clock_gettime(int clock, struct timespec *now);
 void *memcpy(void *to, const void *from, size_t count);
+void *memmove(void *to, const void *from, size_t count);
 int memcmp(const void *one, const void *other, size_t count);
 size_t strlen(const char *text);
 int strcmp(const char *one, const char *other);
 char *strchr(const char *text, int character);
+char *strstr(const char *text, const char *words);
 unsigned long long strtoull(const char *text, char **end, int base);
 
 static inline double seconds(int clock)

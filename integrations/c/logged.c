@@ -10,99 +10,13 @@
  * logged LOG prints how many lines of the log a register replays in a second of the processor.
  */
 #include "../../include/kunchrol.h"
-#include "frames.h"
+#include "events.h"
 
-enum { MAX_LOG = 8388608, MAX_LINE = 1024, MAX_TEXT = 1048576, MADE = 0x42, OWN = 0600, KILL = 9, IDS = 8, PIECE = 1237, LONG_PIECE = 65536, LIVES = 30 };
+enum { MAX_LOG = 8388608, MAX_TEXT = 1048576, MADE = 0x42, OWN = 0600, KILL = 9, PIECE = 1237, LONG_PIECE = 65536, LIVES = 30 };
 
 static struct kunchrol hlr = KUNCHROL_CLOSED_HANDLE;
-static uint8_t ids[IDS][4];
-static size_t last_id;
-static uint64_t drawn;
-static char log_text[MAX_LOG], line[MAX_LINE];
+static char log_text[MAX_LOG];
 static uint8_t text[MAX_TEXT];
-
-static void sow(uint64_t number)
-{
-	drawn = (number + 1) * 0x9E3779B97F4A7C15u;
-}
-
-static size_t draw(size_t below)
-{
-	drawn ^= drawn << 13;
-	drawn ^= drawn >> 7;
-	drawn ^= drawn << 17;
-	return (size_t)(drawn % below);
-}
-
-static size_t put_word(size_t at, const char *word)
-{
-	memcpy(line + at, word, strlen(word));
-	return at + strlen(word);
-}
-
-static size_t put_number(size_t at, uint64_t number)
-{
-	if (number > 9)
-		at = put_number(at, number / 10);
-	line[at] = (char)('0' + number % 10);
-	return at + 1;
-}
-
-static size_t put_frame(const uint8_t *frame, size_t len)
-{
-	static const char digits[] = "0123456789ABCDEF";
-	size_t at = put_word(put_word(put_word(0, "F "), ASKING), " ");
-
-	for (size_t octet = 0; octet < len; octet++) {
-		line[at++] = digits[frame[octet] / 16];
-		line[at++] = digits[frame[octet] % 16];
-	}
-	return at;
-}
-
-/* an update of one of two subscribers, at one of ten registers; the peer's id tells it from others */
-static size_t put_update(uint64_t number)
-{
-	uint8_t frame[sizeof(UPDATE)];
-
-	memcpy(frame, UPDATE, sizeof(frame));
-	frame[6] = (uint8_t)(number >> 8);
-	frame[7] = (uint8_t)number;
-	frame[61] = draw(2) ? 0xF1 : 0xF2;
-	frame[79] = (uint8_t)(draw(10) * 16 + 1);
-	return put_frame(frame, sizeof(frame));
-}
-
-/* an End with a result, or only an End, in a dialogue that the register has opened */
-static size_t put_end(void)
-{
-	const uint8_t *id = ids[draw(IDS)];
-	const uint8_t frame[] = { 0x64, 0x0D, 0x49, 4, id[0], id[1], id[2], id[3], 0x6C, 5, 0xA2, 3, 2, 1, 1 };
-	const uint8_t alone[] = { 0x64, 0x06, 0x49, 4, id[0], id[1], id[2], id[3] };
-
-	return draw(4) ? put_frame(frame, sizeof(frame)) : put_frame(alone, sizeof(alone));
-}
-
-/* the line of the event with this number, without its line feed */
-static size_t make_line(uint64_t number)
-{
-	sow(number);
-	switch (draw(8)) {
-	case 0:
-		return put_frame(ROUTE, sizeof(ROUTE));
-	case 1:
-		return put_number(put_word(0, "C "), number / 8);
-	case 2:
-		return put_number(put_word(0, "E "), 1 + draw(2));
-	case 3:
-		return put_word(put_word(0, "O 23415000000000"), draw(2) ? "1 11,21" : "2 -");
-	case 4:
-	case 5:
-		return put_end();
-	default:
-		return put_update(number);
-	}
-}
 
 /* Takes what waits: the ids of dialogues that begin or go on are noted. */
 static uint32_t take_all(void)
@@ -111,12 +25,8 @@ static uint32_t take_all(void)
 	size_t to_len, count;
 	uint32_t code;
 
-	while (!(code = kunchrol_next(&hlr, to, sizeof(to), &to_len, octets, sizeof(octets), &count))) {
-		size_t at = octets[1] == 0x81 ? 5 : 4;
-
-		if (octets[0] == 0x62 || octets[0] == 0x65)
-			memcpy(ids[last_id++ % IDS], octets + at, sizeof(ids[0]));
-	}
+	while (!(code = kunchrol_next(&hlr, to, sizeof(to), &to_len, octets, sizeof(octets), &count)))
+		note_ids(octets);
 	return code == KUNCHROL_NONE ? KUNCHROL_OK : code;
 }
 

@@ -1,10 +1,12 @@
 /*
  * Plays a script on records through the library, as the program `hlr` does in one thread:
- * play RECORDS SCRIPT [--again] [--late] [--none] [--list] [--save].
+ * play RECORDS SCRIPT [--again] [--late] [--none] [--restored] [--list] [--save].
  * Prints `S <to> <octets>` for each frame that is sent, with --late only where a batch ends; with --list then the records, which are
- * looked up one by one, the open dialogues, and the journals, which are cut; and with --save the records, each line after `V `. A call that
+ * looked up one by one, the open dialogues, and the journals, which are cut; and with --save the records, each line after `V `. Counts of a
+ * shard that are not those of its dialogues and its journal as they are listed are reported on standard error. A call that
  * returns MEMORY changed nothing, so with --again it is made once more; if a journal is full all are cut, and the call is made again. With
- * --none the register keeps no journals. A line that is not handled is reported on standard error, and the status is then 1.
+ * --none the register keeps no journals, and with --restored it is closed where a batch ends, and restored from its records and its image. A
+ * line that is not handled is reported on standard error, and the status is then 1.
  */
 #include "../../include/kunchrol.h"
 #include "libc.h"
@@ -12,12 +14,12 @@
 enum { MAX_TEXT = 16777216, MAX_LETTERS = 26, MAX_FRAME = 65536 };
 
 static struct kunchrol hlr = KUNCHROL_CLOSED_HANDLE;
-static uint8_t records[MAX_TEXT], text[MAX_TEXT];
+static uint8_t records[MAX_TEXT], text[MAX_TEXT], image[MAX_TEXT];
 static char script[MAX_TEXT + 1];
 static uint8_t ids[MAX_LETTERS][4];
 static size_t id_count;
 
-static int is_made_again, is_late;
+static int is_made_again, is_late, is_restored;
 
 /* the call, and with --again once more where memory was refused */
 #define CALL(code, call) \
@@ -26,13 +28,33 @@ static int is_made_again, is_late;
 			(code) = (call); \
 	} while (0)
 
+/* the lines of a listing that begin with this letter */
+static size_t lines_of(char letter, size_t len)
+{
+	size_t count = 0;
+
+	for (size_t at = 0; at < len; at++)
+		count += (at == 0 || text[at - 1] == '\n') && text[at] == letter;
+	return count;
+}
+
+static void look_at_count(uint8_t shard, size_t count, size_t listed)
+{
+	if (count != listed)
+		dprintf(STANDARD_ERROR, "play: shard %u counts %zu, and lists %zu\n", shard, count, listed);
+}
+
 static uint32_t cut_journals(int is_listed)
 {
 	uint32_t code = KUNCHROL_OK;
-	size_t len;
+	size_t len, dialogues, entries;
 
 	for (uint8_t shard = 0; shard < KUNCHROL_SHARDS && !code; shard++) {
-		CALL(code, kunchrol_cut(&hlr, shard, text, sizeof(text), &len));
+		code = kunchrol_counts(&hlr, shard, &dialogues, &entries);
+		if (!code)
+			CALL(code, kunchrol_cut(&hlr, shard, text, sizeof(text), &len));
+		if (!code)
+			look_at_count(shard, entries, lines_of('J', len));
 		if (!code && is_listed)
 			printf("%.*s", (int)len, (const char *)text);
 	}
@@ -42,12 +64,16 @@ static uint32_t cut_journals(int is_listed)
 static uint32_t print_dialogues(void)
 {
 	uint32_t code = KUNCHROL_OK;
-	size_t len;
+	size_t len, dialogues, entries;
 
 	for (uint8_t shard = 0; shard < KUNCHROL_SHARDS && !code; shard++) {
-		CALL(code, kunchrol_dialogues(&hlr, shard, text, sizeof(text), &len));
+		code = kunchrol_counts(&hlr, shard, &dialogues, &entries);
 		if (!code)
+			CALL(code, kunchrol_dialogues(&hlr, shard, text, sizeof(text), &len));
+		if (!code) {
+			look_at_count(shard, dialogues, lines_of('D', len));
 			printf("%.*s", (int)len, (const char *)text);
+		}
 	}
 	return code;
 }
@@ -184,12 +210,39 @@ static char *cut_word(char *word)
 	return space;
 }
 
+/* closes the register, and goes on with the one that is restored from what it wrote of itself */
+static uint32_t restore(void)
+{
+	size_t len, image_len = 0, records_len;
+	uint64_t line;
+	uint32_t code;
+
+	CALL(code, kunchrol_save(&hlr, text, sizeof(text), &records_len));
+	for (uint8_t shard = 0; shard < KUNCHROL_SHARDS && !code; shard++) {
+		CALL(code, kunchrol_image(&hlr, shard, image + image_len, sizeof(image) - image_len, &len));
+		image_len += code ? 0 : len;
+	}
+	if (code)
+		return code;
+	kunchrol_close(&hlr);
+	CALL(code, kunchrol_restore(text, records_len, image, image_len, 0, &hlr, &line));
+	return code;
+}
+
+/* the end of a batch */
+static uint32_t end_batch(void)
+{
+	uint32_t code = print_sent();
+
+	return code || !is_restored ? code : restore();
+}
+
 static uint32_t give_line(char *line)
 {
 	char *first = cut_word(line), *second = cut_word(first);
 
 	if (!strcmp(line, "W"))
-		return print_sent();
+		return end_batch();
 	if (!strcmp(line, "E"))
 		return give_expiries();
 	if (!strcmp(line, "C") && first)
@@ -293,7 +346,7 @@ static uint32_t play(size_t len)
 			return code;
 		}
 	}
-	return print_sent();
+	return end_batch();
 }
 
 int main(int argc, char **argv)
@@ -309,6 +362,7 @@ int main(int argc, char **argv)
 	for (int word = 3; word < argc; word++) {
 		is_made_again |= !strcmp(argv[word], "--again");
 		is_late |= !strcmp(argv[word], "--late");
+		is_restored |= !strcmp(argv[word], "--restored");
 		if (!strcmp(argv[word], "--none"))
 			journals = 0;
 	}

@@ -7,7 +7,8 @@
         for to, answer in register.sent():           # the frames to be sent
             ...
 
-`include/kunchrol.h` says what each call does; a method has the call's name, except `sent`, which is kunchrol_next until no frame waits.
+`include/kunchrol.h` says what each call does; a method has the call's name, except `sent`, which is kunchrol_next until no frame waits. The
+constructor is kunchrol_open, and the class method `restore` makes a register by kunchrol_restore.
 The library is the file that KUNCHROL_LIBRARY names in the environment, or else the one that is installed. A register is used by
 the thread that opened it, which is checked here, and has to be closed: a `with` does that.
 """
@@ -20,6 +21,7 @@ from collections.abc import Iterator
 from ctypes import POINTER, byref, c_char_p, c_size_t, c_uint8, c_uint32, c_uint64
 from enum import IntEnum
 from types import TracebackType
+from typing import NamedTuple
 
 SHARDS, MAX_DIGITS, MAX_OCTETS, MAX_LINE = 16, 16, 4096, 312
 MAX_CLOCK = 2**62
@@ -41,11 +43,20 @@ class Code(IntEnum):
     MEMORY = 8
     LINE = 9
     TWICE = 10
+    IMAGE_LINE = 11
+    IMAGE_SHORT = 12
+
+
+class Counts(NamedTuple):
+    """How full a shard is: its open dialogues, of which 4,096 fit, and the entries of its journal, of which 65,536 fit."""
+
+    dialogues: int
+    entries: int
 
 
 class Fault(Exception):
-    """Why a call did nothing. `line` is that of the records file or of the log, from 1, or 0; of a log the octets before it, which are done,
-    are `used`."""
+    """Why a call did nothing. `line` is that of the records file, of the image or of the log, from 1, or 0; of a log the octets before it, which
+    are done, are `used`."""
 
     def __init__(self, code: int, line: int = 0, used: int = 0) -> None:
         name = Code(code).name if code in iter(Code) else str(code)
@@ -81,6 +92,14 @@ class Twice(BadLine):
     """The IMSI or MSISDN of a line of the records file stands on an earlier line."""
 
 
+class BadImage(Fault, ValueError):
+    """A line of the image is not of its form, or cannot follow those before it."""
+
+
+class ShortImage(Fault, ValueError):
+    """The image ends before all shards are whole."""
+
+
 FAULTS: dict[int, type[Fault]] = {
     Code.ARGUMENT: WrongArgument,
     Code.CLOSED: Closed,
@@ -89,6 +108,8 @@ FAULTS: dict[int, type[Fault]] = {
     Code.MEMORY: OutOfMemory,
     Code.LINE: BadLine,
     Code.TWICE: Twice,
+    Code.IMAGE_LINE: BadImage,
+    Code.IMAGE_SHORT: ShortImage,
 }
 
 
@@ -109,6 +130,7 @@ BUFFER = [*TEXT, LENGTH]
 CALLS: dict[str, list[type]] = {
     "version": [],
     "open": [*TEXT, c_uint8, c_uint32, HLR, POINTER(c_uint64)],
+    "restore": [*TEXT, *TEXT, c_uint8, HLR, POINTER(c_uint64)],
     "frame": [HLR, *TEXT, *TEXT],
     "clock": [HLR, c_uint64],
     "expire": [HLR, c_uint8],
@@ -121,8 +143,10 @@ CALLS: dict[str, list[type]] = {
     "next": [HLR, *BUFFER, *BUFFER],
     "record": [HLR, *TEXT, *BUFFER],
     "record_of_number": [HLR, *TEXT, *BUFFER],
+    "counts": [HLR, c_uint8, LENGTH, LENGTH],
     "dialogues": [HLR, c_uint8, *BUFFER],
     "save": [HLR, *BUFFER],
+    "image": [HLR, c_uint8, *BUFFER],
     "cut": [HLR, c_uint8, *BUFFER],
     "close": [HLR],
 }
@@ -152,10 +176,21 @@ class Register:
     """A register. What a call sends waits for `sent`."""
 
     def __init__(self, records: bytes, *, journals: bool = False, start: int = 0, library: ctypes.CDLL | None = None) -> None:
+        self._begin(library, "open", records, len(records), journals, start)
+
+    @classmethod
+    def restore(cls, records: bytes, image: bytes, *, journals: bool = False, library: ctypes.CDLL | None = None) -> "Register":
+        """The register that goes on where it was saved: `save` and `image` gave these octets, with no event between the two. An image that is cut
+        off is refused, unless only its last line feed is missing."""
+        register = cls.__new__(cls)
+        register._begin(library, "restore", records, len(records), image, len(image), journals)
+        return register
+
+    def _begin(self, library: ctypes.CDLL | None, name: str, *arguments: object) -> None:
         self._library, self._handle, self._thread = library or load(), Handle(None), threading.get_ident()
         self._to, self._octets = ctypes.create_string_buffer(MAX_DIGITS), ctypes.create_string_buffer(MAX_OCTETS)
         line = c_uint64()
-        code = self._library.kunchrol_open(records, len(records), journals, start, byref(self._handle), byref(line))
+        code = getattr(self._library, f"kunchrol_{name}")(*arguments, byref(self._handle), byref(line))
         if code:
             raise fault_of(code, line.value)
 
@@ -228,6 +263,12 @@ class Register:
         line = self._text("record_of_number", MAX_LINE, *text_of(msisdn))
         return None if line is None else line.decode("ascii")
 
+    def counts(self, shard: int) -> Counts:
+        """How many dialogues are open in a shard, and how many entries its journal has. It copies nothing."""
+        dialogues, entries = c_size_t(), c_size_t()
+        self._does("counts", self._shard(shard), byref(dialogues), byref(entries))
+        return Counts(dialogues.value, entries.value)
+
     def dialogues(self, shard: int) -> str:
         """Lists the open dialogues of a shard."""
         return (self._text("dialogues", 1 << 12, self._shard(shard)) or b"").decode("ascii")
@@ -235,6 +276,12 @@ class Register:
     def save(self) -> bytes:
         """The records as a records file of version 2."""
         return self._text("save", 1 << 16) or b""
+
+    def image(self, shard: int | None = None) -> bytes:
+        """The image of a shard; without one, of all shards, as `restore` takes it with the records that `save` gives before the next event."""
+        if shard is None:
+            return b"".join(map(self.image, range(SHARDS)))
+        return self._text("image", 1 << 12, self._shard(shard)) or b""
 
     def cut(self, shard: int) -> str:
         """Empties the journal of a shard, and returns its listing."""

@@ -1,6 +1,6 @@
 -- A register that keeps no journals goes on keeping none.
 use Rattle.std.proofs.Common.{◌≡◌, ℕ, List, [], ◌∷◌, sym, ap, subst, ◌∙◌, refl, inl, inr}
-use Rattle.std.specs.Prelude.{Result, Ok, Err, IfErr, OnErr, slice_set}
+use Rattle.std.specs.Prelude.{Result, Ok, Err, IfErr, OnErr, Some, slice_get, slice_set}
 use Rattle.frames.specs.Octets.{RawEntry, RawEvent}
 use Rattle.records.specs.Loaded.{Subscribers}
 use Rattle.hlrcore.specs.Shards.{ShardState}
@@ -15,9 +15,16 @@ use Rattle.wholenode.specs.declared.fault.Cause.TheVariants.{Memory, JournalFull
 use Rattle.wholenode.specs.Handling.{Cuts, Runs, Takes}
 use Rattle.wholenode.specs.Nodes.{NodeState, node}
 use Rattle.wholenode.specs.Opening.{BeginsWith}
+use Rattle.wholenode.specs.Restoring.{Restores}
 use Rattle.wholenode.specs.Ticking.{RefusesTicks}
+use Rattle.wholenode.proofs.OpeningLemmas.{logs_at}
 use Rattle.wholenode.proofs.Places.{set_or_not}
 use Rattle.embed.specs.Keeping.{KeepsNothing}
+
+pub restores_nothing : (loaded : Subscribers) (keep : Keep) (image : List ℕ) (n : NodeState) → Restores loaded keep image n → keep ≡ Nothing → KeepsNothing n
+restores_nothing loaded keep image n restores none = λ k l stands.
+    let P : List Log → Type 0 = λ z. slice_get z k ≡ Some l in
+    ap (λ (m : Log). m.keep) (logs_at keep restores.shards k l (subst P restores.shards_are stands)).2 ∙ none
 
 pub begins_nothing : (loaded : Subscribers) (keep : Keep) (start : ℕ) (n : NodeState) → BeginsWith loaded keep start n → keep ≡ Nothing → KeepsNothing n
 begins_nothing loaded keep start n begins none = λ k l stands.

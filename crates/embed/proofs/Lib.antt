@@ -1,5 +1,6 @@
 pub mod AlikeLemmas
 pub mod ChangeLemmas
+pub mod ImageLemmas
 pub mod ImsiLemmas
 pub mod KeepingLemmas
 pub mod LogLineLemmas

@@ -121,7 +121,7 @@ all_below node keeps i all o is = first_alike (TimerBelow node.shards i) (IsTime
 
 -- ---- records
 
-same_shard : (imsi : List ℕ) → machine_shard_of imsi ≡ shard_of imsi
+pub same_shard : (imsi : List ℕ) → machine_shard_of imsi ≡ shard_of imsi
 unfolding machine_shard_of shard_of
 same_shard imsi = refl
 
@@ -129,7 +129,7 @@ whole_record : (shards : List Log) (imsi : List ℕ) → (whole shards).records 
 unfolding union
 whole_record shards imsi = refl
 
-state_record : (s : ShardState) (imsi : List ℕ) → (state_of s).records imsi ≡ option_map machine_subscriber (map.get s.records imsi)
+pub state_record : (s : ShardState) (imsi : List ℕ) → (state_of s).records imsi ≡ option_map machine_subscriber (map.get s.records imsi)
 unfolding state_of
 state_record s imsi = refl
 

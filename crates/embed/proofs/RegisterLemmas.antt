@@ -15,10 +15,12 @@ use Rattle.wholenode.specs.Handling.{Cuts, Takes, sent_of}
 use Rattle.wholenode.specs.Keeping.{NodeKeeps}
 use Rattle.wholenode.specs.Nodes.{NodeState}
 use Rattle.wholenode.specs.Opening.{BeginsWith}
+use Rattle.wholenode.specs.Restoring.{Restores}
 use Rattle.wholenode.specs.Ticking.{TicksAll, clocks_from}
+use Rattle.embed.specs.Images.{GoesOnFrom}
 use Rattle.embed.specs.Journals.{CutsOff, ListsOpen, ListsShard}
 use Rattle.embed.specs.Registers.{Answers, Opens, RegisterState, SetsClocks, register}
-use Rattle.embed.proofs.KeepingLemmas.{begins_nothing, cuts_nothing, runs_nothing, takes_nothing}
+use Rattle.embed.proofs.KeepingLemmas.{begins_nothing, cuts_nothing, restores_nothing, runs_nothing, takes_nothing}
 
 pub opens : (contents : Contents) (loaded : Subscribers) (keep : Keep) (start : ℕ) (n : NodeState) (waiting : List RawOut) → loaded ≡ loaded_from contents
     → BeginsWith loaded keep start n → NodeKeeps n → waiting ≡ [] → Opens contents keep start (register n waiting)
@@ -27,6 +29,15 @@ opens contents loaded keep start n waiting is begins keeps none = record {
   keeps = keeps;
   waiting = none;
   nothing = begins_nothing loaded keep start n begins;
+}
+
+pub goes_on_from : (contents : Contents) (loaded : Subscribers) (keep : Keep) (image : List ℕ) (n : NodeState) (waiting : List RawOut)
+    → loaded ≡ loaded_from contents → Restores loaded keep image n → NodeKeeps n → waiting ≡ [] → GoesOnFrom contents keep image (register n waiting)
+goes_on_from contents loaded keep image n waiting is restores keeps none = record {
+  restores = subst (λ (it : Subscribers). Restores it keep image n) is restores;
+  keeps = keeps;
+  waiting = none;
+  nothing = restores_nothing loaded keep image n restores;
 }
 
 -- a fault of a records file that is one can only be want of memory

@@ -1,5 +1,7 @@
+pub mod Counts
 pub mod Events
 pub mod Examples
+pub mod Images
 pub mod Journals
 pub mod Keeping
 pub mod LogLines
@@ -7,5 +9,6 @@ pub mod Lookups
 pub mod Registers
 pub mod Replay
 pub mod Replaying
+pub mod Restoring
 pub mod Buffers
 pub mod Waiting

@@ -1,10 +1,11 @@
-//! Why a text was not written into a caller's buffer, and why a log was not replayed.
+//! Why a text was not written into a caller's buffer, why a log was not replayed, and why a register was not restored.
 
 ghost use Rattle.std.specs.Prelude.{◌≡◌};
 
+use records::RecordsFault;
 use std::alloc::AllocError;
 use thiserror::Error;
-use wholenode::Cause;
+use wholenode::{Cause, ImageFault};
 
 /// Why a text was not written into a caller's buffer.
 #[derive(Clone, Copy, Debug, PartialEq, Eq, Drop, Error)]
@@ -70,5 +71,38 @@ impl From<Cause> for LineFault {
 
     fn from(cause: Cause) -> LineFault {
         LineFault::Refused(cause)
+    }
+}
+
+/// Why a register was not restored.
+#[derive(Clone, Copy, Debug, PartialEq, Eq, Drop, Error)]
+pub enum RestoreFault {
+    /// The first fault of the records file; or out of memory.
+    #[error("{0}")]
+    Records(RecordsFault),
+    /// The first fault of the image; or out of memory.
+    #[error("{0}")]
+    Image(ImageFault),
+}
+
+impl From<RecordsFault> for RestoreFault {
+    ghost use Rattle.std.specs.Prelude.{◌≡◌};
+    ghost use Rattle.embed.specs.declared.fault.RestoreFault.TheVariants.{Records};
+
+    ghost from_gives = { λ why fault. fault ≡ Records why };
+
+    fn from(why: RecordsFault) -> RestoreFault {
+        RestoreFault::Records(why)
+    }
+}
+
+impl From<ImageFault> for RestoreFault {
+    ghost use Rattle.std.specs.Prelude.{◌≡◌};
+    ghost use Rattle.embed.specs.declared.fault.RestoreFault.TheVariants.{Image};
+
+    ghost from_gives = { λ why fault. fault ≡ Image why };
+
+    fn from(why: ImageFault) -> RestoreFault {
+        RestoreFault::Image(why)
     }
 }

@@ -1,6 +1,9 @@
-//! Laws about the replay of a log.
+//! Laws about the replay of a log, and about images.
 
+ghost use Rattle.embed.specs.Images.{IsRestored};
 ghost use Rattle.embed.specs.Replaying.{AreReplayedAlike, IsRunReplayed};
+
+use crate::register::Register;
 
 /// Law: the lines of a log, replayed by two registers that no event tells apart and in which the same frames wait, lead to two such
 /// registers again: the same frames wait, frame for frame and local id for local id.
@@ -13,3 +16,11 @@ pub fn replays_agree()
 pub fn logs_are_replayed()
     ensures { IsRunReplayed }
 {}
+
+/// Law: a register goes on as it was from its images and a file with its records: each shard has the same state, and no event tells the two
+/// registers apart. The file has the records without the marks of current updates, and the register's directory and HLR number.
+pub fn images_are_restored(register: &Register)
+    ensures { IsRestored register.now }
+{
+    register.law_shards_are_read();
+}

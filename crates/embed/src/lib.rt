@@ -17,8 +17,9 @@ pub use events::{
     codes_event, expiry_event, frame_event, read_imsi, read_number, withdrawal_event,
 };
 pub use examples::{law_log_lines, law_log_texts};
-pub use fault::{BufferFault, LineFault, ReplayFault};
-pub use laws::{logs_are_replayed, replays_agree};
+pub use fault::{BufferFault, LineFault, ReplayFault, RestoreFault};
+pub use laws::{images_are_restored, logs_are_replayed, replays_agree};
 pub use log_line::{LogLine, read_log_line};
+pub use lookups::Counts;
 pub use register::Register;
-pub use wholenode::Keep;
+pub use wholenode::{ImageFault, Keep};

@@ -14,6 +14,15 @@ use records::{Record, shard_of};
 use shardlog::Shard;
 use wholenode::Node;
 
+/// How full a shard is.
+#[derive(Clone, Copy, Debug, PartialEq, Eq, Drop)]
+pub struct Counts {
+    /// The open dialogues; 4,096 fit.
+    pub dialogues: usize,
+    /// The entries of its journal; 65,536 fit.
+    pub entries: usize,
+}
+
 /// The shard with this number.
 pub(crate) fn shard_at(node: &Node, number: u8) -> &Shard
     requires { number < 16 }

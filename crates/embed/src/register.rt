@@ -1,30 +1,40 @@
 //! A register, with the frames that wait to be sent.
 
-ghost use Rattle.std.specs.Prelude.{◌≡◌, ◌≢◌, ◌⊎◌, ◌<◌, ℕ, List, [], Err, IfOk, IfErr, OnOk, OnErr, MatchResult, drop, length, option_copied, option_map, slice_get, string_bytes};
+ghost use Rattle.std.specs.Prelude.{◌≡◌, ◌≢◌, ◌⊎◌, ◌<◌, ℕ, List, [], Err, IfOk, IfErr, OnOk, OnErr, MatchResult, Some, drop, length, option_copied, option_map, slice_get, string_bytes};
 ghost use Rattle.std.specs.List.{AllByRecursion};
 ghost use Rattle.machine.specs.Deadlines.{IsFirst};
 ghost use Rattle.records.specs.File.{Contents, File, IsBadLine, IsTwice};
+ghost use Rattle.records.specs.Loaded.{loaded_from};
 ghost use Rattle.hlrcore.specs.Events.{raw_event};
 ghost use Rattle.hlrcore.specs.Frames.{raw_out};
+ghost use Rattle.hlrcore.specs.Shards.{ShardState};
+ghost use Rattle.images.specs.Again.{IsReadAgain};
+ghost use Rattle.shardlog.specs.Log.{Log};
 ghost use Rattle.wholenode.specs.Handling.{Refuses};
+ghost use Rattle.wholenode.specs.Keeping.{NodeKeeps};
+ghost use Rattle.wholenode.specs.Restoring.{IsImageOver};
 ghost use Rattle.wholenode.specs.Ticking.{RefusesTicks};
 ghost use Rattle.audit.specs.Saving.{Saves};
+ghost use Rattle.embed.specs.Counts.{IsCountOf};
+ghost use Rattle.embed.specs.Images.{GoesOnFrom, IsImageOf};
 ghost use Rattle.embed.specs.Keeping.{KeepsNothing};
 ghost use Rattle.embed.specs.Lookups.{IsTimerOf, record_by_number, record_of};
 ghost use Rattle.embed.specs.Registers.{Answers, Gives, Opens, SetsClocks};
+ghost use Rattle.embed.specs.Restoring.{IsMemoryFault, IsRestoreFault};
 ghost use Rattle.embed.specs.Journals.{CutsOff, ListsOpen, ListsShard};
 ghost use Rattle.embed.specs.Replay.{Does, Fails, IsLogLine, Replays, StopsReplay, octets_of, whole_lines};
 ghost use Rattle.embed.specs.Buffers.{Writes};
 
 use crate::buffer::{check_buffer, write_text};
-use crate::fault::{BufferFault, LineFault, ReplayFault};
+use crate::fault::{BufferFault, LineFault, ReplayFault, RestoreFault};
 use crate::log_line::{LogLine, read_log_line};
-use crate::lookups::{first_deadline, is_idle, record_by_number, record_of, shard_at};
+use crate::lookups::{Counts, first_deadline, is_idle, record_by_number, record_of, shard_at};
 use crate::waiting::Waiting;
 use audit::{list_dialogues, list_journal, save_records};
 use bumpalo::Bump;
 use hlr_types::{Imsi, IsdnAddress};
 use hlrcore::{Out, RawEvent, ShardNumber};
+use images::{law_read_again, write_shard};
 use records::{Record, RecordsFault, read_records};
 use std::alloc::{AllocError, Global};
 use std::marker::Model;
@@ -85,6 +95,37 @@ impl Register {
     {
         let loaded = read_records(alloc, text)?;
         let node = Node::new(alloc, loaded, keep, start)?;
+        Ok(Register {
+            alloc,
+            node,
+            bump: Bump::new(alloc),
+            waiting: Waiting::none(alloc),
+        })
+    }
+
+    /// The register that goes on where it was saved: `text` is the records file that `save` wrote, and `image` is what `write_image` wrote of
+    /// each shard, in the order of their numbers, with no event between all these calls. Clocks, open dialogues and local ids are as they
+    /// were; the journals are empty, and no frame waits.
+    ///
+    /// - `Records`: the first fault of the records file.
+    /// - `Image`: the first line of the image that does not have its form, or cannot follow those before it; or the image ends too early.
+    ///
+    /// Either of them has `Memory` when out of memory.
+    pub fn restore(
+        alloc: Global,
+        text: &[u8],
+        image: &[u8],
+        keep: Keep,
+    ) -> Result<Register, RestoreFault>
+        ensures found { IfOk result (λ r. (contents : Contents) × File text.now contents
+            × GoesOnFrom contents keep image.now r) }
+        // A records file with an image over it is restored, unless memory runs out.
+        ensures only { (contents : Contents) (shards : List ShardState) → File text.now contents
+            → IsImageOver (loaded_from contents) image.now shards → IfErr result IsMemoryFault }
+        ensures fault { IfErr result (IsRestoreFault text.now image.now) }
+    {
+        let loaded = read_records(alloc, text)?;
+        let node = Node::restore(alloc, loaded, keep, image)?;
         Ok(Register {
             alloc,
             node,
@@ -207,6 +248,17 @@ impl Register {
         first_deadline(&self.node)
     }
 
+    /// How full a shard is.
+    pub fn counts(&self, shard: ShardNumber) -> Counts
+        ensures { IsCountOf self.now.node shard result.dialogues result.entries }
+    {
+        let shard = shard_at(&self.node, shard.number());
+        Counts {
+            dialogues: shard.state().dialogues().len(),
+            entries: shard.entries().len(),
+        }
+    }
+
     /// The record of a subscriber.
     pub fn record(&self, imsi: &Imsi) -> Option<&Record>
         ensures { option_copied result ≡ record_of self.now.node imsi.now }
@@ -327,5 +379,43 @@ impl Register {
         let file = save_records(self.alloc, self.node.shards())?;
         check_buffer(buffer, file.as_bytes())?;
         Ok(write_text(buffer, file.as_bytes()))
+    }
+
+    /// Writes the image of a shard (`images::write_shard`) at the front of the buffer, and returns the number of octets written. On error the
+    /// buffer is unchanged.
+    pub fn write_image(&self, shard: ShardNumber, buffer: &mut [u8]) -> Result<usize, BufferFault>
+        ensures writes { IfOk result (λ count.
+            (text : List ℕ) × IsImageOf self.now.node shard text
+            × Writes text buffer.old count buffer.new) }
+        ensures small { (n : ℕ) → result ≡ Err (BufferFault.Small n)
+            → (text : List ℕ) × IsImageOf self.now.node shard text × (length buffer.old < n)
+            × (n ≡ length text) }
+        ensures err { OnErr result (buffer.new ≡ buffer.old) }
+    {
+        let image = self.image(shard)?;
+        check_buffer(buffer, image.as_bytes())?;
+        Ok(write_text(buffer, image.as_bytes()))
+    }
+
+    /// The image of a shard.
+    fn image(&self, shard: ShardNumber) -> Result<String, AllocError>
+        ensures { IfOk result (λ text. IsImageOf self.now.node shard (string_bytes text)) }
+    {
+        let shard = shard_at(&self.node, shard.number());
+        let mut image = String::new(self.alloc);
+        write_shard(&mut image, shard.state())?;
+        Ok(image)
+    }
+
+    /// Law: each shard is read again from its image.
+    pub(crate) fn law_shards_are_read(&self)
+        ensures read { (n : ℕ) (l : Log) → slice_get self.now.node.shards n ≡ Some l
+            → IsReadAgain l.state }
+        ensures keeps { NodeKeeps self.now.node }
+    {
+        let shards = self.node.shards();
+        for shard in shards {
+            law_read_again(shard.state());
+        }
     }
 }

@@ -106,7 +106,8 @@ impl State {
 
     /// The clock.
     pub fn clock(&self) -> u64
-        ensures { result ≡ self.now.clock }
+        ensures value { result ≡ self.now.clock }
+        ensures early { result ≤ MAX_CLOCK }
     {
         self.parts.clock()
     }

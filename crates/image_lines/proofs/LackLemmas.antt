@@ -14,7 +14,7 @@ use Rattle.hlr_types.specs.DigitTexts.{text_of}
 use Rattle.machine.specs.Sent.{CancellationType, UpdateProcedure, SubscriptionWithdraw}
 use Rattle.machine.specs.State.{Dialogue, Kind, Updates, Cancels, Data, Was, OperationSent, WaitForReject}
 use Rattle.records.proofs.AgainFields.{Lacks, Lacks-join}
-use Rattle.image_lines.specs.Lines.{AreFour, IfKnown, IsKind, IsLine, IsOpened, IsRemote, Line, Shard, Used, Freed, Opened, Waits, dialogue_fields, fields, kind_fields, line_text, mark_text, octets_text, was_text, why_text}
+use Rattle.image_lines.specs.Lines.{AreFour, IfKnown, IsKind, IsLine, IsOpened, IsRemote, Line, Shard, Used, Freed, Opened, Waits, End, dialogue_fields, fields, kind_fields, line_text, mark_text, octets_text, was_text, why_text}
 use Rattle.image_lines.specs.Reading.{is_upper}
 use Rattle.image_lines.proofs.OctetLemmas.{encoded_upper}
 
@@ -115,6 +115,7 @@ fields_high (Used id) is = (word_high (codes "T") refl, (octets_high id is.each,
 fields_high (Freed id) is = (word_high (codes "F") refl, (octets_high id is.each, tt))
 fields_high (Opened id is_current d) is = (word_high (codes "D") refl, (octets_high id is.0.each, dialogue_high is_current d is.1))
 fields_high (Waits v) is = (word_high (codes "I") refl, (signed_high v.id is.0, (was_high v.was, (decimal_high v.deadline is.1, tt))))
+fields_high End is = (word_high (codes "E") refl, tt)
 
 -- ---- what they lack
 

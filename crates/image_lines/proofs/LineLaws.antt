@@ -3,6 +3,7 @@ use Rattle.std.proofs.Common.{◌≡◌, ℕ, Bool, true, false, cond, List, [],
 use Rattle.std.specs.Prelude.{◌⊎◌, Option, Some, None, IfSome, option_map, codes}
 use Rattle.std.specs.Fmt.{decimal, signed_decimal}
 use Rattle.std.specs.List.{join_with_byte}
+use Rattle.std.proofs.lemmas.Option.{cond_some}
 use Rattle.hex.specs.Hex.{encode_upper}
 use Rattle.hlr_types.specs.DigitTexts.{digits_in, text_of}
 use Rattle.texts.specs.Lines.{parts}
@@ -12,8 +13,8 @@ use Rattle.records.specs.Reading.{imsi_in, is_text}
 use Rattle.records.proofs.FieldLaws.{bind_some, is_text_true, joined_again, number_found}
 use Rattle.records.proofs.LineLaws.{imsi_found}
 use Rattle.records.proofs.AgainFields.{imsi_again, parts-join}
-use Rattle.image_lines.specs.Lines.{AreFour, IsLine, IsOpened, Line, Shard, Used, Freed, Opened, Waits, dialogue_fields, fields, kind_fields, line_text, mark_text, octets_text, was_text}
-use Rattle.image_lines.specs.Reading.{Said, decimal_in, dialogue_in, first_of, id_in, kind_in, line_by, line_in, mark_in, octets_in, only_of, opened_in, remote_in, shard_in, signed_in, up_to, waits_in, was_in}
+use Rattle.image_lines.specs.Lines.{AreFour, IsLine, IsOpened, Line, Shard, Used, Freed, Opened, Waits, End, dialogue_fields, fields, kind_fields, line_text, mark_text, octets_text, was_text}
+use Rattle.image_lines.specs.Reading.{Said, decimal_in, dialogue_in, end_in, first_of, id_in, kind_in, line_by, line_from, line_in, mark_in, octets_in, only_of, opened_in, remote_in, shard_in, signed_in, up_to, waits_in, was_in}
 use Rattle.image_lines.specs.declared.line.Line as code
 use Rattle.image_lines.specs.Examples.{IsNone}
 use Rattle.image_lines.specs.Seen.{line_of}
@@ -177,11 +178,22 @@ by_found word ps line e =
     (choice word (codes "D") ps _ _ line (opened_found ps line)
     (choice word (codes "I") ps _ _ line (waits_found ps line) (none_found (word ∷ ps) line))))) e
 
+end_found : (ps : List (List ℕ)) (line : Line) → end_in ps ≡ Some line → Found ps line
+unfolding end_in
+end_found ps line e =
+    let a = bind_some (only_of ps) _ line e in
+    let p = cond_some (is_text a.0 (codes "E")) End line a.2 in
+    let whole : ps ≡ codes "E" ∷ [] = only_found ps a.0 a.1 ∙ ap (λ (w : List ℕ). w ∷ []) (is_text_true a.0 (codes "E") p.0) in
+    subst (Found ps) p.1 (record { are = whole; is = tt })
+
+from_found : (ps : List (List ℕ)) (first : Option (List ℕ × List (List ℕ))) (line : Line) → first_of ps ≡ first → line_from ps first ≡ Some line
+    → Found ps line
+from_found ps None line is e = end_found ps line e
+from_found ps (Some f) line is e = subst (λ (qs : List (List ℕ)). Found qs line) (sym (first_found ps f is)) (by_found f.0 f.1 line e)
+
 in_found : (ps : List (List ℕ)) (line : Line) → line_in ps ≡ Some line → Found ps line
 unfolding line_in
-in_found ps line e =
-    let f = bind_some (first_of ps) _ line e in
-    subst (λ (qs : List (List ℕ)). Found qs line) (sym (first_found ps f.0 f.1)) (by_found f.0.0 f.0.1 line f.2)
+in_found ps line e = from_found ps (first_of ps) line refl e
 
 pub read_found : (text : List ℕ) (line : Line) → line_in (parts 32 text) ≡ Some line → (text ≡ line_text line) × IsLine line
 read_found text line e =
@@ -205,7 +217,7 @@ dialogue_again is_current d is =
     (ap (λ (x : Dialogue). Some (is_current, x)) same)
 
 fields_again : (line : Line) → IsLine line → line_in (fields line) ≡ Some line
-unfolding line_in line_by shard_in id_in opened_in waits_in
+unfolding line_in line_by shard_in id_in opened_in waits_in end_in
 fields_again (Shard shard clock first) is =
     let few = is.number in
     let most = is.generation in
@@ -220,6 +232,7 @@ fields_again (Freed id) is = rw (four_again id is) refl
 fields_again (Opened id is_current d) is = rw (four_again id is.0, dialogue_again is_current d is.1) refl
 fields_again (Waits v) is =
     rw (signed_again (signed_decimal v.id) v.id is.0 refl, was_again v.was, decimal_again (decimal v.deadline) v.deadline is.1 refl) refl
+fields_again End is = refl
 
 written_parts : (line : Line) → IsLine line → parts 32 (line_text line) ≡ fields line
 written_parts (Shard shard clock first) is = parts-join 32 (codes "S1") _ (fields_lack (Shard shard clock first) is)
@@ -227,6 +240,7 @@ written_parts (Used id) is = parts-join 32 (codes "T") _ (fields_lack (Used id) 
 written_parts (Freed id) is = parts-join 32 (codes "F") _ (fields_lack (Freed id) is)
 written_parts (Opened id is_current d) is = parts-join 32 (codes "D") _ (fields_lack (Opened id is_current d) is)
 written_parts (Waits v) is = parts-join 32 (codes "I") _ (fields_lack (Waits v) is)
+written_parts End is = parts-join 32 (codes "E") _ (fields_lack End is)
 
 pub read_again : (text : List ℕ) (line : Line) → IsLine line → text ≡ line_text line → line_in (parts 32 text) ≡ Some line
 read_again text line is e = ap (λ (t : List ℕ). line_in (parts 32 t)) e ∙ ap line_in (written_parts line is) ∙ fields_again line is

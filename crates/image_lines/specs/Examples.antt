@@ -2,7 +2,7 @@
 use Rattle.std.specs.Prelude.{◌≡◌, ◌-◌, ◌^◌, ℕ, true, false, pos, negsuc, List, [], ◌∷◌, map as each, Option, Some, None, codes as text}
 use Rattle.machine.specs.Sent.{UpdateProcedure, SubscriptionWithdraw}
 use Rattle.machine.specs.State.{Dialogue, Kind, Updates, Cancels, Data, OperationSent, WaitForReject}
-use Rattle.image_lines.specs.Lines.{IsLine, Line, Shard, Used, Freed, Opened, Waits, line_text}
+use Rattle.image_lines.specs.Lines.{IsLine, Line, Shard, Used, Freed, Opened, Waits, End, line_text}
 
 -- the digits of a text
 abbrev pub digits : List ℕ → List ℕ
@@ -53,6 +53,7 @@ pub record WorkedLines : Type 0 where
   pub answered : Has
       (text "I -1 wait 18446744073709551615")
       (Waits (record { id = negsuc 0; was = WaitForReject; deadline = 18446744073709551615 }))
+  pub whole : Has (text "E") End
 
 -- The text is that of no line that may stand in an image.
 abbrev pub IsNone : List ℕ → Type 0
@@ -81,3 +82,5 @@ pub record NoLines : Type 0 where
   pub invoke_128 : IsNone (text "I 128 sent 20")
   pub late_deadline : IsNone (text "I 1 sent 18446744073709551616")
   pub line_feed : IsNone (text "I 1 sent 20\n")
+  pub end_of_a_shard : IsNone (text "E 1")
+  pub end_in_lower_case : IsNone (text "e")

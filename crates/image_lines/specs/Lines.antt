@@ -14,13 +14,15 @@ use Rattle.machine.specs.Sent.{CancellationType, UpdateProcedure, SubscriptionWi
 use Rattle.machine.specs.State.{Dialogue, Invocation, Kind, Updates, Cancels, Data, Was, OperationSent, WaitForReject}
 
 -- What a line has: a shard, with its clock and the generation before the first use of a slot; a slot that was used, by its last local id;
--- a slot that is free; an open dialogue, of which the invocations stand in the lines before; an invocation of the next dialogue.
+-- a slot that is free; an open dialogue, of which the invocations stand in the lines before; an invocation of the next dialogue; or nothing:
+-- the shard is whole, all its slots and dialogues stand in the lines before.
 pub data Line : Type 0 where
   Shard : (shard clock first : ℕ) → Line
   Used : (id : List ℕ) → Line
   Freed : (id : List ℕ) → Line
   Opened : (id : List ℕ) → (is_current : Bool) → Dialogue → Line
   Waits : Invocation → Line
+  End : Line
 
 -- ---- fields
 
@@ -67,6 +69,7 @@ fields (Used id) = text "T" ∷ encode_upper id ∷ []
 fields (Freed id) = text "F" ∷ encode_upper id ∷ []
 fields (Opened id is_current d) = text "D" ∷ encode_upper id ∷ dialogue_fields is_current d
 fields (Waits v) = text "I" ∷ signed_decimal v.id ∷ was_text v.was ∷ decimal v.deadline ∷ []
+fields End = text "E" ∷ []
 
 -- The text of a line, without a line feed. The invocations of an open dialogue are no part of it.
 abbrev pub line_text : Line → List ℕ
@@ -118,6 +121,7 @@ IsLine (Used id) = AreFour id
 IsLine (Freed id) = AreFour id
 IsLine (Opened id is_current d) = AreFour id × IsOpened d
 IsLine (Waits v) = FitsSigned w8 v.id × (v.deadline < 2 ^ 64)
+IsLine End = Unit {0}
 
 -- A shard is within its limits; the other lines have none that the code's types do not have.
 abbrev pub HasLimits : Line → Type 0

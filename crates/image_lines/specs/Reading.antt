@@ -10,7 +10,7 @@ use Rattle.records.specs.Reading.{◌>>=◌, imsi_in, is_text}
 use Rattle.machine.specs.declared.numbers.TheConstants.{MAX_CLOCK}
 use Rattle.machine.specs.Sent.{CancellationType, UpdateProcedure, SubscriptionWithdraw}
 use Rattle.machine.specs.State.{Dialogue, Kind, Updates, Cancels, Data, Was, OperationSent, WaitForReject}
-use Rattle.image_lines.specs.Lines.{Line, Shard, Used, Freed, Opened, Waits}
+use Rattle.image_lines.specs.Lines.{Line, Shard, Used, Freed, Opened, Waits, End}
 
 -- ---- numbers
 
@@ -150,6 +150,9 @@ waits_in ps =
     first_of ps >>= λ a. first_of a.1 >>= λ b. only_of b.1 >>= λ deadline.
     signed_in a.0 >>= λ i. was_in b.0 >>= λ w. decimal_in deadline >>= λ d. Some (Waits (record { id = i; was = w; deadline = d }))
 
+unfoldable pub end_in : List (List ℕ) → Option Line
+end_in ps = only_of ps >>= λ word. if is_text word (text "E") then Some End else None
+
 -- By its first field, and what follows it.
 unfoldable pub line_by : (word : List ℕ) → List (List ℕ) → Option Line
 line_by word ps =
@@ -160,5 +163,9 @@ line_by word ps =
     else if is_text word (text "I") then waits_in ps
     else None
 
+abbrev pub line_from : List (List ℕ) → Option (List ℕ × List (List ℕ)) → Option Line
+line_from ps None = end_in ps
+line_from ps (Some f) = line_by f.0 f.1
+
 unfoldable pub line_in : List (List ℕ) → Option Line
-line_in ps = first_of ps >>= λ f. line_by f.0 f.1
+line_in ps = line_from ps (first_of ps)

@@ -32,6 +32,7 @@ pub fn is_line(line: &Line)
             let _invoke = *invoke;
             let _deadline = *deadline;
         }
+        Line::End => {}
     }
 }
 

@@ -29,4 +29,6 @@ pub enum Line {
         was: Was,
         deadline: u64,
     },
+    /// The shard is whole: all its slots and dialogues stand in the lines before.
+    End,
 }

@@ -4,7 +4,7 @@ ghost use Rattle.std.specs.Prelude.{◌≡◌, Some, IfSome, option_map};
 ghost use Rattle.texts.specs.Lines.{parts};
 ghost use Rattle.image_lines.specs.Lines.{IsLine, line_text};
 ghost use Rattle.image_lines.specs.Lines as image;
-ghost use Rattle.image_lines.specs.Reading.{dialogue_from, dialogue_in, id_in, line_by, line_in, opened_in, shard_in, waits_in};
+ghost use Rattle.image_lines.specs.Reading.{dialogue_from, dialogue_in, end_in, id_in, line_by, line_in, opened_in, shard_in, waits_in};
 ghost use Rattle.image_lines.specs.Seen.{line_of, said_of};
 
 use crate::fields::{last, next, read_imsi, read_mark, read_was};
@@ -33,8 +33,21 @@ pub fn read_line(text: &[u8]) -> Option<Line>
 fn read_fields(text: &[u8]) -> Option<Line>
     ensures { option_map line_of result ≡ line_in (parts 32 text.now) }
 {
-    let (word, rest) = next(text)?;
-    read_by(word, rest)
+    match next(text) {
+        Some((word, rest)) => read_by(word, rest),
+        None => read_end(text),
+    }
+}
+
+#[tactic(auto, unfolding(crate::specs::Reading::end_in))]
+fn read_end(text: &[u8]) -> Option<Line>
+    ensures { option_map line_of result ≡ end_in (parts 32 text.now) }
+{
+    let word = last(text)?;
+    if word == b"E".as_slice() {
+        return Some(Line::End);
+    }
+    None
 }
 
 #[tactic(auto, unfolding(crate::specs::Reading::line_by))]

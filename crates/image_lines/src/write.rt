@@ -25,7 +25,8 @@ use std::alloc::AllocError;
 /// - `F <id>`: a slot that is free;
 /// - `D <id> <imsi> <peer> <remote id or -> <* or -> <kind>`: an open dialogue, `*` if it is its subscriber's current update; the kind is
 ///   `update <vlr> <msc> <lmsi or -> <invoke id>`, `cancel <vlr> <attempt> <update or withdraw>` or `data`;
-/// - `I <invoke id> <sent or wait> <deadline>`: an invocation of the next dialogue, and the tick at which its timer expires.
+/// - `I <invoke id> <sent or wait> <deadline>`: an invocation of the next dialogue, and the tick at which its timer expires;
+/// - `E`: the shard is whole.
 ///
 /// Numbers are in decimal, octets in upper case hexadecimal. On error, when out of memory, the text may have a part of the line.
 pub fn write_line(text: &mut String, line: &Line) -> Result<(), AllocError>
@@ -50,6 +51,7 @@ pub fn write_line(text: &mut String, line: &Line) -> Result<(), AllocError>
             was,
             deadline,
         } => push_waits(text, *invoke, *was, *deadline),
+        Line::End => text.push_str("E"),
     }
 }
 

@@ -17,19 +17,19 @@ use Rattle.images.proofs.TextLemmas.{texts_written}
 
 -- ---- a text has one list of lines
 
-abbrev head_or : {X : Type 0} → X → List X → X
+abbrev pub head_or : {X : Type 0} → X → List X → X
 head_or x [] = x
 head_or x (y ∷ ys) = y
 
-abbrev tail_of : {X : Type 0} → List X → List X
+abbrev pub tail_of : {X : Type 0} → List X → List X
 tail_of [] = []
 tail_of (x ∷ xs) = xs
 
-one_line : (a b : Line) → IsLine a → IsLine b → line_text a ≡ line_text b → a ≡ b
+pub one_line : (a b : Line) → IsLine a → IsLine b → line_text a ≡ line_text b → a ≡ b
 one_line a b is are e = some_inj a b _ refl
     (sym (read_again (line_text a) a is refl) ∙ ap (λ t. line_in (parts 32 t)) e ∙ read_again (line_text b) b are refl)
 
-one_list : (xs ys : List Line) → AllByRecursion IsLine xs → AllByRecursion IsLine ys → each line_text xs ≡ each line_text ys → xs ≡ ys
+pub one_list : (xs ys : List Line) → AllByRecursion IsLine xs → AllByRecursion IsLine ys → each line_text xs ≡ each line_text ys → xs ≡ ys
 one_list [] [] is are e = refl
 one_list [] (y ∷ ys) is are e = absurd cc
 one_list (x ∷ xs) [] is are e = absurd cc
@@ -59,7 +59,7 @@ image_of (s ∷ ss) (o ∷ os) h =
       whole = all.2;
     }
 
-one_start : (begin : List ShardState) (a b : Image) → IsStart begin a → IsStart begin b → a ≡ b
+pub one_start : (begin : List ShardState) (a b : Image) → IsStart begin a → IsStart begin b → a ≡ b
 one_start [] a b p q = absurd p
 one_start (s ∷ later) a b p q = p ∙ sym q
 

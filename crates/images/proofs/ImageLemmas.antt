@@ -3,8 +3,8 @@ use Rattle.std.proofs.Common.{◌≡◌, ◌++◌, ◌∷◌, inl, inr, ℕ, Lis
 use Rattle.std.specs.List.{flat_map}
 use Rattle.machine.specs.State.{Invocation}
 use Rattle.hlrcore.specs.Shards.{ShardState}
-use Rattle.image_lines.specs.Lines.{Line, Shard, Used, Freed, Opened, Waits}
-use Rattle.images.specs.Reading.{Begins, Ends, HasIds, HasOpened, Image, IsWhole, OpensAt, Reading, Stage, Takes, TakesLine, TakesLines, reading}
+use Rattle.image_lines.specs.Lines.{Line, Shard, Used, Freed, Opened, Waits, End}
+use Rattle.images.specs.Reading.{Begins, Ends, HasIds, HasOpened, Whole, Image, IsWhole, OpensAt, Reading, Stage, Takes, TakesLine, TakesLines, reading}
 use Rattle.images.specs.Written.{shard_lines}
 use Rattle.images.specs.Again.{TakesAll, TakesTo}
 
@@ -16,6 +16,7 @@ same_opened s left vs (Opened id mark d) a b p q = p.3 ∙ sym q.3
 same_opened s left vs (Shard n clock first) a b p q = absurd p
 same_opened s left vs (Used id) a b p q = absurd p
 same_opened s left vs (Freed id) a b p q = absurd p
+same_opened s left vs End a b p q = p.2 ∙ sym q.2
 
 same_taken : (s : ShardState) (stage : Stage) (line : Line) (a b : Reading) → Takes (reading s stage) line a → Takes (reading s stage) line b → a ≡ b
 same_taken s Begins (Shard n clock first) a b p q = p.1 ∙ sym q.1
@@ -23,32 +24,28 @@ same_taken s Begins (Used id) a b p q = absurd p
 same_taken s Begins (Freed id) a b p q = absurd p
 same_taken s Begins (Opened id mark d) a b p q = absurd p
 same_taken s Begins (Waits v) a b p q = absurd p
+same_taken s Begins End a b p q = absurd p
 same_taken s (HasIds clock ids) (Shard n later first) a b p q = absurd p
 same_taken s (HasIds clock ids) (Used id) a b p q = p.2 ∙ sym q.2
 same_taken s (HasIds clock ids) (Freed id) a b p q = p.1 ∙ sym q.1
 same_taken s (HasIds clock ids) (Opened id mark d) a b p q = same_opened _ _ [] (Opened id mark d) a b p q
 same_taken s (HasIds clock ids) (Waits v) a b p q = same_opened _ _ [] (Waits v) a b p q
+same_taken s (HasIds clock ids) End a b p q = same_opened _ _ [] End a b p q
 same_taken s (HasOpened left vs) line a b p q = same_opened s left vs line a b p q
+same_taken s Whole line a b p q = absurd p
 
 same_end : (s : ShardState) (stage : Stage) (a b : ShardState) → Ends (reading s stage) a → Ends (reading s stage) b → a ≡ b
 same_end s Begins a b p q = absurd p
-same_end s (HasIds clock ids) a b p q = p.1 ∙ sym q.1
-same_end s (HasOpened left vs) a b p q = p.2 ∙ sym q.2
+same_end s (HasIds clock ids) a b p q = absurd p
+same_end s (HasOpened left vs) a b p q = absurd p
+same_end s Whole a b p q = p ∙ sym q
 
--- a line goes on with a shard or begins the next one
-not_both : (s t o : ShardState) (stage : Stage) (line : Line) (a b : Reading) → Takes (reading s stage) line a → Ends (reading s stage) t
-    → Takes (reading o Begins) line b → ⊥
-not_both s t o Begins line a b p e q = e
-not_both s t o (HasIds clock ids) (Shard n later first) a b p e q = p
-not_both s t o (HasIds clock ids) (Used id) a b p e q = q
-not_both s t o (HasIds clock ids) (Freed id) a b p e q = q
-not_both s t o (HasIds clock ids) (Opened id mark d) a b p e q = q
-not_both s t o (HasIds clock ids) (Waits v) a b p e q = q
-not_both s t o (HasOpened left vs) (Shard n later first) a b p e q = p
-not_both s t o (HasOpened left vs) (Used id) a b p e q = q
-not_both s t o (HasOpened left vs) (Freed id) a b p e q = q
-not_both s t o (HasOpened left vs) (Opened id mark d) a b p e q = q
-not_both s t o (HasOpened left vs) (Waits v) a b p e q = q
+-- a whole shard takes no line
+not_both : (s t : ShardState) (stage : Stage) (line : Line) (a : Reading) → Takes (reading s stage) line a → Ends (reading s stage) t → ⊥
+not_both s t Begins line a p e = e
+not_both s t (HasIds clock ids) line a p e = e
+not_both s t (HasOpened left vs) line a p e = e
+not_both s t Whole line a p e = p
 
 abbrev head_or : {X : Type 0} → X → List X → X
 head_or x [] = x
@@ -64,8 +61,8 @@ same_tail x y xs ys e = (ap (head_or x) e, ap tail_of e)
 same_line : (before : Image) (line : Line) (a b : Image) → TakesLine before line a → TakesLine before line b → a ≡ b
 same_line before line a b (inl p) (inl q) =
     p.2 ∙ ap (λ r. record before { now = r }) (same_taken before.now.state before.now.stage line p.0 q.0 p.1 q.1) ∙ sym q.2
-same_line before line a b (inl p) (inr q) = absurd (not_both before.now.state q.0 q.1 before.now.stage line p.0 q.3 p.1 q.4 q.6)
-same_line before line a b (inr p) (inl q) = absurd (not_both before.now.state p.0 p.1 before.now.stage line q.0 p.3 q.1 p.4 p.6)
+same_line before line a b (inl p) (inr q) = absurd (not_both before.now.state q.0 before.now.stage line p.0 p.1 q.4)
+same_line before line a b (inr p) (inl q) = absurd (not_both before.now.state p.0 before.now.stage line q.0 q.1 p.4)
 same_line before line a b (inr (t, s, more, r, ends, later, takes, is)) (inr (u, o, rest, z, ends', later', takes', is')) =
     let next = same_tail s o more rest (sym later ∙ later') in
     let done : t ≡ u = same_end before.now.state before.now.stage t u ends ends' in

@@ -8,3 +8,6 @@ pub mod OpenEntries
 pub mod EndLemmas
 pub mod NextLemmas
 pub mod ReadLemmas
+pub mod OnlyLemmas
+pub mod SameLemmas
+pub mod BeginLemmas

@@ -1,5 +1,5 @@
 -- What is written of a shard is read again as that shard.
-use Rattle.std.proofs.Common.{◌≡◌, ◌&&◌, ◌++◌, ◌∷◌, ◌-◌, ℕ, suc, List, [], Bool, true, false, cond, Option, Some, None, is_some, refl, sym, ap, ◌∙◌, subst, IsTrue, length, arith, inl, inr, ◌⊎◌, ap₂, true≢false, zero-lt-suc, subst₂}
+use Rattle.std.proofs.Common.{◌≡◌, ◌&&◌, ◌++◌, ◌∷◌, ◌-◌, ℕ, suc, List, [], Bool, true, false, cond, Option, Some, None, is_some, refl, sym, ap, ◌∙◌, append_assoc, subst, IsTrue, length, arith, inl, inr, ◌⊎◌, ap₂, true≢false, zero-lt-suc, subst₂}
 use Rattle.std.specs.Prelude.{option_map, not, is_none, unwrap_or, map as each, T}
 use Rattle.std.specs.FinMap as map
 use Rattle.std.specs.FinMap.{find, is_sorted, slice_cmp-IsAntisymmetric, nat_cmp-IsAntisymmetric}
@@ -26,8 +26,8 @@ use Rattle.dialogues.specs.Dialogues.{dialogues_of, gone_on, next_of}
 use Rattle.hlrcore.specs.Shards.{ShardState, records_of, state_of}
 use Rattle.hlrcore.specs.Sound.{IsSoundShard}
 use Rattle.hlrcore.specs.Resuming.{is_update, marked, marked_if, may_have, may_reopen, reopened, reopened_under, with_current}
-use Rattle.image_lines.specs.Lines.{Line, Shard, Used, Freed, Opened, Waits}
-use Rattle.images.specs.Reading.{Begins, Ends, HasIds, HasOpened, Reading, Takes, reading, with_ids}
+use Rattle.image_lines.specs.Lines.{Line, Shard, Used, Freed, Opened, Waits, End}
+use Rattle.images.specs.Reading.{Begins, Ends, HasIds, HasOpened, Whole, Reading, Takes, reading, with_ids}
 use Rattle.images.specs.Written.{is_current, names, opened_lines, shard_lines}
 use Rattle.images.specs.Again.{BeginsAs, TakesAll, TakesTo}
 
@@ -82,15 +82,10 @@ takes_invocations s left us (v ∷ vs) h =
 
 enter : (s t : ShardState) (clock : ℕ) (ids : LiveIds) (lines : List Line) → TakesTo (reading (with_ids s clock ids) (HasOpened (set.len ids.live) [])) lines t
     → TakesTo (reading s (HasIds clock ids)) lines t
-enter s t clock ids [] h = (reading s (HasIds clock ids), refl, ends h.0 h.1 h.2)
-  where
-    ends : (r : Reading) → reading (with_ids s clock ids) (HasOpened (set.len ids.live) []) ≡ r → Ends r t
-        → (set.len ids.live ≡ 0) × (t ≡ with_ids s clock ids)
-    ends r e f =
-        let P : Reading → Type 0 = λ z. Ends z t in
-        let g = subst P (sym e) f in (g.0, g.2)
+enter s t clock ids [] h = let P : Reading → Type 0 = λ z. Ends z t in absurd (subst P (sym h.1) h.2)
 enter s t clock ids (Waits v ∷ more) h = (h.0, (h.1.0, h.1.1, h.1.2), h.2)
 enter s t clock ids (Opened id mark d ∷ more) h = (h.0, (h.1.0, h.1.1, h.1.2), h.2)
+enter s t clock ids (End ∷ more) h = (h.0, (h.1.0, h.1.1, h.1.2), h.2)
 enter s t clock ids (Shard n later first ∷ more) h = absurd h.1.1
 enter s t clock ids (Used id ∷ more) h = absurd h.1.1
 enter s t clock ids (Freed id ∷ more) h = absurd h.1.1
@@ -372,8 +367,9 @@ module _ (s : ShardState) (is : IsSoundShard s) (ids : LiveIds) (shard_is : ids.
     (live_are : ascending ids.live ≡ keys_of (map.entries s.dialogues.open_ones))
     (again : (front more : List (List ℕ)) (id : List ℕ) → ascending ids.live ≡ front ++ id ∷ more → AreTakenAgain ids id more) where
   opens_all : (left done : List Entry) (t : ShardState) → done ++ left ≡ map.entries s.dialogues.open_ones → Partly s t done left
-      → TakesTo (reading t (HasOpened (length left) [])) (flat_map (opened_lines s.records) left) s
-  opens_all [] done t e part = (reading t (HasOpened 0 []), refl, (refl, refl, whole s t done is (sym (append_none done) ∙ e) part))
+      → TakesTo (reading t (HasOpened (length left) [])) (flat_map (opened_lines s.records) left ++ End ∷ []) s
+  opens_all [] done t e part =
+      (reading t Whole, (reading t Whole, (refl, refl, refl), refl), whole s t done is (sym (append_none done) ∙ e) part)
   opens_all ((id, d) ∷ more) done t e part =
       let taken : AreTakenAgain ids id (keys_of more) =
       again (keys_of done) (keys_of more) id (live_are ∙ ap keys_of (sym e) ∙ keys_split done (id, d) more) in
@@ -391,16 +387,20 @@ module _ (s : ShardState) (is : IsSoundShard s) (ids : LiveIds) (shard_is : ids.
         next,
         may s is done id d more e t part next goes,
         ap₂ (λ z n. reading z (HasOpened n [])) (sym (reopened_is s is done id d more e t part next goes)) (one_less (length more)),
-      ) in (
+      ) in
+      let own : List Line = each (λ v. Waits v) d.invocations ++ Opened id cur (gone_on [] d) ∷ [] in
+      let others : List Line = flat_map (opened_lines s.records) more in
+      let P : List Line → Type 0 = λ z. TakesAll (reading t (HasOpened (suc (length more)) [])) z rest.0 in (
         rest.0,
-        takes_more (reading t (HasOpened (suc (length more)) [])) (reading (reopened_under id t cur d) (HasOpened (length more) [])) rest.0
-            (each (λ v. Waits v) d.invocations ++ Opened id cur (gone_on [] d) ∷ []) (flat_map (opened_lines s.records) more)
+        subst P (sym (append_assoc own others (End ∷ [])))
+            (takes_more (reading t (HasOpened (suc (length more)) [])) (reading (reopened_under id t cur d) (HasOpened (length more) [])) rest.0
+            own (others ++ End ∷ [])
             (takes_more (reading t (HasOpened (suc (length more)) [])) (reading t (HasOpened (suc (length more)) d.invocations))
             (reading (reopened_under id t cur d) (HasOpened (length more) []))
             (each (λ v. Waits v) d.invocations) (Opened id cur (gone_on [] d) ∷ [])
             (takes_invocations t (suc (length more)) [] d.invocations (sound s is done id d more e).rising)
             (reading (reopened_under id t cur d) (HasOpened (length more) []), opened, refl))
-            rest.1,
+            rest.1),
         rest.2,
       )
 
@@ -448,8 +448,9 @@ module _ (s o : ShardState) (is : IsSoundShard s) (begins : BeginsAs s o) (own :
       let es = map.entries s.dialogues.open_ones in
       let count : length es ≡ set.len ids.live = sym (count_is ∙ map.len-entries s.dialogues.open_ones) in
       let dialogues = opens_all s is ids shard_is supply_is live_are again es [] fresh refl none_yet in
-      let P : ℕ → Type 0 = λ n. TakesTo (reading fresh (HasOpened n [])) (flat_map (opened_lines s.records) es) s in
-      let rest = enter o s s.clock all_ids (flat_map (opened_lines s.records) es) (subst P count dialogues) in
+      let last : List Line = flat_map (opened_lines s.records) es ++ End ∷ [] in
+      let P : ℕ → Type 0 = λ n. TakesTo (reading fresh (HasOpened n [])) last s in
+      let rest = enter o s s.clock all_ids last (subst P count dialogues) in
       let n_is : ids.shard ≡ s.shard = shard_is ∙ own in
       let first : LiveIds = beginning_after (no_ids s.shard) s.dialogues.supply.first in
       let Q : ℕ → Supply → Type 0 = λ n z. UsesInTurn (beginning_after (no_ids n) z.first) (used_ids n 0 z.generations) puts_back.used in

@@ -21,7 +21,7 @@ use Rattle.images.specs.Appended.{GoesOnWith, waits_line}
 use Rattle.images.specs.Written.{is_current, lines_text, opened_lines}
 use Rattle.images.proofs.OpenEntries.{next_found, next_opened}
 
-all_then : {X : Type 0} (P : X → Type 0) (xs ys : List X) → AllByRecursion P xs → AllByRecursion P ys → AllByRecursion P (xs ++ ys)
+pub all_then : {X : Type 0} (P : X → Type 0) (xs ys : List X) → AllByRecursion P xs → AllByRecursion P ys → AllByRecursion P (xs ++ ys)
 all_then P [] ys all more = more
 all_then P (x ∷ xs) ys all more = (all.0, all_then P xs ys all.1 more)
 

@@ -19,6 +19,7 @@ abbrev pub Fits : ShardState → code.Stage → Type 0
 Fits s stages.Begins = NoneOpen s
 Fits s (stages.HasIds clock ids) = NoneOpen s × (clock ≤ MAX_CLOCK) × (ids.shard ≡ s.shard)
 Fits s (stages.HasOpened left invocations) = AreRising invocations
+Fits s stages.Whole = Unit {0}
 
 abbrev pub IsFit : code_reading.Reading → Type 0
 IsFit r = Fits r.state r.stage

@@ -5,3 +5,5 @@ pub mod Again
 pub mod Fits
 pub mod Seen
 pub mod Texts
+pub mod Same
+pub mod Beginnings

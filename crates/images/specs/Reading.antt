@@ -8,16 +8,17 @@ use Rattle.tidalloc.specs.Resumed.{IsNextUnused, set_back, with_used}
 use Rattle.dialogues.specs.Dialogues.{gone_on, next_of}
 use Rattle.hlrcore.specs.Resuming.{may_reopen, reopened, resumed}
 use Rattle.hlrcore.specs.Shards.{ShardState}
-use Rattle.image_lines.specs.Lines.{Line, Shard, Used, Freed, Opened, Waits}
+use Rattle.image_lines.specs.Lines.{Line, Shard, Used, Freed, Opened, Waits, End}
 
 -- ---- one shard
 
--- How far the lines of a shard have come: none was read; its clock and its ids, to which slots may be added, and then free ones; or its dialogues, of which so
--- many are left, with the invocations of the next one.
+-- How far the lines of a shard have come: none was read; its clock and its ids, to which slots may be added, and then free ones; its dialogues, of which so
+-- many are left, with the invocations of the next one; or all of them, so that the shard is whole.
 pub data Stage : Type 0 where
   Begins : Stage
   HasIds : (clock : ℕ) → LiveIds → Stage
   HasOpened : (left : ℕ) → List Invocation → Stage
+  Whole : Stage
 
 -- The shard as far as it was read.
 pub record Reading : Type 0 where
@@ -27,12 +28,14 @@ pub record Reading : Type 0 where
 abbrev pub reading : ShardState → Stage → Reading
 reading s stage = record { state = s; stage = stage }
 
--- A line of a dialogue or of an invocation of the next one. A dialogue opens again under its own id, which is the next.
+-- A line of a dialogue or of an invocation of the next one, or the last line of a shard. A dialogue opens again under its own id, which is the next. After
+-- the last line as many dialogues are open as ids are live, and no invocation waits for its dialogue.
 abbrev pub OpensAt : ShardState → (left : ℕ) → List Invocation → Line → Reading → Type 0
 OpensAt s left vs (Waits v) r = AreRising (vs ++ v ∷ []) × (r ≡ reading s (HasOpened left (vs ++ v ∷ [])))
 OpensAt s left vs (Opened id is_current d) r =
     (0 < left) × (next_of s.dialogues ≡ Some id) × (may_reopen s is_current (gone_on vs d) ≡ true)
     × (r ≡ reading (reopened s is_current (gone_on vs d)) (HasOpened (left - 1) []))
+OpensAt s left vs End r = (left ≡ 0) × (vs ≡ []) × (r ≡ reading s Whole)
 OpensAt s left vs _ r = ⊥
 
 -- The shard with all ids, of which the live ones are taken again by the dialogues.
@@ -48,15 +51,15 @@ TakesAt s (HasIds clock ids) (Used id) r = (ids.supply.free ≡ []) × IsNextUnu
 TakesAt s (HasIds clock ids) (Freed id) r = (is_live ids id ≡ true) × (r ≡ reading s (HasIds clock (given_back ids id)))
 TakesAt s (HasIds clock ids) line r = OpensAt (with_ids s clock ids) (set.len ids.live) [] line r
 TakesAt s (HasOpened left vs) line r = OpensAt s left vs line r
+TakesAt s Whole line r = ⊥
 
 abbrev pub Takes : Reading → Line → Reading → Type 0
 Takes before line after = TakesAt before.state before.stage line after
 
--- The shard is whole: as many dialogues are open as ids are live.
+-- The shard is whole: its last line was read.
 abbrev pub EndsAt : ShardState → Stage → ShardState → Type 0
-EndsAt s (HasIds clock ids) t = (set.len ids.live ≡ 0) × (t ≡ with_ids s clock ids)
-EndsAt s (HasOpened left vs) t = (left ≡ 0) × (vs ≡ []) × (t ≡ s)
-EndsAt s Begins t = ⊥
+EndsAt s Whole t = t ≡ s
+EndsAt s _ t = ⊥
 
 abbrev pub Ends : Reading → ShardState → Type 0
 Ends before t = EndsAt before.state before.stage t

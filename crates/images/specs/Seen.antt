@@ -1,5 +1,5 @@
 -- What was read of an image, as the code has it.
-use Rattle.std.specs.Prelude.{◌≡◌, [], Option, Some, None, Result, Ok, Err}
+use Rattle.std.specs.Prelude.{◌≡◌, ◌⊎◌, [], Option, Some, None, Result, Ok, Err}
 use Rattle.std.specs.FinSet as set
 use Rattle.hlrcore.specs.Shards.{ShardState}
 use Rattle.images.specs.declared.so_far.Stage as code
@@ -9,12 +9,13 @@ use Rattle.images.specs.declared.so_far.Opening as code_opening
 use Rattle.images.specs.declared.so_far.Image as code_image
 use Rattle.machine.specs.Effect.{AreRising}
 use Rattle.images.specs.Fits.{IsFit, IsFitImage}
-use Rattle.images.specs.Reading.{Begins, HasIds, HasOpened, Image, Reading, Stage, reading, with_ids}
+use Rattle.images.specs.Reading.{Begins, HasIds, HasOpened, Whole, Image, Reading, Stage, reading, with_ids}
 
 abbrev pub stage_of : code.Stage → Stage
 stage_of stages.Begins = Begins
 stage_of (stages.HasIds clock ids) = HasIds clock ids
 stage_of (stages.HasOpened left invocations) = HasOpened left invocations
+stage_of stages.Whole = Whole
 
 abbrev pub seen : code_reading.Reading → Reading
 seen r = reading r.state (stage_of r.stage)
@@ -36,16 +37,20 @@ abbrev pub IsOpeningOf : ShardState → Stage → code_opening.Opening → Type 
 IsOpeningOf s Begins o = ⊥
 IsOpeningOf s (HasIds clock ids) o = seen_opening o ≡ reading (with_ids s clock ids) (HasOpened (set.len ids.live) [])
 IsOpeningOf s (HasOpened left vs) o = seen_opening o ≡ reading s (HasOpened left vs)
+IsOpeningOf s Whole o = ⊥
 
 abbrev pub OpensUp : {E : Type 0} → Reading → Result (Option code_opening.Opening) E → Type 0
 OpensUp before (Ok (Some o)) = IsOpeningOf before.state before.stage o × AreRising o.invocations
-OpensUp before (Ok None) = before.stage ≡ Begins
+OpensUp before (Ok None) = (before.stage ≡ Begins) ⊎ (before.stage ≡ Whole)
 OpensUp before (Err e) = Unit {0}
 
--- What is whole, or that nothing is, unless memory ran out.
+-- What is whole, or that nothing is; the second, unless memory ran out.
+abbrev pub EndsIf : {X S : Type 0} → (X → S) → (S → Type 0) → Option X → Type 0
+EndsIf of Is (Some x) = Is (of x)
+EndsIf {S = S} of Is None = (t : S) → Is t → ⊥
+
 abbrev pub EndsAs : {E X S : Type 0} → (X → S) → (S → Type 0) → Result (Option X) E → Type 0
-EndsAs of Is (Ok (Some x)) = Is (of x)
-EndsAs {S = S} of Is (Ok None) = (t : S) → Is t → ⊥
+EndsAs of Is (Ok ended) = EndsIf of Is ended
 EndsAs of Is (Err e) = Unit {0}
 
 -- ---- all shards

@@ -4,6 +4,8 @@ use Rattle.std.specs.List.{AllByRecursion}
 use Rattle.texts.specs.Lines.{lines}
 use Rattle.hlrcore.specs.Shards.{ShardState}
 use Rattle.image_lines.specs.Lines.{Line, IsLine, line_text}
+use Rattle.images.specs.declared.fault.ImageFault.{ImageFault}
+use Rattle.images.specs.declared.fault.ImageFault.TheVariants as fault
 use Rattle.images.specs.Reading.{Begins, Image, IsWhole, TakesLine, TakesLines, reading}
 
 -- These are the texts of these lines.
@@ -48,3 +50,9 @@ pub record IsCutShort (written : List ℕ) (begin : List ShardState) : Type 0 wh
   pub starts : IsStart begin start
   pub takes : TakesLines start these end
   pub not_whole : (shards : List ShardState) → ¬ (IsWhole end shards)
+
+-- The fault is that of the text; memory can run out with every text.
+abbrev pub IsImageFault : (written : List ℕ) → (begin : List ShardState) → ImageFault → Type 0
+IsImageFault written begin (fault.Line n) = IsFirstFault written begin n
+IsImageFault written begin fault.CutShort = IsCutShort written begin
+IsImageFault written begin fault.Memory = Unit {0}

@@ -9,7 +9,7 @@ use Rattle.records.specs.Subscriber.{Subscriber}
 use Rattle.tidalloc.specs.Resumed.{freed_ids, used_ids}
 use Rattle.dialogues.specs.Dialogues.{gone_on}
 use Rattle.hlrcore.specs.Shards.{ShardState}
-use Rattle.image_lines.specs.Lines.{Line, Shard, Used, Freed, Opened, Waits, line_text}
+use Rattle.image_lines.specs.Lines.{Line, Shard, Used, Freed, Opened, Waits, End, line_text}
 
 -- Whether the record, if there is one, has this id as that of its current update.
 abbrev pub names : List ℕ → Option (List ℕ) → Bool
@@ -25,13 +25,14 @@ abbrev pub opened_lines : RecordMap → List ℕ × Dialogue → List Line
 opened_lines records (id, d) =
     each (λ v. Waits v) d.invocations ++ Opened id (is_current id (map.get records d.subscriber)) (gone_on [] d) ∷ []
 
--- The lines of a shard: its clock and where its ids begin, the slots that were used, those that are free, and the open dialogues by local id.
+-- The lines of a shard: its clock and where its ids begin, the slots that were used, those that are free, the open dialogues by local id, and that it is
+-- whole.
 abbrev pub shard_lines : ShardState → List Line
 shard_lines s =
     Shard s.shard s.clock s.dialogues.supply.first
     ∷ (each (λ id. Used id) (used_ids s.shard 0 s.dialogues.supply.generations)
     ++ (each (λ id. Freed id) (freed_ids s.shard s.dialogues.supply)
-    ++ flat_map (opened_lines s.records) (map.entries s.dialogues.open_ones)))
+    ++ (flat_map (opened_lines s.records) (map.entries s.dialogues.open_ones) ++ End ∷ [])))
 
 -- The text of lines, each with its line feed.
 abbrev pub lines_text : List Line → List ℕ

@@ -39,15 +39,10 @@ impl Image {
         requires fits { IsFitImage self }
         ensures { TakesNext (TakesLine (seen_image self) (line_of line)) result }
     {
-        match line {
-            Line::Shard { .. } => {
-                if self.now.begins() {
-                    self.go_on(line)
-                } else {
-                    self.begin_next(line)
-                }
-            }
-            _ => self.go_on(line),
+        if self.now.is_whole() {
+            self.begin_next(line)
+        } else {
+            self.go_on(line)
         }
     }
 
@@ -86,7 +81,7 @@ impl Image {
             now,
             mut later,
         } = self;
-        let Some(whole) = now.end()? else {
+        let Some(whole) = now.end() else {
             return Ok(None);
         };
         let Some(next) = later.pop_front() else {
@@ -106,7 +101,6 @@ impl Image {
 
     /// The shards, if all are whole.
     pub(crate) fn end(self) -> Result<Option<Vec<State>>, AllocError>
-        requires { IsFitImage self }
         ensures { EndsAs (λ done. done.items) (IsWhole (seen_image self)) result }
     {
         let Image {
@@ -118,7 +112,7 @@ impl Image {
         if let Some(_) = later.front() {
             return Ok(None);
         }
-        let Some(whole) = now.end()? else {
+        let Some(whole) = now.end() else {
             return Ok(None);
         };
         done.push(whole)?;

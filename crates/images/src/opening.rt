@@ -5,9 +5,9 @@ ghost use Rattle.csl.specs.Seen.{invocation_of};
 ghost use Rattle.machine.specs.Effect.{AreRising};
 ghost use Rattle.images.specs.Fits.{IsFit};
 ghost use Rattle.dialogues.specs.Seen.{dialogue_with};
-ghost use Rattle.image_lines.specs.Lines.{Opened, Waits};
+ghost use Rattle.image_lines.specs.Lines.{End, Opened, Waits};
 ghost use Rattle.images.specs.Reading.{OpensAt};
-ghost use Rattle.images.specs.Seen.{TakesOne, seen, seen_opening};
+ghost use Rattle.images.specs.Seen.{TakesIf, TakesOne, seen, seen_opening};
 
 use crate::so_far::{Opening, Reading, Stage};
 use csl::{Remaining, Was};
@@ -70,6 +70,29 @@ impl Opening {
             invocations: Remaining::none(alloc),
         };
         Ok(Some(opened.reading()))
+    }
+
+    /// After the last line: the shard is whole. `None` if a dialogue is left, or an invocation waits for one.
+    pub(crate) fn end(self) -> Option<Reading>
+        ensures { TakesIf (OpensAt self.state self.left self.invocations End) result }
+    {
+        let Opening {
+            alloc,
+            state,
+            left,
+            invocations,
+        } = self;
+        if left != 0 {
+            return None;
+        }
+        if !invocations.is_empty() {
+            return None;
+        }
+        Some(Reading {
+            alloc,
+            state,
+            stage: Stage::Whole,
+        })
     }
 
     /// What was read so far.

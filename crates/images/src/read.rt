@@ -1,9 +1,11 @@
 //! Reads an image.
 
-ghost use Rattle.std.specs.Prelude.{◌≡◌, ◌≢◌, ℕ, [], Err, IfOk};
+ghost use Rattle.std.specs.Prelude.{◌≡◌, ◌≢◌, List, [], IfErr, IfOk};
 ghost use Rattle.std.specs.List.{AllByRecursion};
+ghost use Rattle.hlrcore.specs.Shards.{ShardState};
 ghost use Rattle.images.specs.Fits.{NoneOpen};
-ghost use Rattle.images.specs.Texts.{IsCutShort, IsFirstFault, IsImage};
+ghost use Rattle.images.specs.Same.{AreSameShards};
+ghost use Rattle.images.specs.Texts.{IsImage, IsImageFault};
 
 use crate::fault::ImageFault;
 use crate::so_far::Image;
@@ -24,8 +26,11 @@ pub fn read_image(alloc: Global, shards: Vec<State>, text: &[u8]) -> Result<Vec<
     requires begin { AllByRecursion NoneOpen shards.items }
     requires some { shards.items ≢ [] }
     ensures read { IfOk result (λ whole. IsImage text.now shards.items whole.items) }
-    ensures line { (n : ℕ) → result ≡ Err (ImageFault.Line n) → IsFirstFault text.now shards.items n }
-    ensures cut_short { result ≡ Err ImageFault.CutShort → IsCutShort text.now shards.items }
+    // An image is read, unless memory runs out.
+    ensures only { (whole : List ShardState) → IsImage text.now shards.items whole
+        → IfErr result (λ fault. fault ≡ ImageFault.Memory) }
+    ensures fault { IfErr result (IsImageFault text.now shards.items) }
+    ensures same { IfOk result (λ whole. AreSameShards shards.items whole.items) }
 {
     let Some(mut image) = Image::new(alloc, shards) else {
         unreachable!()

@@ -7,7 +7,7 @@ ghost use Rattle.image_lines.specs.Seen.{line_of};
 ghost use Rattle.images.specs.Reading.{Ends, Takes};
 ghost use Rattle.images.specs.Reading as definition;
 ghost use Rattle.images.specs.Fits.{IsFit, NoneOpen};
-ghost use Rattle.images.specs.Seen.{EndsAs, OpensUp, TakesIf, TakesOne, seen};
+ghost use Rattle.images.specs.Seen.{EndsIf, OpensUp, TakesIf, TakesOne, seen};
 
 use crate::so_far::{Opening, Reading, Stage};
 use csl::Remaining;
@@ -31,14 +31,15 @@ impl Reading {
         }
     }
 
-    /// Whether no line was read.
-    pub(crate) fn begins(&self) -> bool
-        ensures { IsTrue result ↔ ((seen self.now).stage ≡ definition.Begins) }
+    /// Whether its last line was read.
+    pub(crate) fn is_whole(&self) -> bool
+        ensures { IsTrue result ↔ ((seen self.now).stage ≡ definition.Whole) }
     {
         match self.stage {
-            Stage::Begins => true,
+            Stage::Begins => false,
             Stage::HasIds { .. } => false,
             Stage::HasOpened { .. } => false,
+            Stage::Whole => true,
         }
     }
 
@@ -70,6 +71,10 @@ impl Reading {
                 dialogue,
             } => match self.opening()? {
                 Some(opening) => opening.open(id, is_current, &dialogue),
+                None => Ok(None),
+            },
+            Line::End => match self.opening()? {
+                Some(opening) => Ok(opening.end()),
                 None => Ok(None),
             },
         }
@@ -149,7 +154,7 @@ impl Reading {
         })
     }
 
-    /// The shard with all its ids. `None` if no line was read.
+    /// The shard with all its ids. `None` if no line was read, or the last one was.
     fn opening(self) -> Result<Option<Opening>, AllocError>
         requires { IsFit self }
         ensures { OpensUp (seen self) result }
@@ -160,7 +165,7 @@ impl Reading {
             stage,
         } = self;
         let (left, invocations) = match stage {
-            Stage::Begins => return Ok(None),
+            Stage::Begins | Stage::Whole => return Ok(None),
             Stage::HasIds { clock, mut ids } => {
                 let left = ids.live_count();
                 ids.set_back()?;
@@ -178,25 +183,17 @@ impl Reading {
     }
 
     /// The shard, if it is whole.
-    pub(crate) fn end(self) -> Result<Option<State>, AllocError>
-        requires { IsFit self }
-        ensures { EndsAs (λ state. state) (Ends (seen self)) result }
+    pub(crate) fn end(self) -> Option<State>
+        ensures { EndsIf (λ state. state) (Ends (seen self)) result }
     {
-        let Some(opening) = self.opening()? else {
-            return Ok(None);
-        };
-        let Opening {
+        let Reading {
             alloc: _,
             state,
-            left,
-            invocations,
-        } = opening;
-        if left != 0 {
-            return Ok(None);
-        }
-        if !invocations.is_empty() {
-            return Ok(None);
-        }
-        Ok(Some(state))
+            stage,
+        } = self;
+        let Stage::Whole = stage else {
+            return None;
+        };
+        Some(state)
     }
 }

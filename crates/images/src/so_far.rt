@@ -15,6 +15,8 @@ pub(crate) enum Stage {
     HasIds { clock: u64, ids: Ids },
     /// So many dialogues are left, with the invocations of the next one.
     HasOpened { left: usize, invocations: Remaining },
+    /// The shard is whole.
+    Whole,
 }
 
 /// A shard as far as its lines are read.

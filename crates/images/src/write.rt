@@ -22,15 +22,15 @@ use tidalloc::Ids;
 
 /// Appends the image of a shard: lines, each ended by a line feed (`image_lines::write_line`). First the shard, with its clock and where its
 /// ids begin; then each slot that was used, in order; then those that are free, in the order in which they were freed; then the open
-/// dialogues by ascending local id, each after its invocations by ascending invoke id. On error, when out of memory, a part may have been
-/// appended.
+/// dialogues by ascending local id, each after its invocations by ascending invoke id; and last that the shard is whole. On error, when out
+/// of memory, a part may have been appended.
+#[tactic(auto, using(crate::proofs::WriteLemmas::all_then))]
 pub fn write_shard(text: &mut String, shard: &State) -> Result<(), AllocError>
     ensures text { OnOk result (string_bytes text.new
         ≡ string_bytes text.old ++ shard_text shard.now) }
-    // The clock and the first generation of every shard are within these limits; no clause of the crates below says so.
-    ensures lines { OnOk result (IsShard shard.now.shard shard.now.clock
-        shard.now.dialogues.supply.first → AllByRecursion IsLine (shard_lines shard.now)) }
+    ensures lines { OnOk result (AllByRecursion IsLine (shard_lines shard.now)) }
 {
+    shard.law_sound();
     let dialogues = shard.dialogues();
     let ids = dialogues.ids();
     let begins = Line::Shard {
@@ -41,7 +41,8 @@ pub fn write_shard(text: &mut String, shard: &State) -> Result<(), AllocError>
     push_line(text, begins)?;
     push_used(text, ids)?;
     push_freed(text, ids)?;
-    push_dialogues(text, shard.records(), dialogues)
+    push_dialogues(text, shard.records(), dialogues)?;
+    push_line(text, Line::End)
 }
 
 /// A line with its line feed.

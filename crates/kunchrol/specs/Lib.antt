@@ -3,3 +3,4 @@ pub mod Handles
 pub mod Lookups
 pub mod Refusals
 pub mod Replay
+pub mod Restoring

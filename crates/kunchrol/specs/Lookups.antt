@@ -7,6 +7,7 @@ use Rattle.records.specs.Spelling.{IsImsiNumber}
 use Rattle.records.specs.Subscriber.{Subscriber}
 use Rattle.records.specs.Written.{record_line}
 use Rattle.wholenode.specs.Nodes.{NodeState}
+use Rattle.embed.specs.Counts.{IsCountOf}
 use Rattle.embed.specs.Journals.{ListsOpen}
 use Rattle.embed.specs.Lookups.{IsTimerOf, record_by_number, record_of}
 use Rattle.embed.specs.Registers.{RegisterState}
@@ -26,6 +27,17 @@ pub record TellsDeadline (held : Held) (deadline : ℕ) : Type 0 where
 abbrev pub RefusesDeadline : Held → (code : ℕ) → Type 0
 RefusesDeadline held code =
     IsClosed held code ⊎ ((is : RegisterState) × (held ≡ Some is) × (code ≡ 1) × IsFirst (IsTimerOf is.node) None)
+
+-- ---- how full a shard is
+
+pub record TellsCounts (shard : ℕ) (held : Held) (dialogues entries : ℕ) : Type 0 where
+  pub is : RegisterState
+  pub held_is : held ≡ Some is
+  pub counts : IsCountOf is.node shard dialogues entries
+
+-- There is no such shard (3), or the handle is closed.
+abbrev pub RefusesCounts : (shard : ℕ) → Held → (code : ℕ) → Type 0
+RefusesCounts shard held code = (code ≡ 3) × (16 ≤ shard) ⊎ (shard < 16) × IsClosed held code
 
 -- ---- records
 

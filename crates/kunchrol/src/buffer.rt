@@ -2,6 +2,7 @@
 
 ghost use Rattle.std.specs.Prelude.{◌≡◌, ◌≢◌, ℕ, List, Some, length, option_copied};
 ghost use Rattle.audit.specs.Saving.{Saves};
+ghost use Rattle.embed.specs.Images.{IsImageOf};
 ghost use Rattle.embed.specs.Journals.{CutsOff, ListsOpen, ListsShard};
 ghost use Rattle.embed.specs.Buffers.{Writes};
 ghost use Rattle.records.specs.Subscriber.{Subscriber};
@@ -95,6 +96,28 @@ pub(crate) fn list_dialogues(
     ensures len { result ≢ 0 → result ≢ 2 → len.new ≡ len.old }
 {
     match register.list_dialogues(shard, buffer) {
+        Ok(count) => {
+            *len = count;
+            OK
+        }
+        Err(fault) => refused(fault, len),
+    }
+}
+
+pub(crate) fn write_image(
+    register: &Register,
+    shard: ShardNumber,
+    buffer: &mut [u8],
+    len: &mut usize,
+) -> u32
+    ensures written { result ≡ 0 → (text : List ℕ) × IsImageOf register.now.node shard text
+        × Writes text buffer.old len.new buffer.new }
+    ensures why { result ≢ 0 → RefusesRoom (IsImageOf register.now.node shard)
+        (length buffer.old) len.new result }
+    ensures refused { result ≢ 0 → buffer.new ≡ buffer.old }
+    ensures len { result ≢ 0 → result ≢ 2 → len.new ≡ len.old }
+{
+    match register.write_image(shard, buffer) {
         Ok(count) => {
             *len = count;
             OK

@@ -39,6 +39,12 @@ pub const LINE: u32 = 9;
 /// The IMSI or MSISDN of a line stands on an earlier line.
 pub const TWICE: u32 = 10;
 
+/// A line of an image is not of its form, or cannot follow those before it.
+pub const IMAGE_LINE: u32 = 11;
+
+/// An image ends before all shards are whole.
+pub const IMAGE_SHORT: u32 = 12;
+
 /// Why an event was not handled.
 pub fn code_of_cause(cause: Cause) -> u32
     ensures { result ≡ code_of cause }

@@ -10,6 +10,7 @@ mod handle;
 mod lookups;
 mod next;
 mod replay;
+mod restoring;
 
 ghost use Rattle.std.specs.Prelude.{◌≡◌, ◌≢◌, length, true, None, Some};
 ghost use Rattle.hlrcore.specs.Events.{raw_event};
@@ -27,11 +28,13 @@ use embed::{
 pub use handle::Handle;
 use hlrcore::{RawEvent, ShardNumber};
 pub use lookups::{
-    kunchrol_deadline, kunchrol_dialogues, kunchrol_record, kunchrol_record_of_number,
+    kunchrol_counts, kunchrol_deadline, kunchrol_dialogues, kunchrol_record,
+    kunchrol_record_of_number,
 };
 use machine::numbers::MAX_CLOCK;
 use next::next_frame;
 pub use replay::{kunchrol_drop_frames, kunchrol_replay};
+pub use restoring::{kunchrol_image, kunchrol_restore};
 use std::alloc::Global;
 
 /// The release: 65,536 times its first number, 256 times its second, and its third. This is 0.1.0.

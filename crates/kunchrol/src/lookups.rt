@@ -3,7 +3,7 @@
 ghost use Rattle.std.specs.Prelude.{◌≡◌, ◌≢◌, length, None, Some};
 ghost use Rattle.machine.specs.Deadlines.{IsFirst};
 ghost use Rattle.embed.specs.Lookups.{IsTimerOf};
-ghost use Rattle.kunchrol.specs.Lookups.{IsImsiRecord, IsNumberRecord, ListsDialogues, RefusesDeadline, RefusesDialogues, RefusesRecord, TellsDeadline, WritesRecord};
+ghost use Rattle.kunchrol.specs.Lookups.{IsImsiRecord, IsNumberRecord, ListsDialogues, RefusesCounts, RefusesDeadline, RefusesDialogues, RefusesRecord, TellsCounts, TellsDeadline, WritesRecord};
 
 use crate::buffer::{list_dialogues, write_found};
 use crate::code::{ARGUMENT, CLOSED, NONE, OK};
@@ -37,6 +37,33 @@ fn first_deadline(register: &Register, when: &mut u64) -> u32
         return NONE;
     };
     *when = first;
+    OK
+}
+
+/// Puts how many dialogues of a shard are open at `dialogues`, and how many entries its journal has at `entries`.
+#[unsafe(no_mangle)]
+pub extern "C" fn kunchrol_counts(
+    alloc: Global,
+    handle: &mut Handle,
+    shard: u8,
+    dialogues: &mut usize,
+    entries: &mut usize,
+) -> u32
+    ensures told { result ≡ 0 → TellsCounts shard handle.old.value dialogues.new entries.new }
+    ensures why { result ≢ 0 → RefusesCounts shard handle.old.value result }
+    ensures unchanged { handle.new.value ≡ handle.old.value }
+    ensures refused { result ≢ 0 → (dialogues.new ≡ dialogues.old) × (entries.new ≡ entries.old) }
+{
+    let Some(shard) = ShardNumber::new(shard) else {
+        return ARGUMENT;
+    };
+    let Some(register) = handle.take(alloc) else {
+        return CLOSED;
+    };
+    let counts = register.counts(shard);
+    handle.put(register);
+    *dialogues = counts.dialogues;
+    *entries = counts.entries;
     OK
 }
 

@@ -34,7 +34,9 @@ T 01001001
 F 01001000
 I 1 sent 27
 D 01001001 234150000000001 447700900002 0000000B * update 447700900012 447700900002 - 1
+E
 S1 2 0 0
+E
 ";
 
 fn opening(alloc: Global, records: &[u8], shard: u8) -> Result<State, Fail>
@@ -103,7 +105,7 @@ fn written_is_read(rt: HostRuntime) -> Result<(), Fail> {
     Ok(())
 }
 
-/// An image that is cut anywhere but at the end of its last line is not read.
+/// An image that is cut anywhere before the end of its last line is not read; the line feed after it may be left out.
 #[test]
 fn a_part_is_not_read(rt: HostRuntime) -> Result<(), Fail> {
     let alloc = rt.alloc();
@@ -116,15 +118,24 @@ fn a_part_is_not_read(rt: HostRuntime) -> Result<(), Fail> {
 }
 
 /// Texts that are no image, and why.
-const FAULTS: [(&[u8], ImageFault); 12] = [
+const FAULTS: [(&[u8], ImageFault); 20] = [
     (b"", ImageFault::CutShort),
     (b"S1 1 0 0\n", ImageFault::CutShort),
-    (b"S1 2 0 0\n", ImageFault::Line(1)),
-    (b"S1 1 0 0\nS1 3 0 0\n", ImageFault::Line(2)),
-    (b"S1 1 0 0\nS1 2 0 0\nS1 3 0 0\n", ImageFault::Line(3)),
+    (b"S1 1 0 0\nE\n", ImageFault::CutShort),
+    (b"S1 1 0 0\nE\nS1 2 0 0\n", ImageFault::CutShort),
+    (b"S1 2 0 0\nE\n", ImageFault::Line(1)),
+    (b"E\n", ImageFault::Line(1)),
+    (b"S1 1 0 0\nS1 2 0 0\nE\n", ImageFault::Line(2)),
+    (b"S1 1 0 0\nE\nE\n", ImageFault::Line(3)),
+    (b"S1 1 0 0\nE\nS1 3 0 0\nE\n", ImageFault::Line(3)),
+    (b"S1 1 0 0\nE\nS1 2 0 0\nE\nE\n", ImageFault::Line(5)),
+    (
+        b"S1 1 0 0\nE\nS1 2 0 0\nE\nS1 3 0 0\nE\n",
+        ImageFault::Line(5),
+    ),
     (b"S1 1 0 0\nT 01001001\n", ImageFault::Line(2)),
     (b"S1 1 0 0\nT 01000000\n", ImageFault::Line(2)),
-    (b"S1 1 0 0\nT 01001000\nS1 2 0 0\n", ImageFault::Line(3)),
+    (b"S1 1 0 0\nT 01001000\nS1 2 0 0\nE\n", ImageFault::Line(3)),
     (b"S1 1 0 0\nT 01001000\nF 01002000\n", ImageFault::Line(3)),
     (
         b"S1 1 0 0\nT 01001000\nF 01001000\nT 01001001\n",
@@ -139,6 +150,9 @@ const FAULTS: [(&[u8], ImageFault); 12] = [
         b"S1 1 0 0\nT 01001000\nI 1 sent 5\nD 01001000 234150000000033 1 - - data\n",
         ImageFault::Line(4),
     ),
+    // No dialogue is to be left, and no invocation to wait for one.
+    (b"S1 1 0 0\nT 01001000\nE\n", ImageFault::Line(3)),
+    (b"S1 1 0 0\nI 1 sent 5\nE\n", ImageFault::Line(3)),
 ];
 
 #[test]

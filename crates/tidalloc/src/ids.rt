@@ -240,10 +240,12 @@ impl Ids {
         self.free.push_reserved(place as u16);
     }
 
-    /// The generation before the first use of a slot.
+    /// The generation before the first use of a slot, below 4,096.
     pub fn first(&self) -> u16
-        ensures { result ≡ self.now.supply.first }
+        ensures value { result ≡ self.now.supply.first }
+        ensures small { result < 4096 }
     {
+        let _invariant = &self.slots;
         self.first
     }
 

@@ -1,8 +1,10 @@
 -- The shards at the beginning.
 use Rattle.std.proofs.Common.{◌≡◌, ℕ, ◌+◌, ◌<◌, zero, suc, List, [], ◌∷◌, ◌++◌, length, length-append, refl, sym, ap, subst, ◌∙◌, append_assoc, arith, inl, inr, eq-eqb, Bool, true, false, cond, ◌==◌}
-use Rattle.std.specs.Prelude.{Some, None, slice_get, nat_lt}
+use Rattle.std.specs.Prelude.{Some, None, map as each, slice_get, nat_lt}
+use Rattle.std.specs.List.{AllByRecursion}
 use Rattle.std.proofs.lemmas.Bool.{both_ways, ltb-true}
-use Rattle.std.proofs.lemmas.Option.{get_or_from_slice_get}
+use Rattle.std.proofs.lemmas.List.{length-map}
+use Rattle.std.proofs.lemmas.Option.{get_or_from_slice_get, same_Some}
 use Rattle.std.proofs.Math.Seq.{get_or-append_seam}
 use Rattle.machine.specs.Keys.{shard_of, shard_of_id}
 use Rattle.machine.specs.Opening.{opening}
@@ -12,34 +14,36 @@ use Rattle.machine_laws.proofs.Steps.{shard_small}
 use Rattle.records.specs.Loaded.{Subscribers}
 use Rattle.records.specs.Maps.{DirectoryMap, RecordMap, part_of}
 use Rattle.records.specs.Parts.{AreParts}
-use Rattle.hlrcore.specs.Shards.{directory_of, records_of, state_of}
+use Rattle.hlrcore.specs.Shards.{ShardState, directory_of, records_of, state_of}
 use Rattle.shardlog.specs.declared.keep.Keep.{Keep}
-use Rattle.shardlog.specs.Log.{Log}
+use Rattle.shardlog.specs.Log.{Log, LogKeeps, fresh}
 use Rattle.wholenode.specs.Keeping.{AreShards}
 use Rattle.wholenode.specs.Nodes.{node, state_at, states}
-use Rattle.wholenode.specs.Opening.{AreOpening, BeginsWith, Opens, OpensWith}
+use Rattle.wholenode.specs.Opening.{AreBeginning, AreOpening, Begins, BeginsWith}
 use Rattle.wholenode.proofs.Places.{below_or_last, there}
 
 -- ---- one by one
 
 -- no shard yet
-pub no_shard : (loaded : Subscribers) (keep : Keep) (start : ℕ) (shards : List Log) → shards ≡ [] → AreOpening loaded keep start 0 shards
-no_shard loaded keep start shards is = subst (AreOpening loaded keep start 0) (sym is) (record { length_is = refl; each = none_at })
+pub no_state : (loaded : Subscribers) (start : ℕ) (states : List ShardState) → states ≡ [] → AreBeginning loaded start 0 states
+no_state loaded start states is = subst (AreBeginning loaded start 0) (sym is) (record { length_is = refl; each = none_at })
   where
-    none_at : (n : ℕ) (l : Log) → slice_get [] n ≡ Some l → OpensWith loaded keep start n l
-    none_at zero l e = absurd cc
-    none_at (suc n) l e = absurd cc
+    none_at : (n : ℕ) (s : ShardState) → slice_get [] n ≡ Some s → Begins start n (part_of loaded.records n) loaded.directory loaded.hlr s
+    none_at zero s e = absurd cc
+    none_at (suc n) s e = absurd cc
 
 -- one more shard
-pub one_shard_more : (loaded : Subscribers) (keep : Keep) (start : ℕ) (n : ℕ) (before after : List Log) (l : Log) → AreOpening loaded keep start n before
-    → OpensWith loaded keep start n l
-    → after ≡ before ++ l ∷ []
-    → AreOpening loaded keep start (n + 1) after
-one_shard_more loaded keep start n before after l so_far is pushed = subst (AreOpening loaded keep start (n + 1)) (sym pushed) (record {
-  length_is = length-append before (l ∷ []) ∙ ap (λ k. k + 1) so_far.length_is;
-  each = λ m k e. elim (below_or_last before l k m e) [
-    | inl h ↦ so_far.each m k h
-    | inr h ↦ subst (OpensWith loaded keep start m) h.1 (subst (λ (p : ℕ). OpensWith loaded keep start p l) (sym (h.0 ∙ so_far.length_is)) is)
+pub one_state_more : (loaded : Subscribers) (start : ℕ) (n : ℕ) (before after : List ShardState) (s : ShardState) → AreBeginning loaded start n before
+    → Begins start n (part_of loaded.records n) loaded.directory loaded.hlr s
+    → after ≡ before ++ s ∷ []
+    → AreBeginning loaded start (n + 1) after
+one_state_more loaded start n before after s so_far is pushed = subst (AreBeginning loaded start (n + 1)) (sym pushed) (record {
+  length_is = length-append before (s ∷ []) ∙ ap (λ k. k + 1) so_far.length_is;
+  each = λ m t e. elim (below_or_last before s t m e) [
+    | inl h ↦ so_far.each m t h
+    | inr h ↦
+        subst (λ (k : ShardState). Begins start m (part_of loaded.records m) loaded.directory loaded.hlr k) h.1
+        (subst (λ (p : ℕ). Begins start p (part_of loaded.records p) loaded.directory loaded.hlr s) (sym (h.0 ∙ so_far.length_is)) is)
   ];
 })
 
@@ -64,13 +68,65 @@ pub part_taken : (all : RecordMap) (taken rest : List RecordMap) (r : RecordMap)
 part_taken all taken rest r parts = subst (AreParts all) (sym (append_assoc taken (r ∷ []) rest)) parts
 
 -- a shard that begins with its part
-pub opens_with : (loaded : Subscribers) (n : ℕ) (records : RecordMap) (directory : DirectoryMap) (hlr : List ℕ) (keep : Keep) (start : ℕ) (l : Log)
+pub begins_as : (loaded : Subscribers) (n : ℕ) (records : RecordMap) (directory : DirectoryMap) (hlr : List ℕ) (start : ℕ) (s : ShardState)
     → records ≡ part_of loaded.records n
-    → directory ≡ loaded.directory → hlr ≡ loaded.hlr → Opens start n records directory hlr keep l → OpensWith loaded keep start n l
-opens_with loaded n records directory hlr keep start l own shared number is =
-    subst (λ (r : RecordMap). Opens start n r loaded.directory loaded.hlr keep l) own
-    (subst (λ (d : DirectoryMap). Opens start n records d loaded.hlr keep l) shared
-    (subst (λ (h : List ℕ). Opens start n records directory h keep l) number is))
+    → directory ≡ loaded.directory → hlr ≡ loaded.hlr → Begins start n records directory hlr s
+    → Begins start n (part_of loaded.records n) loaded.directory loaded.hlr s
+begins_as loaded n records directory hlr start s own shared number is =
+    subst (λ (r : RecordMap). Begins start n r loaded.directory loaded.hlr s) own
+    (subst (λ (d : DirectoryMap). Begins start n records d loaded.hlr s) shared
+    (subst (λ (h : List ℕ). Begins start n records directory h s) number is))
+
+-- ---- with their journals
+
+pub logs_at : (keep : Keep) (states : List ShardState) (n : ℕ) (l : Log) → slice_get (each (fresh keep) states) n ≡ Some l
+    → (s : ShardState) × (slice_get states n ≡ Some s) × (l ≡ fresh keep s)
+logs_at keep [] zero l e = absurd cc
+logs_at keep [] (suc n) l e = absurd cc
+logs_at keep (s ∷ ss) zero l e = (s, refl, sym (same_Some (fresh keep s) l e))
+logs_at keep (s ∷ ss) (suc n) l e = logs_at keep ss n l e
+
+pub all_at : {X : Type 0} (P : X → Type 0) (xs : List X) → AllByRecursion P xs → (n : ℕ) (x : X) → slice_get xs n ≡ Some x → P x
+all_at P [] h zero x e = absurd cc
+all_at P [] h (suc n) x e = absurd cc
+all_at P (y ∷ ys) h zero x e = subst P (same_Some y x e) h.0
+all_at P (y ∷ ys) h (suc n) x e = all_at P ys h.1 n x e
+
+each_push : (keep : Keep) (ss : List ShardState) (s : ShardState) → each (fresh keep) ss ++ fresh keep s ∷ [] ≡ each (fresh keep) (ss ++ s ∷ [])
+each_push keep [] s = refl
+each_push keep (x ∷ ss) s = ap (λ z. fresh keep x ∷ z) (each_push keep ss s)
+
+pub push_fresh : (keep : Keep) (ss : List ShardState) (s : ShardState) (shards after : List Log) (l : Log) → shards ≡ each (fresh keep) ss
+    → l ≡ fresh keep s → after ≡ shards ++ l ∷ [] → after ≡ each (fresh keep) (ss ++ s ∷ [])
+push_fresh keep ss s shards after l are is pushed =
+    pushed ∙ ap (λ z. z ++ l ∷ []) are ∙ ap (λ z. each (fresh keep) ss ++ z ∷ []) is ∙ each_push keep ss s
+
+pub push_all : {X : Type 0} (P : X → Type 0) (xs : List X) (x : X) → AllByRecursion P xs → P x → AllByRecursion P (xs ++ x ∷ [])
+push_all P [] x all is = (is, tt)
+push_all P (y ∷ xs) x all is = (all.0, push_all P xs x all.1 is)
+
+pub none_of : {X : Type 0} (xs : List X) → length xs ≡ 0 → xs ≡ []
+none_of [] none = refl
+none_of (x ∷ xs) none = absurd (omega (arith, none))
+
+pub as_many : (keep : Keep) (states : List ShardState) (shards : List Log) → shards ≡ each (fresh keep) states → length shards ≡ length states
+as_many keep states shards are = ap length are ∙ length-map states (fresh keep)
+
+pub are_opening : (loaded : Subscribers) (keep : Keep) (start : ℕ) (states : List ShardState) (shards : List Log) → AreBeginning loaded start 16 states
+    → shards ≡ each (fresh keep) states → AllByRecursion LogKeeps shards → AreOpening loaded keep start 16 shards
+are_opening loaded keep start states shards begin are keeps = record {
+  length_is = as_many keep states shards are ∙ begin.length_is;
+  each = λ n l e.
+      let P : List Log → Type 0 = λ z. slice_get z n ≡ Some l in
+      let at = logs_at keep states n l (subst P are e) in
+      let is = begin.each n at.0 at.1 in record {
+        state = at.0;
+        begins = at.2;
+        opens_as = is.opens_as;
+        part_is = is.part_is;
+        keeps = all_at LogKeeps shards keeps n l e;
+      };
+}
 
 -- ---- all of them
 

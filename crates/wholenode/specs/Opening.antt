@@ -20,6 +20,19 @@ pub record Opens (start n : ℕ) (records : RecordMap) (directory : DirectoryMap
       → state_of state ≡ part (opening (records_of all) (directory_of directory) hlr) n
   pub keeps : LogKeeps l
 
+-- The state of a shard that begins so.
+pub record Begins (start n : ℕ) (records : RecordMap) (directory : DirectoryMap) (hlr : List ℕ) (s : ShardState) : Type 0 where
+  pub opens_as : IsOpening start n records directory hlr s
+  pub own : s.dialogues.shard ≡ n
+  pub part_is : (all : RecordMap) → records ≡ part_of all n
+      → state_of s ≡ part (opening (records_of all) (directory_of directory) hlr) n
+
+-- The states of the first `count` shards, when the records are loaded, indexed by their numbers.
+pub record AreBeginning (loaded : Subscribers) (start count : ℕ) (states : List ShardState) : Type 0 where
+  pub length_is : length states ≡ count
+  pub each : (n : ℕ) (s : ShardState) → slice_get states n ≡ Some s
+      → Begins start n (part_of loaded.records n) loaded.directory loaded.hlr s
+
 -- The shard with this number, when the records are loaded.
 abbrev pub OpensWith : Subscribers → Keep → (start n : ℕ) → Log → Type 0
 OpensWith loaded keep start n l = Opens start n (part_of loaded.records n) loaded.directory loaded.hlr keep l

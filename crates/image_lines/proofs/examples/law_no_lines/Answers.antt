@@ -28,4 +28,6 @@ returns c = record {
   invoke_128 = no_line _ refl;
   late_deadline = no_line _ refl;
   line_feed = no_line _ refl;
+  end_of_a_shard = no_line _ refl;
+  end_in_lower_case = no_line _ refl;
 }

@@ -17,4 +17,5 @@ returns c = record {
   new_codes = read_found _ _ refl;
   waits = read_found _ _ refl;
   answered = read_found _ _ refl;
+  whole = read_found _ _ refl;
 }

@@ -9,7 +9,7 @@ pub returns-in-Some : goal.returns-in-Some
 returns-in-Some c =
     let s = c.args.self.now in
     let both : (c.in-Some.deadline ≤ c.clock.result) ↔ HasDue (state_of s) s.shard =
-    come_due s c.in-Some.deadline c.clock.result c.clock.ensures c.in-Some.ensures in (
+    come_due s c.in-Some.deadline c.clock.result c.clock.ensures.value c.in-Some.ensures in (
       λ yes. let come : c.in-Some.deadline ≤ c.clock.result = search (rules, tests) in both.0 come,
       λ due. let come : c.in-Some.deadline ≤ c.clock.result = both.1 due in search (rules, tests),
     )

@@ -1,11 +1,10 @@
-use Rattle.std.proofs.Common.{◌≡◌, ◌∷◌, Ok, Option, sym, ◌∙◌, subst}
+use Rattle.std.proofs.Common.{◌≡◌, ◌∷◌, Option, sym, ◌∙◌, subst}
 use Rattle.hlrcore.specs.Shards.{ShardState}
 use Rattle.image_lines.specs.Seen.{line_of}
 use Rattle.images.specs.declared.so_far.Reading as code
 use Rattle.images.specs.Fits.{IsFit}
 use Rattle.images.specs.Reading.{Begins, Ends, Reading, Takes, reading}
-use Rattle.images.specs.Seen.{EndsAs, TakesIf, seen}
-use Rattle.std.specs.declared.alloc.AllocError.{AllocError}
+use Rattle.images.specs.Seen.{EndsIf, TakesIf, seen}
 use Rattle.images.proofs.NextLemmas.{head_is, refuses, rest_begin}
 use Rattle.images.proofs.so_far.Image.begin_next.Goals as goal
 
@@ -21,8 +20,8 @@ returns-in_default-2 c = λ im next.
 pub returns : goal.returns
 returns c =
     let later : c.args.self.later.items ≡ c.in-Some-pop_front.next ∷ c.pop_front.new.self.items = c.in-Some-pop_front.ensures.items in
-    let E : Option ShardState → Type 0 = λ z. EndsAs {E = AllocError} (λ (t : ShardState). t) (Ends (seen c.args.self.now)) (Ok z) in
-    let ends : Ends (seen c.args.self.now) c.in-Some.whole = subst E c.in-Some.is c.in_ok-whole.ensures in
+    let E : Option ShardState → Type 0 = λ z. EndsIf (λ (t : ShardState). t) (Ends (seen c.args.self.now)) z in
+    let ends : Ends (seen c.args.self.now) c.in-Some.whole = subst E c.in-Some.is c.end.ensures in
     let P : Option code.Reading → Type 0 = λ z. TakesIf (Takes (seen c.new.result) (line_of c.args.line)) z in
     let t : Takes (seen c.new.result) (line_of c.args.line) (seen c.in-Some-2.now) × IsFit c.in-Some-2.now = subst P c.in-Some-2.is c.in_ok-now.ensures in
     let Q : Reading → Type 0 = λ z. Takes z (line_of c.args.line) (seen c.in-Some-2.now) in

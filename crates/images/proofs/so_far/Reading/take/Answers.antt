@@ -10,8 +10,8 @@ use Rattle.std.specs.Prelude.{FitsSigned}
 use Rattle.std.proofs.lemmas.Int.{to_z-of_z}
 use Rattle.images.specs.declared.so_far.Opening.{Opening}
 use Rattle.images.specs.Reading.{OpensAt, Takes}
-use Rattle.images.specs.Seen.{IsOpeningOf, OpensUp, TakesOne, seen, stage_of}
-use Rattle.images.proofs.EndLemmas.{takes_dialogue, takes_waits}
+use Rattle.images.specs.Seen.{IsOpeningOf, OpensUp, TakesIf, TakesOne, seen, stage_of}
+use Rattle.images.proofs.EndLemmas.{takes_dialogue, takes_end, takes_waits}
 use Rattle.images.proofs.so_far.Reading.take.Goals as goal
 
 pub returns-in-Some : goal.returns-in-Some
@@ -36,3 +36,12 @@ returns-in-Some-2 c =
     let d = dialogue_with [] c.in-Opened.dialogue in
     subst (λ z. TakesOne (Takes (seen c.args.self) z) c.open.result) (ap line_of (sym c.in-Opened.is))
     (takes_dialogue c.args.self.state (stage_of c.args.self.stage) o c.in-Opened.id c.in-Opened.is_current d c.open.result opens.0 c.open.ensures)
+
+pub returns-in-Some-3 : goal.returns-in-Some-3
+returns-in-Some-3 c =
+    let P : Option Opening → Type 0 = λ z. OpensUp {E = AllocError} (seen c.args.self) (Ok z) in
+    let o = c.in-Some-3.opening in
+    let opens : IsOpeningOf c.args.self.state (stage_of c.args.self.stage) o × AreRising o.invocations =
+    subst P c.in-Some-3.is c.in_ok-opening-in-End.ensures in
+    subst (λ z. TakesIf (Takes (seen c.args.self) z) c.end.result) (ap line_of (sym c.in-End.is))
+    (takes_end c.args.self.state (stage_of c.args.self.stage) o c.end.result opens.0 c.end.ensures)

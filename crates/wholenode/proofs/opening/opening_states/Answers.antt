@@ -4,9 +4,9 @@ use Rattle.std.proofs.lemmas.List.{length_push}
 use Rattle.records.specs.Parts.{AreParts}
 use Rattle.records.specs.Maps.{RecordMap}
 use Rattle.hlrcore.proofs.SoundLemmas.{part_fresh}
-use Rattle.wholenode.specs.Opening.{AreOpening}
-use Rattle.wholenode.proofs.OpeningLemmas.{no_shard, one_shard_more, next_own, part_taken, opens_with}
-use Rattle.wholenode.proofs.opening.opening_shards.Goals as goal
+use Rattle.wholenode.specs.Opening.{AreBeginning}
+use Rattle.wholenode.proofs.OpeningLemmas.{begins_as, next_own, no_state, one_state_more, part_taken}
+use Rattle.wholenode.proofs.opening.opening_states.Goals as goal
 
 pub loop-records-init : goal.loop-records-init
 loop-records-init c =
@@ -14,13 +14,13 @@ loop-records-init c =
       tt,
       tt,
       refl,
-      no_shard c.args.loaded c.args.keep c.args.start c.in_ok-shards.shards.items c.in_ok-shards.ensures.items,
+      no_state c.args.loaded c.args.start c.in_ok-states.states.items c.in_ok-states.ensures.items,
       subst (AreParts c.args.loaded.records)
           (sym same) c.in_ok-parts.ensures.parts,
     )
 
-pub opening_shard-requires-clause-own : goal.opening_shard-requires-clause-own
-opening_shard-requires-clause-own c =
+pub opening_state-requires-clause-own : goal.opening_state-requires-clause-own
+opening_state-requires-clause-own c =
     let left : c.loop-records.records-iterator.rest.items ≡ c.in-Some.records ∷ c.next.new.self.rest.items = search rules in
     let at = c.loop-records.invariant in (
       c.args.loaded.records,
@@ -28,10 +28,10 @@ opening_shard-requires-clause-own c =
           c.loop-records.number at.4 left at.2,
     )
 
-pub opening_shard-requires-clause-fresh : goal.opening_shard-requires-clause-fresh
-unfolding opening_shard-requires-clause-own
-opening_shard-requires-clause-fresh c = part_fresh c.args.loaded.records c.in-Some.records c.loop-records.number c.in_ok-parts.ensures.fresh
-    (opening_shard-requires-clause-own c).1
+pub opening_state-requires-clause-fresh : goal.opening_state-requires-clause-fresh
+unfolding opening_state-requires-clause-own
+opening_state-requires-clause-fresh c = part_fresh c.args.loaded.records c.in-Some.records c.loop-records.number c.in_ok-parts.ensures.fresh
+    (opening_state-requires-clause-own c).1
 
 pub loop-records-preserved : goal.loop-records-preserved
 loop-records-preserved c =
@@ -46,9 +46,9 @@ loop-records-preserved c =
       tt,
       tt,
       ap (λ n. n + 1) at.2 ∙ sym (length_push c.loop-records.yielded c.in-Some.records),
-      one_shard_more c.args.loaded c.args.keep c.args.start c.loop-records.number _ _ c.in_ok-opening_shard.field-0 at.3
-          (opens_with c.args.loaded c.loop-records.number c.in-Some.records _ _ c.args.keep c.args.start c.in_ok-opening_shard.field-0 own shared number
-          c.in_ok-opening_shard.ensures) c.in_ok-push.ensures.items,
+      one_state_more c.args.loaded c.args.start c.loop-records.number _ _ c.in_ok-opening_state.field-0 at.3
+          (begins_as c.args.loaded c.loop-records.number c.in-Some.records _ _ c.args.start c.in_ok-opening_state.field-0 own shared number
+          c.in_ok-opening_state.ensures) c.in_ok-push.ensures.items,
       part_taken c.args.loaded.records c.loop-records.yielded c.next.new.self.rest.items c.in-Some.records parts,
     )
 
@@ -64,4 +64,4 @@ returns c =
           c.loop-records.records-iterator.rest.items,
       none_left,
     ) in
-    subst (λ n. AreOpening c.args.loaded c.args.keep c.args.start n c.loop-records.shards.items) all at.3
+    subst (λ n. AreBeginning c.args.loaded c.args.start n c.loop-records.states.items) all at.3

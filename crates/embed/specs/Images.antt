@@ -1,0 +1,65 @@
+-- The image of a register, and a register that goes on where it was made.
+use Rattle.std.specs.Prelude.{◌≡◌, ℕ, List, [], length, map as each, option_map, Some, slice_get}
+use Rattle.std.specs.FinMap as map
+use Rattle.std.specs.List.{AllByRecursion, flat_map}
+use Rattle.machine.specs.declared.numbers.TheConstants.{SHARDS}
+use Rattle.records.specs.File.{Contents}
+use Rattle.records.specs.Loaded.{Subscribers, loaded_from}
+use Rattle.records.specs.Subscriber.{unmarked}
+use Rattle.hlrcore.specs.Shards.{ShardState}
+use Rattle.image_lines.specs.Lines.{IsLine}
+use Rattle.images.specs.Written.{shard_lines, shard_text}
+use Rattle.shardlog.specs.declared.keep.Keep.{Keep}
+use Rattle.shardlog.specs.declared.keep.Keep.TheVariants.{Nothing}
+use Rattle.shardlog.specs.Log.{Log}
+use Rattle.wholenode.specs.Keeping.{NodeKeeps}
+use Rattle.wholenode.specs.Nodes.{NodeState}
+use Rattle.wholenode.specs.Replaying.{AreAlike}
+use Rattle.wholenode.specs.Restoring.{Restores}
+use Rattle.embed.specs.Keeping.{KeepsNothing}
+use Rattle.embed.specs.Lookups.{record_of}
+use Rattle.embed.specs.Registers.{RegisterState}
+
+-- ---- written
+
+-- The text is the image of the shard with this number, and each of its lines can be read again.
+pub record IsImageOf (node : NodeState) (n : ℕ) (text : List ℕ) : Type 0 where
+  pub shard : Log
+  pub stands : slice_get node.shards n ≡ Some shard
+  pub text_is : text ≡ shard_text shard.state
+  pub lines : AllByRecursion IsLine (shard_lines shard.state)
+
+-- ---- restored
+
+-- The register of a records file with these contents that goes on where this image was made: no frame waits, and each journal is empty.
+pub record GoesOnFrom (contents : Contents) (keep : Keep) (image : List ℕ) (r : RegisterState) : Type 0 where
+  pub restores : Restores (loaded_from contents) keep image r.node
+  pub keeps : NodeKeeps r.node
+  pub waiting : r.waiting ≡ []
+  pub nothing : keep ≡ Nothing → KeepsNothing r.node
+
+-- ---- written and restored
+
+-- The images of all shards, in the order of their numbers.
+pub record AreImages (node : NodeState) (texts : List (List ℕ)) : Type 0 where
+  pub sixteen : length texts ≡ SHARDS
+  pub each : (n : ℕ) (text : List ℕ) → slice_get texts n ≡ Some text → IsImageOf node n text
+
+-- What was loaded has the records of the register without the marks of current updates, and its directory and HLR number.
+pub record HasRecordsOf (node : NodeState) (loaded : Subscribers) : Type 0 where
+  pub directory : loaded.directory ≡ node.directory
+  pub records : (imsi : List ℕ) → map.get loaded.records imsi ≡ option_map unmarked (record_of node imsi)
+  pub hlr : (n : ℕ) (l : Log) → slice_get node.shards n ≡ Some l → l.state.hlr ≡ loaded.hlr
+
+abbrev pub states_in : NodeState → List ShardState
+states_in node = each (λ (l : Log). l.state) node.shards
+
+-- It has the states of the other, and no event tells the two apart.
+pub record IsAsBefore (before after : NodeState) : Type 0 where
+  pub states : states_in after ≡ states_in before
+  pub alike : AreAlike before after
+
+-- From its images, one after the other, and a file with its records, the register goes on as it was.
+abbrev pub IsRestored : RegisterState → Type 0
+IsRestored r = (contents : Contents) (keep : Keep) (texts : List (List ℕ)) (again : RegisterState) → HasRecordsOf r.node (loaded_from contents)
+    → AreImages r.node texts → GoesOnFrom contents keep (flat_map (λ text. text) texts) again → IsAsBefore r.node again.node
