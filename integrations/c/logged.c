@@ -11,8 +11,9 @@
  */
 #include "../../include/kunchrol.h"
 #include "events.h"
+#include "replay.h"
 
-enum { MAX_LOG = 8388608, MAX_TEXT = 1048576, MADE = 0x42, OWN = 0600, KILL = 9, PIECE = 1237, LONG_PIECE = 65536, LIVES = 30 };
+enum { MAX_LOG = 8388608, MAX_TEXT = 1048576, MADE = 0x42, OWN = 0600, KILL = 9, LONG_PIECE = 65536, LIVES = 30 };
 
 static struct kunchrol hlr = KUNCHROL_CLOSED_HANDLE;
 static char log_text[MAX_LOG];
@@ -36,25 +37,6 @@ static uint32_t give(const char *words, size_t len)
 	uint32_t code = kunchrol_line(&hlr, (const uint8_t *)words, len);
 
 	return code && code != KUNCHROL_NONE ? code : take_all();
-}
-
-/* Gives the whole lines of the log again, piece by piece, and cuts off one that is not whole. */
-static uint32_t replay(int file, uint64_t *events)
-{
-	size_t len = 0, used = 0, at = 0;
-	uint32_t code = KUNCHROL_OK;
-	uint64_t fault;
-	long count;
-
-	while (!code && (count = read(file, log_text + len, PIECE)) > 0) {
-		len += (size_t)count;
-		code = kunchrol_replay(&hlr, (const uint8_t *)log_text + at, len - at, &used, &fault);
-		for (size_t end = at + used; at < end; at++)
-			*events += log_text[at] == '\n';
-		if (!code)
-			code = take_all();
-	}
-	return ftruncate(file, (long)at) || lseek(file, (long)at, 0) < 0 ? KUNCHROL_MEMORY : code;
 }
 
 /* How many lines a second of the processor registers replay that are opened anew, one after the other. */
@@ -118,7 +100,8 @@ static uint32_t print_all(void)
 
 int main(int argc, char **argv)
 {
-	uint64_t done = 0, ends = argc > 2 ? strtoull(argv[2], NULL, 10) : 0, dies = ends, fault = 0;
+	size_t done = 0;
+	uint64_t ends = argc > 2 ? strtoull(argv[2], NULL, 10) : 0, dies = ends, fault = 0;
 	int where = argc == 5 ? argv[4][0] - '0' : -1, file = ends ? open(argv[1], MADE, OWN) : -1;
 	uint32_t code;
 
@@ -126,7 +109,7 @@ int main(int argc, char **argv)
 		return time_replay(argv[1]);
 	if (file < 0 || kunchrol_open((const uint8_t *)RECORDS, strlen(RECORDS), 0, 0, &hlr, &fault))
 		return 2;
-	code = replay(file, &done);
+	code = replay(&hlr, file, log_text, &done, take_all);
 	if (where >= 0)
 		dies = done + strtoull(argv[3], NULL, 10);
 	for (; done < ends && !code; done++)

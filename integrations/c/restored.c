@@ -16,8 +16,9 @@
  */
 #include "../../include/kunchrol.h"
 #include "events.h"
+#include "replay.h"
 
-enum { MAX_WIRE = 16777216, MAX_TEXT = 1048576, MAX_FRAME_LINE = 8320, CREATED = 0x42, EMPTY = 0x242, OWN = 0600, KILL = 9, PIECE = 1237 };
+enum { MAX_WIRE = 16777216, MAX_TEXT = 1048576, MAX_FRAME_LINE = 8320, CREATED = 0x42, EMPTY = 0x242, OWN = 0600, KILL = 9 };
 
 enum place { IN_LINE, BEFORE_EVENT, ON_WIRE, BETWEEN_TEXTS, BEFORE_RENAME, AFTER_RENAME, NOWHERE };
 
@@ -186,23 +187,9 @@ static uint32_t start(size_t *events)
 	return KUNCHROL_OK;
 }
 
-/* Gives the whole lines of the log again, piece by piece, and cuts off one that is not whole. */
-static uint32_t replay(size_t *events)
+static uint32_t send_rest(void)
 {
-	size_t len = 0, used = 0, at = 0;
-	uint32_t code = KUNCHROL_OK;
-	uint64_t fault;
-	long count;
-
-	while (!code && (count = read(log_file, log_text + len, PIECE)) > 0) {
-		len += (size_t)count;
-		code = kunchrol_replay(&hlr, (const uint8_t *)log_text + at, len - at, &used, &fault);
-		for (size_t end = at + used; at < end; at++)
-			*events += log_text[at] == '\n';
-		if (!code)
-			code = send_all(NOWHERE);
-	}
-	return ftruncate(log_file, (long)at) || lseek(log_file, (long)at, 0) < 0 ? KUNCHROL_MEMORY : code;
+	return send_all(NOWHERE);
 }
 
 /* Writes the line of an event, gives it, and sends what it sends. */
@@ -266,7 +253,7 @@ int main(int argc, char **argv)
 	code = start(&done);
 	log_file = open(LOGS[log_number], CREATED, OWN);
 	if (!code)
-		code = log_file < 0 ? KUNCHROL_MEMORY : replay(&done);
+		code = log_file < 0 ? KUNCHROL_MEMORY : replay(&hlr, log_file, log_text, &done, send_rest);
 	if (!code)
 		code = live(done, ends, every, argc > 5 ? done + strtoull(argv[4], NULL, 10) : ends, where);
 	printf("%zu octets sent (%s)\n", sent, kunchrol_name(code));
