@@ -44,7 +44,7 @@ extern "C" {
 
 enum {
 	KUNCHROL_OK = 0,
-	KUNCHROL_NONE = 1,        /* no frame waits; no timer is due, or runs; there is no such record */
+	KUNCHROL_NONE = 1,        /* no frame waits; no timer is due, or runs; there is no such record; the last event was about nobody */
 	KUNCHROL_SMALL = 2,       /* a buffer is too small; the lengths that are needed are stored */
 	KUNCHROL_ARGUMENT = 3,    /* digits, codes, a shard, a clock value or a line of a log are not of their form */
 	KUNCHROL_CLOSED = 4,      /* the handle has no register */
@@ -186,6 +186,20 @@ KUNCHROL_CHECKED uint32_t kunchrol_next(struct kunchrol *hlr, uint8_t *to, size_
 					size_t octets_size, size_t *octets_len);
 
 /*
+ * Stores the IMSI of the subscriber that the last event was about, as ASCII digits, with its length at len; KUNCHROL_MAX_DIGITS hold every one. It
+ * is the subscriber of the open dialogue that the event was for, otherwise the one that a Begin or an operator's change names, if there is a
+ * record. KUNCHROL_NONE: the last event was about nobody, as a clock value is, and a frame that is no message, or is for no open dialogue and
+ * names nobody with a record; or no event has come since the register was opened or restored.
+ *
+ * An event that did nothing (KUNCHROL_NONE of kunchrol_expire, kunchrol_codes and kunchrol_withdraw) or was refused is none: it stays with the event
+ * before. After kunchrol_line the event is that of the line, after kunchrol_replay that of the last line that was done and did something.
+ *
+ * An event changes no record but this subscriber's. Whether it did is not told: whoever keeps records elsewhere compares the line of
+ * kunchrol_record with the one that they have (docs/OPERATING.md, "Records in a database of your own").
+ */
+KUNCHROL_CHECKED uint32_t kunchrol_subject(struct kunchrol *hlr, uint8_t *imsi, size_t size, size_t *len);
+
+/*
  * The record with this IMSI or MSISDN, as a line of a records file of version 2, without the line feed, with its length at len.
  * KUNCHROL_NONE if there is none.
  */
@@ -208,10 +222,11 @@ KUNCHROL_CHECKED uint32_t kunchrol_counts(struct kunchrol *hlr, uint8_t shard, s
 KUNCHROL_CHECKED uint32_t kunchrol_dialogues(struct kunchrol *hlr, uint8_t shard, uint8_t *buffer, size_t size, size_t *len);
 
 /*
- * Writes the records as a records file of version 2 into the buffer, with its length at len. A line has at most 312 octets, the first
- * line 22. Open dialogues and clocks are not in it (kunchrol_image writes them), nor journals and the frames that wait. To make it last is
- * the caller's job (docs/OPERATING.md). There is no limit here, in kunchrol_open or in kunchrol_restore, but the program hlr loads no file
- * of more than 16,777,216 octets.
+ * Writes the records as a records file of version 2 into the buffer, with its length at len. kunchrol_open and kunchrol_restore always read it, as
+ * the same records of a register with the same number: they never answer KUNCHROL_LINE or KUNCHROL_TWICE to it. A line has at most 312
+ * octets, the first line 22. Open dialogues and clocks are not in it (kunchrol_image writes them), nor journals and the frames that wait. To
+ * make it last is the caller's job (docs/OPERATING.md). There is no limit here, in kunchrol_open or in kunchrol_restore, but the program hlr
+ * loads no file of more than 16,777,216 octets.
  */
 KUNCHROL_CHECKED uint32_t kunchrol_save(struct kunchrol *hlr, uint8_t *buffer, size_t size, size_t *len);
 

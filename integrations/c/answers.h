@@ -92,6 +92,18 @@ static inline int is_no_count(uint8_t shard, uint32_t code)
 	return kunchrol_counts(&hlr, shard, &dialogues, &entries) == code && dialogues == FILL && entries == FILL;
 }
 
+/* whether the last event was about this subscriber, or with NULL about nobody; what the call does not write stays */
+static inline int is_subject(const char *imsi)
+{
+	uint32_t code;
+
+	fill();
+	code = kunchrol_subject(&hlr, text, KUNCHROL_MAX_DIGITS, &len);
+	if (!imsi)
+		return code == KUNCHROL_NONE && is_untouched() && len == FILL;
+	return code == KUNCHROL_OK && is_text(text, len, imsi) && is_filled(text + len, sizeof(text) - len);
+}
+
 static inline void open_register(uint8_t journals, uint32_t start)
 {
 	uint64_t line = FILL;

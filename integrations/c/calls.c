@@ -30,6 +30,7 @@ static void check_closed(void)
 	HOLDS(used == 0 && line == 0);
 	ANSWERS(KUNCHROL_CLOSED, kunchrol_drop_frames(&hlr));
 	ANSWERS(KUNCHROL_CLOSED, kunchrol_next(&hlr, to, sizeof(to), &to_len, octets, sizeof(octets), &len));
+	ANSWERS(KUNCHROL_CLOSED, kunchrol_subject(&hlr, text, sizeof(text), &len));
 	ANSWERS(KUNCHROL_CLOSED, kunchrol_record(&hlr, TEXT(KNOWN), text, sizeof(text), &len));
 	ANSWERS(KUNCHROL_CLOSED, kunchrol_record_of_number(&hlr, TEXT(NUMBER), text, sizeof(text), &len));
 	ANSWERS(KUNCHROL_CLOSED, kunchrol_dialogues(&hlr, 1, text, sizeof(text), &len));

@@ -23,8 +23,10 @@ static void check_full_journal(void)
 		ANSWERS(KUNCHROL_OK, kunchrol_frame(&hlr, TEXT(ASKING), ROUTE, sizeof(ROUTE)));
 	ANSWERS(KUNCHROL_JOURNAL, kunchrol_frame(&hlr, TEXT(ASKING), ROUTE, sizeof(ROUTE)));
 	HOLDS(is_count(1, 1, ENTRIES));
+	HOLDS(is_subject(KNOWN));
 	for (uint8_t shard = 0; shard < KUNCHROL_SHARDS; shard++) {
 		ANSWERS(KUNCHROL_JOURNAL, kunchrol_clock(&hlr, 20));
+		HOLDS(is_subject(KNOWN));
 		check_no_expiry();
 		if (shard != 1) {
 			ANSWERS(KUNCHROL_OK, kunchrol_cut(&hlr, shard, listing, sizeof(listing), &len));
@@ -50,7 +52,10 @@ static void check_full_shard(void)
 	ANSWERS(KUNCHROL_OK, kunchrol_frame(&hlr, TEXT(ASKING), UPDATE, sizeof(UPDATE)));
 	ANSWERS(KUNCHROL_OK, kunchrol_next(&hlr, to, sizeof(to), &to_len, octets, sizeof(octets), &len));
 	HOLDS(octets[0] == 0x67);
+	HOLDS(is_subject(KNOWN));
+	ANSWERS(KUNCHROL_OK, kunchrol_clock(&hlr, 1));
 	ANSWERS(KUNCHROL_NO_ROOM, kunchrol_codes(&hlr, TEXT(KNOWN), TEXT("-")));
+	HOLDS(is_subject(NULL));
 	HOLDS(is_count(1, DIALOGUES, 0));
 	HOLDS(is_count(2, 0, 0));
 	ANSWERS(KUNCHROL_OK, kunchrol_clock(&hlr, 20));

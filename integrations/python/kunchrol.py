@@ -141,6 +141,7 @@ CALLS: dict[str, list[type]] = {
     "replay": [HLR, *TEXT, LENGTH, POINTER(c_uint64)],
     "drop_frames": [HLR],
     "next": [HLR, *BUFFER, *BUFFER],
+    "subject": [HLR, *BUFFER],
     "record": [HLR, *TEXT, *BUFFER],
     "record_of_number": [HLR, *TEXT, *BUFFER],
     "counts": [HLR, c_uint8, LENGTH, LENGTH],
@@ -252,6 +253,11 @@ class Register:
         to_len, octets_len = c_size_t(), c_size_t()
         while self._does("next", self._to, MAX_DIGITS, byref(to_len), self._octets, MAX_OCTETS, byref(octets_len)):
             yield self._to[: to_len.value].decode("ascii"), self._octets[: octets_len.value]
+
+    def subject(self) -> str | None:
+        """The IMSI of the subscriber that the last event was about. None if it was about nobody, and if none has come."""
+        imsi = self._text("subject", MAX_DIGITS)
+        return None if imsi is None else imsi.decode("ascii")
 
     def record(self, imsi: str) -> str | None:
         """The record with this IMSI, as a line of a records file of version 2. None if there is none."""

@@ -30,12 +30,12 @@ use Rattle.embed.specs.Lookups.{record_in}
 use Rattle.embed.specs.Registers.{RegisterState}
 use Rattle.embed.proofs.LookupLemmas.{same_shard, state_record}
 
--- The shards at these places are read again.
-abbrev pub ReadBelow : List Log → ℕ → Type 0
-ReadBelow shards i = (n : ℕ) (l : Log) → n < i → slice_get shards n ≡ Some l → IsReadAgain l.state
+-- It holds of the shards before this place.
+abbrev pub AllBelow : (P : ShardState → Type 0) → List Log → ℕ → Type 0
+AllBelow P shards i = (n : ℕ) (l : Log) → n < i → slice_get shards n ≡ Some l → P l.state
 
-pub none_read : (shards : List Log) → ReadBelow shards 0
-none_read shards n l lt e = absurd (omega (arith, lt))
+pub none_below : (P : ShardState → Type 0) (shards : List Log) → AllBelow P shards 0
+none_below P shards n l lt e = absurd (omega (arith, lt))
 
 pub within : (shards : List Log) (n : ℕ) (l : Log) → slice_get shards n ≡ Some l → n < length shards
 within [] zero l e = absurd cc
@@ -43,14 +43,14 @@ within [] (suc n) l e = absurd cc
 within (m ∷ shards) zero l e = omega arith
 within (m ∷ shards) (suc n) l e = let below : n < length shards = within shards n l e in omega (arith, below)
 
-pub one_read : (shards : List Log) (i : ℕ) (l : Log) → slice_get shards i ≡ Some l → ReadBelow shards i → IsReadAgain l.state → ReadBelow shards (i + 1)
-one_read shards i l at before again n m lt e = elim (cases_lt n i) [
+pub one_more : (P : ShardState → Type 0) (shards : List Log) (i : ℕ) (l : Log) → slice_get shards i ≡ Some l → AllBelow P shards i → P l.state
+    → AllBelow P shards (i + 1)
+one_more P shards i l at before again n m lt e = elim (cases_lt n i) [
   | inl below ↦ before n m below e
   | inr above ↦
       let last : i ≡ n = omega (arith, lt, above) in
       let same : l ≡ m = same_Some l m (sym at ∙ ap (slice_get shards) last ∙ e) in
-      let P : Log → Type 0 = λ z. IsReadAgain z.state in
-      subst P same again
+      subst (λ (z : Log). P z.state) same again
 ]
 
 -- ---- what is restored has these states
@@ -69,18 +69,19 @@ part_record : (S : machine.State) (n : ℕ) (x : List ℕ) → shard_of x == n �
 unfolding part
 part_record S n x e = ap (λ k. cond (k == n) (S.records x) None) (same_shard x) ∙ ap (λ b. cond b (S.records x) None) e
 
+pub elsewhere : (node : NodeState) → NodeKeeps node → (n : ℕ) (l : Log) → slice_get node.shards n ≡ Some l → (x : List ℕ) → shard_of x == n ≡ false
+    → map.get l.state.records x ≡ None
+elsewhere node keeps n l at x e =
+    no_record _ (sym (state_record l.state x) ∙ ap (λ (S : machine.State). S.records x) (sym (keeps.parts n l at))
+    ∙ part_record (whole node.shards) n x e)
+
 module _ (node : NodeState) (keeps : NodeKeeps node) (loaded : Subscribers) (has : HasRecordsOf node loaded) where
   module _ (n : ℕ) (l : Log) (at : slice_get node.shards n ≡ Some l) where
-    elsewhere : (x : List ℕ) → shard_of x == n ≡ false → map.get l.state.records x ≡ None
-    elsewhere x e =
-        no_record _ (sym (state_record l.state x) ∙ ap (λ (S : machine.State). S.records x) (sym (keeps.parts n l at))
-        ∙ part_record (whole node.shards) n x e)
-
     found : (x : List ℕ) (b : Bool) → shard_of x == n ≡ b → cond b (map.get loaded.records x) None ≡ option_map unmarked (map.get l.state.records x)
     found x true e =
         has.records x
         ∙ ap (option_map unmarked) (ap (λ k. record_in (slice_get node.shards k) x) (eqb-true _ _ e) ∙ ap (λ (o : Option Log). record_in o x) at)
-    found x false e = sym (ap (option_map unmarked) (elsewhere x e))
+    found x false e = sym (ap (option_map unmarked) (elsewhere node keeps n l at x e))
 
     begins_as : BeginsAs l.state (beginning loaded n)
     begins_as = record {

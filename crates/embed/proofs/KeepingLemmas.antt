@@ -1,6 +1,6 @@
 -- A register that keeps no journals goes on keeping none.
 use Rattle.std.proofs.Common.{◌≡◌, ℕ, List, [], ◌∷◌, sym, ap, subst, ◌∙◌, refl, inl, inr}
-use Rattle.std.specs.Prelude.{Result, Ok, Err, IfErr, OnErr, Some, slice_get, slice_set}
+use Rattle.std.specs.Prelude.{Result, Err, IfErr, OnErr, Some, slice_get, slice_set}
 use Rattle.frames.specs.Octets.{RawEntry, RawEvent}
 use Rattle.records.specs.Loaded.{Subscribers}
 use Rattle.hlrcore.specs.Shards.{ShardState}
@@ -71,7 +71,12 @@ never_refused node now JournalFull (n, l, is_for, full) none =
 never_refused node now ResetRefused refused none = absurd refused
 never_refused node now NoRoom refused none = absurd refused
 
-pub never_if : {A : Type 0} (r : Result A Cause) (before node : NodeState) (now : ℕ) → node ≡ before → IfErr r (RefusesTicks node now)
-    → KeepsNothing before → OnErr r ⊥
-never_if (Ok done) before node now is refused none = tt
-never_if (Err cause) before node now is refused none = never_refused node now cause refused (subst KeepsNothing (sym is) none)
+-- and the cause is told
+pub refused_as : {A : Type 0} (r : Result A Cause) (cause : Cause) (before node : NodeState) (now : ℕ) → r ≡ Err cause → node ≡ before
+    → RefusesTicks node now cause → IfErr r (RefusesTicks before now)
+refused_as {A} r cause before node now told is refused =
+    subst (λ (z : Result A Cause). IfErr z (RefusesTicks before now)) (sym told) (subst (λ (n : NodeState). RefusesTicks n now cause) is refused)
+
+pub never_as : {A : Type 0} (r : Result A Cause) (cause : Cause) (before node : NodeState) (now : ℕ) → r ≡ Err cause → node ≡ before
+    → RefusesTicks node now cause → KeepsNothing before → OnErr r ⊥
+never_as r cause before node now told is refused none = absurd (never_refused node now cause refused (subst KeepsNothing (sym is) none))

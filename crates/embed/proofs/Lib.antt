@@ -5,8 +5,11 @@ pub mod ImsiLemmas
 pub mod KeepingLemmas
 pub mod LogLineLemmas
 pub mod LookupLemmas
+pub mod NumberLemmas
 pub mod OnceLemmas
 pub mod RegisterLemmas
 pub mod ReplayLemmas
+pub mod RestoredNumbers
+pub mod SavedLemmas
 pub mod TextLemmas
 pub mod WaitingLemmas

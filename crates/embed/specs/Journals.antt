@@ -27,4 +27,5 @@ pub record CutsOff (before : RegisterState) (n : ℕ) (after : RegisterState) : 
   pub cuts : Cuts before.node n epoch after.node
   pub keeps : NodeKeeps after.node
   pub waiting : after.waiting ≡ before.waiting
+  pub subject : after.subject ≡ before.subject
   pub nothing : KeepsNothing before.node → KeepsNothing after.node

@@ -6,6 +6,7 @@ pub mod Journals
 pub mod Keeping
 pub mod LogLines
 pub mod Lookups
+pub mod Numbers
 pub mod Registers
 pub mod Replay
 pub mod Replaying

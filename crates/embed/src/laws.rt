@@ -17,8 +17,8 @@ pub fn logs_are_replayed()
     ensures { IsRunReplayed }
 {}
 
-/// Law: a register goes on as it was from its images and a file with its records: each shard has the same state, and no event tells the two
-/// registers apart. The file has the records without the marks of current updates, and the register's directory and HLR number.
+/// Law: a register goes on as it was from its images and its saved file (`Register::write_image`, `Register::save`): each shard has the same
+/// state, and no event tells the two registers apart.
 pub fn images_are_restored(register: &Register)
     ensures { IsRestored register.now }
 {

@@ -14,11 +14,11 @@ ghost use Rattle.wholenode.specs.Handling.{Refuses};
 ghost use Rattle.wholenode.specs.Keeping.{NodeKeeps};
 ghost use Rattle.wholenode.specs.Restoring.{IsImageOver};
 ghost use Rattle.wholenode.specs.Ticking.{RefusesTicks};
-ghost use Rattle.audit.specs.Saving.{Saves};
 ghost use Rattle.embed.specs.Counts.{IsCountOf};
-ghost use Rattle.embed.specs.Images.{GoesOnFrom, IsImageOf};
+ghost use Rattle.embed.specs.Images.{AreListed, GoesOnFrom, IsImageOf, IsSaved};
 ghost use Rattle.embed.specs.Keeping.{KeepsNothing};
 ghost use Rattle.embed.specs.Lookups.{IsTimerOf, record_by_number, record_of};
+ghost use Rattle.embed.specs.Numbers.{AreNumbered};
 ghost use Rattle.embed.specs.Registers.{Answers, Gives, Opens, SetsClocks};
 ghost use Rattle.embed.specs.Restoring.{IsMemoryFault, IsRestoreFault};
 ghost use Rattle.embed.specs.Journals.{CutsOff, ListsOpen, ListsShard};
@@ -42,26 +42,29 @@ use std::slice;
 use texts::cut;
 use wholenode::{Cause, Keep, Node};
 
-/// The sixteen shards with their journals, an arena for one frame at a time, and the frames that wait.
+/// The sixteen shards with their journals, an arena for one frame at a time, the frames that wait, and the subject of the last event. The
+/// directory always has exactly the numbers of the records.
 #[derive(Drop)]
 pub struct Register {
     alloc: Global,
     node: Node,
     bump: Bump,
     waiting: Waiting,
+    subject: Option<Imsi>,
 }
 
 impl Model for Register {
-    ghost use Rattle.embed.specs.Registers.{RegisterState, register, register_state_code};
-    ghost use Rattle.embed.specs.Waiting.{IsQueue, waiting_in};
+    ghost use Rattle.embed.specs.Registers.{IsKept, RegisterState, register, register_state_code};
+    ghost use Rattle.embed.specs.Waiting.{waiting_in};
 
     ghost Value = { RegisterState };
 
     ghost coded = { register_state_code };
 
-    ghost view = { λ r. register r.node (waiting_in r.waiting.taken r.waiting.lists.items) };
+    ghost view = { λ r.
+        register r.node (waiting_in r.waiting.taken r.waiting.lists.items) r.subject };
 
-    ghost invariant = { λ r. IsQueue r.waiting.taken r.waiting.lists.items };
+    ghost invariant = { λ r. IsKept r.node r.waiting.taken r.waiting.lists.items };
 }
 
 impl Register {
@@ -100,6 +103,7 @@ impl Register {
             node,
             bump: Bump::new(alloc),
             waiting: Waiting::none(alloc),
+            subject: None,
         })
     }
 
@@ -131,6 +135,7 @@ impl Register {
             node,
             bump: Bump::new(alloc),
             waiting: Waiting::none(alloc),
+            subject: None,
         })
     }
 
@@ -164,6 +169,7 @@ impl Register {
         }
         match self.node.take(&mut self.bump, raw) {
             Ok(handled) => {
+                self.subject = handled.subject;
                 self.waiting.append(handled.outs);
                 Ok(())
             }
@@ -186,7 +192,9 @@ impl Register {
         ensures never { KeepsNothing self.old.node → OnErr result ⊥ }
         ensures err { OnErr result (self.new ≡ self.old) }
     {
-        self.node.tick_all(now)
+        self.node.tick_all(now)?;
+        self.subject = None;
+        Ok(())
     }
 
     /// Does what the whole lines of a log say, one after the other (`read_log_line`): an event is handled, and a clock value is set. What
@@ -273,6 +281,15 @@ impl Register {
         record_by_number(&self.node, msisdn)
     }
 
+    /// Whom the last event was about: the subscriber of the open dialogue that it was for, otherwise the one that it names, if there is a
+    /// record. `None` if it was about nobody, as a clock value is, and if no event has come since `open` or `restore`. An event that did
+    /// nothing, or was refused, is none.
+    pub fn subject(&self) -> Option<&Imsi>
+        ensures { option_map (λ imsi. imsi.now) result ≡ self.now.subject }
+    {
+        self.subject.as_ref()
+    }
+
     /// The frame that is to be taken next. It still waits.
     pub fn front(&self) -> Option<&Out>
         ensures { option_map (λ out. raw_out out.now) result ≡ slice_get self.now.waiting 0 }
@@ -284,6 +301,7 @@ impl Register {
     pub fn drop_front(&mut self)
         ensures rest { self.new.waiting ≡ drop 1 self.old.waiting }
         ensures node { self.new.node ≡ self.old.node }
+        ensures subject { self.new.subject ≡ self.old.subject }
     {
         self.waiting.drop_front();
     }
@@ -292,6 +310,7 @@ impl Register {
     pub fn drop_waiting(&mut self)
         ensures none { self.new.waiting ≡ [] }
         ensures node { self.new.node ≡ self.old.node }
+        ensures subject { self.new.subject ≡ self.old.subject }
     {
         self.waiting.drop_all();
     }
@@ -366,19 +385,28 @@ impl Register {
     }
 
     /// Writes the records as a records file (`audit::save_records`) at the front of the buffer, and returns the number of octets
-    /// written. On error the buffer is unchanged.
+    /// written. The file is one that `open` and `restore` read, as the same records, without the marks of current updates. On error the
+    /// buffer is unchanged.
     pub fn save(&self, buffer: &mut [u8]) -> Result<usize, BufferFault>
         ensures saves { IfOk result (λ count.
-            (text : List ℕ) × Saves self.now.node.shards text
+            (text : List ℕ) × IsSaved self.now.node text
             × Writes text buffer.old count buffer.new) }
         ensures small { (n : ℕ) → result ≡ Err (BufferFault.Small n)
-            → (text : List ℕ) × Saves self.now.node.shards text × (length buffer.old < n)
+            → (text : List ℕ) × IsSaved self.now.node text × (length buffer.old < n)
             × (n ≡ length text) }
         ensures err { OnErr result (buffer.new ≡ buffer.old) }
     {
-        let file = save_records(self.alloc, self.node.shards())?;
+        let file = self.saved()?;
         check_buffer(buffer, file.as_bytes())?;
         Ok(write_text(buffer, file.as_bytes()))
+    }
+
+    /// The records as a records file.
+    fn saved(&self) -> Result<String, AllocError>
+        ensures { IfOk result (λ text. IsSaved self.now.node (string_bytes text)) }
+    {
+        self.law_records_in_order();
+        save_records(self.alloc, self.node.shards())
     }
 
     /// Writes the image of a shard (`images::write_shard`) at the front of the buffer, and returns the number of octets written. On error the
@@ -405,6 +433,19 @@ impl Register {
         let mut image = String::new(self.alloc);
         write_shard(&mut image, shard.state())?;
         Ok(image)
+    }
+
+    /// Law: the records of each shard are in order, and the directory is that of the records.
+    fn law_records_in_order(&self)
+        ensures order { (n : ℕ) (l : Log) → slice_get self.now.node.shards n ≡ Some l
+            → AreListed l.state.records }
+        ensures numbers { AreNumbered self.now.node }
+        ensures keeps { NodeKeeps self.now.node }
+    {
+        let shards = self.node.shards();
+        for shard in shards {
+            shard.state().records().law_in_order();
+        }
     }
 
     /// Law: each shard is read again from its image.

@@ -3,9 +3,9 @@ use Rattle.std.specs.Prelude.{◌≡◌, ◌⊎◌, ◌≤◌, ◌^◌, ℕ, zer
 use Rattle.frames.specs.Octets.{RawEvent, RawOut}
 use Rattle.hlr_types.specs.DigitTexts.{text_of}
 use Rattle.records.specs.File.{Contents, File}
-use Rattle.audit.specs.Saving.{Saves}
 use Rattle.shardlog.specs.declared.keep.Keep.{Keep}
 use Rattle.shardlog.specs.declared.keep.Keep.TheVariants.{Entries, Nothing}
+use Rattle.embed.specs.Images.{IsSaved}
 use Rattle.embed.specs.Journals.{CutsOff, ListsShard}
 use Rattle.embed.specs.LogLines.{IsClockLine, IsEventLine}
 use Rattle.embed.specs.Lookups.{IsIdle}
@@ -67,13 +67,13 @@ pub record SendsFrame (before : Held) (to : List ℕ) (to_len : ℕ) (octets : L
   pub octets_len_is : octets_len ≡ length out.octets
   pub octets_is : take octets_len octets ≡ out.octets
 
--- The records are written at the front of the buffer as a records file.
+-- The records are written at the front of the buffer as a records file, from which they are loaded again.
 pub record SavesRecords (before : Held) (room_before : List ℕ) (count : ℕ) (room_after : List ℕ) (after : Held) : Type 0 where
   pub was : RegisterState
   pub before_is : before ≡ Some was
   pub unchanged : after ≡ before
   pub text : List ℕ
-  pub saves : Saves was.node.shards text
+  pub saves : IsSaved was.node text
   pub writes : Writes text room_before count room_after
 
 -- The journal of a shard is cut off, and its listing is written at the front of the buffer.

@@ -1,7 +1,7 @@
 -- What a call looks up, and why it does not.
-use Rattle.std.specs.Prelude.{◌≡◌, ◌<◌, ◌≤◌, ◌⊎◌, ℕ, List, Option, Some, None}
+use Rattle.std.specs.Prelude.{◌≡◌, ◌<◌, ◌≤◌, ◌⊎◌, ℕ, List, Option, Some, None, length}
 use Rattle.machine.specs.Deadlines.{IsFirst}
-use Rattle.hlr_types.specs.DigitTexts.{IsText}
+use Rattle.hlr_types.specs.DigitTexts.{IsText, text_of}
 use Rattle.records.specs.declared.version.Version.TheVariants.{Two}
 use Rattle.records.specs.Spelling.{IsImsiNumber}
 use Rattle.records.specs.Subscriber.{Subscriber}
@@ -38,6 +38,26 @@ pub record TellsCounts (shard : ℕ) (held : Held) (dialogues entries : ℕ) : T
 -- There is no such shard (3), or the handle is closed.
 abbrev pub RefusesCounts : (shard : ℕ) → Held → (code : ℕ) → Type 0
 RefusesCounts shard held code = (code ≡ 3) × (16 ≤ shard) ⊎ (shard < 16) × IsClosed held code
+
+-- ---- the subject of the last event
+
+-- The last event was about the subscriber with this IMSI, whose text is written at the front of the buffer.
+pub record TellsSubject (held : Held) (room_before : List ℕ) (count : ℕ) (room_after : List ℕ) : Type 0 where
+  pub is : RegisterState
+  pub held_is : held ≡ Some is
+  pub imsi : List ℕ
+  pub subject : is.subject ≡ Some imsi
+  pub writes : Writes (text_of imsi) room_before count room_after
+
+-- It was about nobody (1), or the text is longer than the buffer, and its length is put (2).
+abbrev pub RefusesImsi : (subject : Option (List ℕ)) → (buffer len code : ℕ) → Type 0
+RefusesImsi None buffer len code = code ≡ 1
+RefusesImsi (Some imsi) buffer len code = (code ≡ 2) × (buffer < len) × (len ≡ length (text_of imsi))
+
+-- The handle is closed, or it was about nobody, or the text is not written.
+abbrev pub RefusesSubject : Held → (buffer len code : ℕ) → Type 0
+RefusesSubject held buffer len code =
+    IsClosed held code ⊎ ((is : RegisterState) × (held ≡ Some is) × RefusesImsi is.subject buffer len code)
 
 -- ---- records
 

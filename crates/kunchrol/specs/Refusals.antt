@@ -9,9 +9,9 @@ use Rattle.wholenode.specs.declared.fault.Cause.{Cause}
 use Rattle.wholenode.specs.declared.fault.Cause.TheVariants.{Memory, JournalFull, ResetRefused, NoRoom}
 use Rattle.wholenode.specs.Handling.{Refuses}
 use Rattle.wholenode.specs.Ticking.{RefusesTicks}
-use Rattle.audit.specs.Saving.{Saves}
 use Rattle.embed.specs.declared.fault.BufferFault.{BufferFault}
 use Rattle.embed.specs.declared.fault.BufferFault.TheVariants as buffer
+use Rattle.embed.specs.Images.{IsSaved}
 use Rattle.embed.specs.Journals.{ListsShard}
 use Rattle.embed.specs.Keeping.{KeepsNothing}
 use Rattle.embed.specs.LogLines.{IsClockLine, IsEventLine}
@@ -126,7 +126,7 @@ RefusesRoom IsText buffer len code = IsMemory code ⊎ (code ≡ 2) × ((text : 
 -- The records are not written.
 abbrev pub RefusesSave : Held → (buffer len code : ℕ) → Type 0
 RefusesSave held buffer len code =
-    IsClosed held code ⊎ ((is : RegisterState) × (held ≡ Some is) × RefusesRoom (Saves is.node.shards) buffer len code)
+    IsClosed held code ⊎ ((is : RegisterState) × (held ≡ Some is) × RefusesRoom (IsSaved is.node) buffer len code)
 
 -- The journal is not cut: there is no such shard (3), or the handle is closed, or the listing is not written.
 abbrev pub RefusesCut : (shard : ℕ) → Held → (buffer len code : ℕ) → Type 0

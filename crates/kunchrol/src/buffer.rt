@@ -1,13 +1,13 @@
 //! Texts in the caller's buffer.
 
 ghost use Rattle.std.specs.Prelude.{◌≡◌, ◌≢◌, ℕ, List, Some, length, option_copied};
-ghost use Rattle.audit.specs.Saving.{Saves};
-ghost use Rattle.embed.specs.Images.{IsImageOf};
+ghost use Rattle.embed.specs.Images.{IsImageOf, IsSaved};
 ghost use Rattle.embed.specs.Journals.{CutsOff, ListsOpen, ListsShard};
 ghost use Rattle.embed.specs.Buffers.{Writes};
 ghost use Rattle.records.specs.Subscriber.{Subscriber};
 ghost use Rattle.records.specs.Written.{record_line};
-ghost use Rattle.kunchrol.specs.Lookups.{RefusesFound};
+ghost use Rattle.hlr_types.specs.DigitTexts.{text_of};
+ghost use Rattle.kunchrol.specs.Lookups.{RefusesFound, RefusesImsi};
 ghost use Rattle.kunchrol.specs.Refusals.{RefusesRoom, code_of_room, len_of_room};
 
 use crate::code::{MEMORY, NONE, OK, SMALL};
@@ -17,9 +17,9 @@ use records::{Record, Version};
 use std::alloc::Global;
 
 pub(crate) fn save_records(register: &Register, buffer: &mut [u8], len: &mut usize) -> u32
-    ensures saved { result ≡ 0 → (text : List ℕ) × Saves register.now.node.shards text
+    ensures saved { result ≡ 0 → (text : List ℕ) × IsSaved register.now.node text
         × Writes text buffer.old len.new buffer.new }
-    ensures why { result ≢ 0 → RefusesRoom (Saves register.now.node.shards)
+    ensures why { result ≢ 0 → RefusesRoom (IsSaved register.now.node)
         (length buffer.old) len.new result }
     ensures refused { result ≢ 0 → buffer.new ≡ buffer.old }
     ensures len { result ≢ 0 → result ≢ 2 → len.new ≡ len.old }
@@ -80,6 +80,27 @@ pub(crate) fn write_found(
         }
         Err(fault) => refused(fault, len),
     }
+}
+
+/// Writes the IMSI that the last event was about.
+pub(crate) fn write_subject(register: &Register, buffer: &mut [u8], len: &mut usize) -> u32
+    ensures written { result ≡ 0 → (imsi : List ℕ) × (register.now.subject ≡ Some imsi)
+        × Writes (text_of imsi) buffer.old len.new buffer.new }
+    ensures why { result ≢ 0 → RefusesImsi register.now.subject (length buffer.old) len.new result }
+    ensures refused { result ≢ 0 → buffer.new ≡ buffer.old }
+    ensures len { result ≢ 0 → result ≢ 2 → len.new ≡ len.old }
+{
+    let Some(imsi) = register.subject() else {
+        return NONE;
+    };
+    let text = imsi.digits().text();
+    let digits = text.as_slice();
+    *len = digits.len();
+    if buffer.len() < digits.len() {
+        return SMALL;
+    }
+    buffer[..digits.len()].copy_from_slice(digits);
+    OK
 }
 
 pub(crate) fn list_dialogues(

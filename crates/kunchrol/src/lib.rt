@@ -29,7 +29,7 @@ pub use handle::Handle;
 use hlrcore::{RawEvent, ShardNumber};
 pub use lookups::{
     kunchrol_counts, kunchrol_deadline, kunchrol_dialogues, kunchrol_record,
-    kunchrol_record_of_number,
+    kunchrol_record_of_number, kunchrol_subject,
 };
 use machine::numbers::MAX_CLOCK;
 use next::next_frame;

@@ -3,9 +3,9 @@
 ghost use Rattle.std.specs.Prelude.{◌≡◌, ◌≢◌, length, None, Some};
 ghost use Rattle.machine.specs.Deadlines.{IsFirst};
 ghost use Rattle.embed.specs.Lookups.{IsTimerOf};
-ghost use Rattle.kunchrol.specs.Lookups.{IsImsiRecord, IsNumberRecord, ListsDialogues, RefusesCounts, RefusesDeadline, RefusesDialogues, RefusesRecord, TellsCounts, TellsDeadline, WritesRecord};
+ghost use Rattle.kunchrol.specs.Lookups.{IsImsiRecord, IsNumberRecord, ListsDialogues, RefusesCounts, RefusesDeadline, RefusesDialogues, RefusesRecord, RefusesSubject, TellsCounts, TellsDeadline, TellsSubject, WritesRecord};
 
-use crate::buffer::{list_dialogues, write_found};
+use crate::buffer::{list_dialogues, write_found, write_subject};
 use crate::code::{ARGUMENT, CLOSED, NONE, OK};
 use crate::handle::Handle;
 use embed::{Register, read_imsi, read_number};
@@ -65,6 +65,28 @@ pub extern "C" fn kunchrol_counts(
     *dialogues = counts.dialogues;
     *entries = counts.entries;
     OK
+}
+
+/// Writes the text of the IMSI that the last event was about into the buffer, and its length at `len`, also if the buffer is too small.
+#[unsafe(no_mangle)]
+pub extern "C" fn kunchrol_subject(
+    alloc: Global,
+    handle: &mut Handle,
+    buffer: &mut [u8],
+    len: &mut usize,
+) -> u32
+    ensures told { result ≡ 0 → TellsSubject handle.old.value buffer.old len.new buffer.new }
+    ensures why { result ≢ 0 → RefusesSubject handle.old.value (length buffer.old) len.new result }
+    ensures unchanged { handle.new.value ≡ handle.old.value }
+    ensures refused { result ≢ 0 → buffer.new ≡ buffer.old }
+    ensures len { result ≢ 0 → result ≢ 2 → len.new ≡ len.old }
+{
+    let Some(register) = handle.take(alloc) else {
+        return CLOSED;
+    };
+    let code = write_subject(&register, buffer, len);
+    handle.put(register);
+    code
 }
 
 /// Writes the record of a subscriber into the buffer, as a line of a records file, and its length at `len`, also if the buffer is too

@@ -36,3 +36,4 @@ pub mod Unions
 pub mod Unseen
 pub mod Turned
 pub mod Purging
+pub mod Numbering

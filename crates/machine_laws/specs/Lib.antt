@@ -1,3 +1,4 @@
 pub mod FirstTimer
 pub mod Play
 pub mod Worked
+pub mod Numbers

@@ -32,6 +32,7 @@ ghost use Rattle.machine.specs.Sound.{Sound};
 ghost use Rattle.machine.specs.declared.numbers.TheConstants.{MAX_DIALOGUES, SHARDS};
 ghost use Rattle.machine.specs.Begins.{first_argument, offer_in};
 ghost use Rattle.machine_laws.specs.FirstTimer.{HasFirstTimer};
+ghost use Rattle.machine_laws.specs.Numbers.{msisdn_in};
 ghost use Rattle.machine_laws.specs.Play.{play};
 ghost use Rattle.machine.specs.Routing.{route};
 
@@ -68,6 +69,12 @@ pub fn tables_tell_full_shards()
 {}
 
 // One step
+
+/// No event changes who is a subscriber, or a subscriber's MSISDN.
+pub fn numbers_stay()
+    ensures { (S : State) (e : Event) (T : State) (a : Answer) (imsi : List ℕ)
+        → Step S e T a → msisdn_in T imsi ≡ msisdn_in S imsi }
+{}
 
 /// No event changes an open dialogue that it does not name.
 pub fn unnamed_dialogues_stay()

@@ -12,11 +12,12 @@ use Rattle.std.specs.Map.{lookup, keys_of, values_of}
 use Rattle.std.specs.BTreeMap.{is_at}
 use Rattle.std.specs.FinMap as map
 use Rattle.std.proofs.lemmas.Bool.{false≢true}
+use Rattle.std.proofs.lemmas.Option.{same_Some}
 use Rattle.std.proofs.lemmas.List.{get_or-map, map-append, length-map}
 use Rattle.std.proofs.lemmas.List.Elements.{recursion_from_All}
 use Rattle.std.proofs.lemmas.Map.Keys.{sorted_head, sorted_tail}
 use Rattle.records.specs.Subscriber.{Subscriber}
-use Rattle.records.specs.Maps.{digits_cmp, RecordMap}
+use Rattle.records.specs.Maps.{AreByImsi, digits_cmp, RecordMap}
 use Rattle.records.specs.Loaded.{imsi_entry, by_imsi}
 use Rattle.records.specs.Ordered.{AreInOrder, IsPlaceOf, IsAbove}
 use Rattle.records.proofs.MapLemmas.{digits_total, digits_exact, same_digits, digits_tie, get_view, view_insert, values_of_view}
@@ -47,6 +48,17 @@ same_in_order ss ts m n r mine theirs ordered others same = (
   (λ t. sym mine ∙ ap by_imsi (same.0 t) ∙ theirs),
   λ e. same.1 (sym (values_in_order ss ordered) ∙ ap (λ (records : RecordMap). map.values records) (mine ∙ e ∙ sym theirs) ∙ values_in_order ts others),
 )
+
+-- each record is under its own IMSI
+pub own_imsis : (ss : List Subscriber) → AreByImsi (by_imsi ss)
+own_imsis [] imsi s e = let none : None ≡ Some s = sym (map.get-empty digits_cmp imsi) ∙ e in absurd cc
+own_imsis (t ∷ ss) imsi s e =
+    by (own_imsis ss imsi s) (eq_by_cmp digits_cmp imsi t.imsi) refl (sym (map.get-insert digits_total (by_imsi ss) t.imsi t imsi) ∙ e)
+  where
+    by : (map.get (by_imsi ss) imsi ≡ Some s → s.imsi ≡ imsi) → (b : Bool) → eq_by_cmp digits_cmp imsi t.imsi ≡ b
+        → cond b (Some t) (map.get (by_imsi ss) imsi) ≡ Some s → s.imsi ≡ imsi
+    by later true tie is = ap (λ (r : Subscriber). r.imsi) (same_Some s t (sym is)) ∙ sym (same_digits imsi t.imsi tie)
+    by later false other is = later is
 
 -- ---- a record is found
 

@@ -3,7 +3,7 @@
 ghost use Rattle.std.specs.Prelude.{◌≡◌, ◌<◌, ◌↔◌, ◌==◌, IsSome, IsTrue, IfSome, IfNone, IfOk, OnOk, option_copied, count_by, map as each, length, replicate, slice_index_or};
 ghost use Rattle.std.specs.Bool.{OnTrue};
 ghost use Rattle.std.specs.FinMap as map;
-ghost use Rattle.records.specs.Maps.{shard_of};
+ghost use Rattle.records.specs.Maps.{AreByImsi, shard_of};
 ghost use Rattle.records.specs.Loaded.{by_imsi, imsi_entry};
 ghost use Rattle.records.specs.Ordered.{AreDistinct, AreInOrder, IsPlaceOf, IsAbove};
 ghost use Rattle.records.specs.Parts.{AreParts, with_one};
@@ -183,6 +183,15 @@ impl Records {
         ensures { IfOk result (λ parts. AreParts self parts.items) }
     {
         share_out(self.alloc, self.in_order)
+    }
+
+    /// Law: each record is under its own IMSI, and they are in the order of these.
+    pub fn law_in_order(&self)
+        ensures own { AreByImsi self.now }
+        ensures order { AreInOrder (map.values self.now) }
+        ensures whole { by_imsi (map.values self.now) ≡ self.now }
+    {
+        let _in_order = &self.in_order;
     }
 
     /// Whether the records are equal.

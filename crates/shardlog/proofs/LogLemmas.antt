@@ -226,14 +226,16 @@ module _ (keep : Keep) (b c : Option ShardState) (s : ShardState) (before roomy 
 
     pub entry_handles : MovesIds s.dialogues a.id t.dialogues → (after : List Entry) (handled : Handled) → keep ≡ Entries
         → raw_entries after ≡ raw_entries roomy ++ entry_of event a ∷ [] → handled.outs ≡ a.outs → handled.position ≡ length roomy
+        → handled.subject ≡ a.subject
         → Handles old event handled (log keep (base_of c t) (raw_entries after) t)
-    entry_handles ids after handled keeps put outs position =
+    entry_handles ids after handled keeps put outs position subject =
         subst (λ (l : Log). Handles l event handled (log keep (base_of c t) (raw_entries after) t)) seen (record {
           entry = entry_of event a;
           new_is = by keep keeps (is.kept keeps) (put ∙ ap (λ (es : List Entry). raw_entries es ++ entry_of event a ∷ []) is.entries);
           same = same;
           event_is = refl;
           outs_are = outs;
+          subject_is = subject;
           position = position ∙ ap (λ (es : List Entry). length es) is.entries ∙ sym (length-map before raw_entry);
           step = step;
           ids = ids;
@@ -253,14 +255,16 @@ module _ (keep : Keep) (b c : Option ShardState) (s : ShardState) (before roomy 
         (step_sound keep (base_of b s) s t (raw_entries before) (entry_of event a) is.held.log_is routed step same)
 
     pub nothing_handles : MovesIds s.dialogues a.id t.dialogues → (handled : Handled) → keep ≡ Nothing → handled.outs ≡ a.outs → handled.position ≡ 0
+        → handled.subject ≡ a.subject
         → Handles old event handled (log keep (base_of c t) (raw_entries roomy) t)
-    nothing_handles ids handled nothing outs position =
+    nothing_handles ids handled nothing outs position subject =
         subst (λ (l : Log). Handles l event handled (log keep (base_of c t) (raw_entries roomy) t)) seen (record {
           entry = entry_of event a;
           new_is = by keep nothing (is.left nothing ∙ is.held.none nothing) (ap raw_entries is.entries ∙ empty);
           same = same;
           event_is = refl;
           outs_are = outs;
+          subject_is = subject;
           position = position ∙ sym (ap length empty);
           step = step;
           ids = ids;

@@ -77,13 +77,13 @@ module _ (keep : Keep) (b c : Option ShardState) (s : ShardState) (before roomy 
 
     pub entry_ticks : MovesIds s.dialogues a.id t.dialogues → Ticks now old (log keep (base_of c t) (raw_entries after) t)
     entry_ticks ids =
-        let handled : Handled = record { position = length roomy; outs = a.outs } in
+        let handled : Handled = record { position = length roomy; subject = a.subject; outs = a.outs } in
         let was : Log = log keep (base_of b s) (raw_entries before) s in
         subst (λ (l : Log). Ticks now l (log keep (base_of c t) (raw_entries after) t)) seen (record {
           handled = handled;
           handles =
               entry_handles keep b c s before roomy is was t (RawClock s.shard now) a refl (Clock s.shard now, (refl, refl), refl) step same ids after
-              handled keeps put_own refl refl;
+              handled keeps put_own refl refl refl;
           keeps = held_keeps keep c (raw_entries after) t entry_ticked;
         })
 
@@ -94,12 +94,12 @@ module _ (keep : Keep) (b c : Option ShardState) (s : ShardState) (before roomy 
 
     pub nothing_ticks : MovesIds s.dialogues a.id t.dialogues → Ticks now old (log keep (base_of c t) (raw_entries roomy) t)
     nothing_ticks ids =
-        let handled : Handled = record { position = 0; outs = a.outs } in
+        let handled : Handled = record { position = 0; subject = a.subject; outs = a.outs } in
         let was : Log = log keep (base_of b s) (raw_entries before) s in
         subst (λ (l : Log). Ticks now l (log keep (base_of c t) (raw_entries roomy) t)) seen (record {
           handled = handled;
           handles =
               nothing_handles keep b c s before roomy is was t (RawClock s.shard now) a refl (Clock s.shard now, (refl, refl), refl) step same ids
-              handled nothing refl refl;
+              handled nothing refl refl refl;
           keeps = held_keeps keep c (raw_entries roomy) t nothing_ticked;
         })

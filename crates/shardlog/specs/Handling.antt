@@ -25,7 +25,7 @@ abbrev pub recorded : Keep → Log → RawEntry → ShardState → Log
 recorded Entries l entry state = log Entries l.base (l.entries ++ entry ∷ []) state
 recorded Nothing l entry state = fresh Nothing state
 
--- An event is handled. Its entry has the event, what is sent, and the rest of a step from the state before to the state after, whose id is the
+-- An event is handled. Its entry has the event, its subject, what is sent, and the rest of a step from the state before to the state after, whose id is the
 -- next one; where entries are kept, it is appended to the journal, whose base stays.
 pub record Handles (old : Log) (raw : RawEvent) (handled : Handled) (new : Log) : Type 0 where
   pub entry : RawEntry
@@ -33,6 +33,7 @@ pub record Handles (old : Log) (raw : RawEvent) (handled : Handled) (new : Log) 
   pub same : IsSameShard old.state new.state
   pub event_is : entry.event ≡ raw
   pub outs_are : handled.outs ≡ entry.outs
+  pub subject_is : handled.subject ≡ entry.subject
   pub position : handled.position ≡ length old.entries
   pub step : StepOctets (state_of old.state) entry (state_of new.state)
   pub ids : MovesIds old.state.dialogues entry.id new.state.dialogues

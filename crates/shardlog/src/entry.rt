@@ -12,10 +12,11 @@ pub struct Entry {
     pub outs: OutList,
 }
 
-/// The position of an event's entry in the journal, counted from 0, and the frames to send, in order.
+/// The position of an event's entry in the journal, counted from 0, the event's subject, and the frames to send, in order.
 #[derive(Drop)]
 pub struct Handled {
     pub position: usize,
+    pub subject: Option<Imsi>,
     pub outs: OutList,
 }
 

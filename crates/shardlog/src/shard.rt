@@ -20,7 +20,8 @@ ghost use Rattle.shardlog.specs.Ticking.{AreTicked, Hinders};
 use crate::entry::{Entry, Epoch, Handled};
 use crate::fault::ShardFault;
 use crate::keep::Keep;
-use hlrcore::{Addressee, Event, RawEvent, ShardNumber, State, StepAnswer};
+use hlr_types::Imsi;
+use hlrcore::{Addressee, Event, OutList, RawEvent, ShardNumber, State, StepAnswer};
 use machine::numbers::MAX_ENTRIES;
 use std::alloc::{AllocError, Global};
 use std::marker::Model;
@@ -313,11 +314,9 @@ fn make_room(
 fn sent(answer: StepAnswer) -> Handled
     ensures outs { result.outs ≡ answer.outs }
     ensures position { result.position ≡ 0 }
+    ensures subject { result.subject ≡ answer.subject }
 {
-    Handled {
-        position: 0,
-        outs: answer.outs.into_both().0,
-    }
+    told(0, answer.subject, answer.outs.into_both().0)
 }
 
 /// Copies the state as the base, if there is none yet. What is the base stays the same.
@@ -338,6 +337,7 @@ fn append(entries: &mut Vec<Entry>, event: RawEvent, answer: StepAnswer) -> Hand
         ≡ raw_entries entries.old.items ++ entry_of (raw_event event) answer ∷ [] }
     ensures outs { result.outs ≡ answer.outs }
     ensures position { result.position ≡ length entries.old.items }
+    ensures subject { result.subject ≡ answer.subject }
 {
     let position = entries.len();
     let (outs, kept) = answer.outs.into_both();
@@ -347,5 +347,19 @@ fn append(entries: &mut Vec<Entry>, event: RawEvent, answer: StepAnswer) -> Hand
         subject: answer.subject,
         outs: kept,
     });
-    Handled { position, outs }
+    told(position, answer.subject, outs)
+}
+
+/// What is told of an event that is handled.
+#[inline(always)]
+fn told(position: usize, subject: Option<Imsi>, outs: OutList) -> Handled
+    ensures position { result.position ≡ position }
+    ensures subject { result.subject ≡ subject }
+    ensures outs { result.outs ≡ outs }
+{
+    Handled {
+        position,
+        subject,
+        outs,
+    }
 }

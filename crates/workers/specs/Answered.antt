@@ -1,4 +1,5 @@
 -- What a worker's answer to a job says, whatever the lock held.
+use Rattle.std.specs.Prelude.{ℕ, List, Option}
 use Rattle.frames.specs.Account.{Place}
 use Rattle.frames.specs.Octets.{RawEvent}
 use Rattle.shardlog.specs.Handling.{Handles}
@@ -8,4 +9,5 @@ use Rattle.shardlog.specs.Log.{Log}
 pub record IsAnswered (raw : RawEvent) (place : Place) : Type 0 where
   pub old : Log
   pub new : Log
-  pub handles : Handles old raw (record { position = place.position; outs = place.outs }) new
+  pub subject : Option (List ℕ)
+  pub handles : Handles old raw (record { position = place.position; subject = subject; outs = place.outs }) new

@@ -1,5 +1,5 @@
 -- What a receipt says: where the entry of its job stands, and what was sent.
-use Rattle.std.specs.Prelude.{◌≡◌, ℕ, Option, Some, None, Ok, Err, Result}
+use Rattle.std.specs.Prelude.{◌≡◌, ℕ, List, Option, Some, None, Ok, Err, Result}
 use Rattle.frames.specs.Account.{Place}
 use Rattle.frames.specs.Octets.{RawEvent}
 use Rattle.shardlog.specs.Log.{Log}
@@ -16,7 +16,8 @@ abbrev pub place_of : Result Placed Refusal → Option Place
 place_of (Ok p) = Some (placed p)
 place_of (Err _) = None
 
--- The shard with this number handled the event, and the receipt says where the entry stands and what was sent.
+-- The shard with this number handled the event, and the receipt says where the entry stands, which has the subject, and what was sent.
 pub record IsPlaced (number : ℕ) (old : Log) (raw : RawEvent) (p : Placed) (new : Log) : Type 0 where
   pub shard : p.shard ≡ number
-  pub handles : Handles old raw (record { position = p.position; outs = p.outs }) new
+  pub subject : Option (List ℕ)
+  pub handles : Handles old raw (record { position = p.position; subject = subject; outs = p.outs }) new

@@ -3,11 +3,11 @@ use Rattle.std.specs.Prelude.{Some, slice_get}
 use Rattle.std.proofs.lemmas.Option.{slice_get_read}
 use Rattle.images.specs.Again.{IsReadAgain}
 use Rattle.embed.specs.Registers.{RegisterState}
-use Rattle.embed.proofs.ImageLemmas.{none_read, one_read, within}
+use Rattle.embed.proofs.ImageLemmas.{none_below, one_more, within}
 use Rattle.embed.proofs.register.Register.law_shards_are_read.Goals as goal
 
 pub loop-shard-init : goal.loop-shard-init
-loop-shard-init c = none_read _
+loop-shard-init c = none_below IsReadAgain _
 
 pub loop-shard-preserved : goal.loop-shard-preserved
 loop-shard-preserved c =
@@ -17,7 +17,7 @@ loop-shard-preserved c =
     let is : it ≡ get_or shards c.loop-shard.shard-index it = search rules in
     let at = slice_get_read shards (length shards) c.loop-shard.shard-index it refl lt is in
     let again : IsReadAgain it.state = subst IsReadAgain c.state.ensures c.law_read_again.ensures in
-    one_read shards c.loop-shard.shard-index it at c.loop-shard.invariant again
+    one_more IsReadAgain shards c.loop-shard.shard-index it at c.loop-shard.invariant again
 
 pub returns-clause-read : goal.returns-clause-read
 returns-clause-read c = λ n l e.

@@ -78,7 +78,7 @@ returns-in-Entries-clause-handles c =
     (own_route RawExpire c.args.shard c.self.inside.state own (Expire c.args.shard, refl, refl))
     (own_step RawExpire c.args.shard c.self.inside.state c.expire.new.self c.in_ok-answer.answer own c.in_ok-answer.ensures.stepped)
     c.in_ok-answer.ensures.same_shard c.in_ok-answer.ensures.ids
-    c.append.new.entries.items c.append.result c.in-Entries.is c.append.ensures.put c.append.ensures.outs c.append.ensures.position
+    c.append.new.entries.items c.append.result c.in-Entries.is c.append.ensures.put c.append.ensures.outs c.append.ensures.position c.append.ensures.subject
 
 pub returns-in-Entries-clause-keeps : goal.returns-in-Entries-clause-keeps
 returns-in-Entries-clause-keeps c = held_keeps _ _ _ _ (invariant_of-self-in-Entries c)
@@ -99,7 +99,7 @@ returns-in-Nothing-clause-handles c =
     (own_route RawExpire c.args.shard c.self.inside.state own (Expire c.args.shard, refl, refl))
     (own_step RawExpire c.args.shard c.self.inside.state c.expire.new.self c.in_ok-answer.answer own c.in_ok-answer.ensures.stepped)
     c.in_ok-answer.ensures.same_shard c.in_ok-answer.ensures.ids
-    c.sent.result c.in-Nothing.is c.sent.ensures.outs c.sent.ensures.position
+    c.sent.result c.in-Nothing.is c.sent.ensures.outs c.sent.ensures.position c.sent.ensures.subject
 
 pub returns-in-Nothing-clause-keeps : goal.returns-in-Nothing-clause-keeps
 returns-in-Nothing-clause-keeps c = held_keeps _ _ _ _ (invariant_of-self-in-Nothing c)

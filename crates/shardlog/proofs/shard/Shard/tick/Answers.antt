@@ -65,7 +65,7 @@ returns-in-Entries-clause-handles c =
     (own_route (λ n. RawClock n c.args.now) c.args.shard c.self.inside.state own (Clock c.args.shard c.args.now, (refl, refl), refl))
     (own_step (λ n. RawClock n c.args.now) c.args.shard c.self.inside.state c.tick-answer.new.self c.tick-answer.result own c.tick-answer.ensures.stepped)
     c.tick-answer.ensures.same_shard c.tick-answer.ensures.ids
-    c.append.new.entries.items c.append.result c.in-Entries.is c.append.ensures.put c.append.ensures.outs c.append.ensures.position
+    c.append.new.entries.items c.append.result c.in-Entries.is c.append.ensures.put c.append.ensures.outs c.append.ensures.position c.append.ensures.subject
 
 pub returns-in-Entries-clause-keeps : goal.returns-in-Entries-clause-keeps
 returns-in-Entries-clause-keeps c = held_keeps _ _ _ _ (invariant_of-self-in-Entries c)
@@ -86,7 +86,7 @@ returns-in-Nothing-clause-handles c =
     (own_route (λ n. RawClock n c.args.now) c.args.shard c.self.inside.state own (Clock c.args.shard c.args.now, (refl, refl), refl))
     (own_step (λ n. RawClock n c.args.now) c.args.shard c.self.inside.state c.tick-answer.new.self c.tick-answer.result own c.tick-answer.ensures.stepped)
     c.tick-answer.ensures.same_shard c.tick-answer.ensures.ids
-    c.sent.result c.in-Nothing.is c.sent.ensures.outs c.sent.ensures.position
+    c.sent.result c.in-Nothing.is c.sent.ensures.outs c.sent.ensures.position c.sent.ensures.subject
 
 pub returns-in-Nothing-clause-keeps : goal.returns-in-Nothing-clause-keeps
 returns-in-Nothing-clause-keeps c = held_keeps _ _ _ _ (invariant_of-self-in-Nothing c)
