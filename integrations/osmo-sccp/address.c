@@ -1,3 +1,4 @@
+/* SPDX-License-Identifier: Apache-2.0 */
 #include "address.h"
 
 #include <osmocom/sigtran/sccp_helpers.h>

@@ -1,3 +1,4 @@
+/* SPDX-License-Identifier: Apache-2.0 */
 /* Addresses of SCCP (Q.713, 3.4), and the digits by which the register knows who has one. */
 #ifndef ADDRESS_H
 #define ADDRESS_H

@@ -1,3 +1,4 @@
+/* SPDX-License-Identifier: Apache-2.0 */
 /*
  * Where the messages of a dialogue go: the calling party address of the peer's message that named its transaction id, as it came.
  * The register names a peer by digits alone.

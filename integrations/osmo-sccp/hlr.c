@@ -1,3 +1,4 @@
+/* SPDX-License-Identifier: Apache-2.0 */
 #include "hlr.h"
 
 #include <stdio.h>
@@ -30,23 +31,30 @@ uint32_t hlr_frame(const char *from, const uint8_t *octets, size_t len)
 	return send_after(kunchrol_frame(&hlr, (const uint8_t *)from, strlen(from), octets, len));
 }
 
-static uint32_t expire_all(uint8_t shard)
-{
-	uint32_t code;
-
-	do
-		code = send_after(kunchrol_expire(&hlr, shard));
-	while (!code);
-	return code == KUNCHROL_NONE ? KUNCHROL_OK : code;
-}
-
 uint32_t hlr_time(uint64_t now)
 {
-	uint32_t code = kunchrol_clock(&hlr, now);
+	return kunchrol_clock(&hlr, now);
+}
 
-	for (uint8_t shard = 0; shard < KUNCHROL_SHARDS && !code; shard++)
-		code = expire_all(shard);
-	return code;
+uint32_t hlr_expire(unsigned most)
+{
+	static uint8_t shard; /* it goes on where it stopped, so that each has its turn */
+	unsigned without = 0;
+
+	while (most && without < KUNCHROL_SHARDS) {
+		uint32_t code = send_after(kunchrol_expire(&hlr, shard));
+
+		if (code && code != KUNCHROL_NONE)
+			return code;
+		if (code == KUNCHROL_NONE) {
+			shard = (shard + 1) % KUNCHROL_SHARDS;
+			without++;
+		} else {
+			without = 0;
+			most--;
+		}
+	}
+	return without == KUNCHROL_SHARDS ? KUNCHROL_NONE : KUNCHROL_OK;
 }
 
 /* The text of a file, with its length; null if it cannot be had. The caller frees it. */

@@ -1,3 +1,4 @@
+/* SPDX-License-Identifier: Apache-2.0 */
 /*
  * Who writes to the register: peer NUMBER SCRIPT ipa|m3ua FORM plays the VLR, MSC and SMSC of a script, through the same STP. NUMBER is the
  * register's. FORM says what its calling party addresses have: `digits` (and point code and subsystem), `point-code` (and subsystem),
@@ -10,11 +11,13 @@
 #include "address.h"
 #include "script.h"
 #include "stack.h"
+#include "way.h"
 
 #include <stdio.h>
 #include <string.h>
 
 enum { MAX_LINE = 16384, QUIET_MILLISECONDS = 400, TIMER_MILLISECONDS = 5000, UP_MILLISECONDS = 100, MAX_WAITS = 100 };
+enum { MOST_UNSENT = 1000, MOST_OCTETS = 100000 };
 
 /* what nobody here is bound to: the SGSN's */
 enum { UNBOUND = OSMO_SCCP_SSN_SGSN_MAP };
@@ -23,10 +26,7 @@ static void take_frame(const struct stack_frame *frame)
 {
 	bool has_digits = frame->called->presence & OSMO_SCCP_ADDR_T_GT;
 
-	printf("S %s ", has_digits ? frame->called->gt.digits : "-");
-	for (size_t at = 0; at < frame->len; at++)
-		printf("%02X", frame->octets[at]);
-	printf("\n");
+	print_frame(stdout, has_digits ? frame->called->gt.digits : "-", frame->octets, frame->len);
 	note_letter(frame->octets, frame->len);
 }
 
@@ -92,7 +92,7 @@ static bool play(const char *number, const char *form, FILE *script)
 	static char text[MAX_LINE];
 	bool is_played = true;
 
-	for (int waits = 0; waits < MAX_WAITS && !stack_is_up(); waits++)
+	for (int waits = 0; waits < MAX_WAITS && !way_is_up(); waits++)
 		stack_wait(UP_MILLISECONDS);
 	while (is_played && fgets(text, sizeof(text), script)) {
 		text[strcspn(text, "\n")] = 0;
@@ -105,7 +105,8 @@ static bool play(const char *number, const char *form, FILE *script)
 int main(int argc, char **argv)
 {
 	static const uint32_t subsystems[] = { OSMO_SCCP_SSN_VLR, OSMO_SCCP_SSN_MSC, 0 };
-	static const struct stack_user user = { "peer", PEER_POINT_CODE, subsystems, take_frame, take_notice };
+	static const struct stack_user user =
+		{ "peer", PEER_POINT_CODE, REGISTER_POINT_CODE, subsystems, { MOST_UNSENT, MOST_OCTETS }, take_frame, take_notice };
 	FILE *script = argc == 5 ? fopen(argv[2], "r") : NULL;
 	bool is_played;
 

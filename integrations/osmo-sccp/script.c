@@ -1,8 +1,8 @@
+/* SPDX-License-Identifier: Apache-2.0 */
 #include "script.h"
 #include "transaction.h"
 
 #include <ctype.h>
-#include <stdio.h>
 #include <string.h>
 
 enum { MAX_LETTERS = 26 };
@@ -67,4 +67,12 @@ bool read_line(const char *text, struct script_line *line)
 {
 	line->kind = strcmp(text, "E") ? BATCH_END : EXPIRY_LINE;
 	return !strcmp(text, "E") || !strcmp(text, "W") || read_frame(text, line);
+}
+
+void print_frame(FILE *file, const char *to, const uint8_t *octets, size_t len)
+{
+	fprintf(file, "S %s ", to);
+	for (size_t at = 0; at < len; at++)
+		fprintf(file, "%02X", octets[at]);
+	putc('\n', file);
 }

@@ -1,5 +1,7 @@
+/* SPDX-License-Identifier: Apache-2.0 */
 #include "stack.h"
 #include "address.h"
+#include "way.h"
 
 #include <osmocom/core/application.h>
 #include <osmocom/core/logging.h>
@@ -10,7 +12,6 @@
 #include <osmocom/core/timer.h>
 #include <osmocom/sigtran/osmo_ss7.h>
 #include <osmocom/sigtran/sccp_helpers.h>
-#include <stdio.h>
 #include <string.h>
 
 enum { MAX_SUBSYSTEMS = 4, IPA_PORT = 5000, M3UA_PORT = 2905 };
@@ -21,11 +22,15 @@ enum { MAX_SUBSYSTEMS = 4, IPA_PORT = 5000, M3UA_PORT = 2905 };
  */
 enum { UDT_ROOM = 272 - 4 - 8, MAX_DATA = 255 };
 
+/* how long the end waits until all is sent */
+enum { END_MILLISECONDS = 1000 };
+
 static const struct stack_user *the_user;
 static void *context;
 static struct osmo_sccp_instance *sccp;
 static struct osmo_sccp_user *users[MAX_SUBSYSTEMS];
 static size_t user_count;
+/* what came in this wait, and whether its time is over */
 static uint64_t came;
 static bool is_late;
 
@@ -84,7 +89,18 @@ static bool start_library(void)
 		return false;
 	log_set_log_level(osmo_stderr_target, LOGL_ERROR);
 	log_set_use_color(osmo_stderr_target, 0);
+	osmo_init_ignore_signals(); /* SIGPIPE above all */
 	return osmo_ss7_init() >= 0;
+}
+
+bool stack_use(const struct stack_user *user, struct osmo_sccp_instance *instance)
+{
+	the_user = user;
+	sccp = instance;
+	if (!bind_subsystems())
+		return false;
+	way_open(user, sccp, users[0]);
+	return true;
 }
 
 bool stack_open(const struct stack_user *user, const char *protocol)
@@ -99,7 +115,7 @@ bool stack_open(const struct stack_user *user, const char *protocol)
 	/* (a local port of 0 is any port) */
 	sccp = osmo_sccp_simple_client(context, user->name, user->point_code, is_ipa ? OSMO_SS7_ASP_PROT_IPA : OSMO_SS7_ASP_PROT_M3UA,
 				       0, "127.0.0.1", is_ipa ? IPA_PORT : M3UA_PORT, "127.0.0.1");
-	return sccp && bind_subsystems();
+	return sccp && stack_use(user, sccp);
 }
 
 static const char *why_not(const struct stack_frame *frame)
@@ -117,18 +133,19 @@ static const char *why_not(const struct stack_frame *frame)
 bool stack_send(const struct stack_frame *frame)
 {
 	struct osmo_sccp_addr called = *frame->called;
+	const struct stack_frame whole = { frame->calling, &called, frame->octets, frame->len };
 	const char *why;
 
 	/* (the library puts 0 where an address had a subsystem alone and IPA told no point code) */
 	if (!(called.presence & OSMO_SCCP_ADDR_T_PC) || !called.pc) {
 		called.presence |= OSMO_SCCP_ADDR_T_PC;
-		called.pc = the_user->point_code == REGISTER_POINT_CODE ? PEER_POINT_CODE : REGISTER_POINT_CODE;
+		called.pc = the_user->other_point_code;
 	}
-	why = why_not(&(struct stack_frame){ frame->calling, &called, frame->octets, frame->len });
-	if (!why && osmo_sccp_tx_unitdata(users[0], frame->calling, &called, frame->octets, (unsigned)frame->len) < 0)
-		why = "the library refused it";
+	why = why_not(&whole);
+	if (!why && !way_send(&whole))
+		why = "there is no memory";
 	if (why)
-		fprintf(stderr, "%s: a frame of %zu octets is not sent: %s\n", the_user->name, frame->len, why);
+		stack_tell(the_user, "a frame of %zu octets is not sent: %s", frame->len, why);
 	return !why;
 }
 
@@ -138,33 +155,44 @@ static void end_wait(void *data)
 	is_late = true;
 }
 
-bool stack_wait(unsigned milliseconds)
+/* Has the library work until something is so, and not longer than this. */
+static void work_until(bool (*is_so)(void), unsigned milliseconds)
 {
 	struct osmo_timer_list timer = { .cb = end_wait };
-	uint64_t before = came;
 
 	is_late = false;
 	osmo_timer_schedule(&timer, (int)(milliseconds / 1000), (int)(milliseconds % 1000 * 1000));
-	while (!is_late && came == before)
+	while (!is_late && !is_so()) {
 		osmo_select_main_ctx(0);
+		way_turn();
+	}
 	osmo_timer_del(&timer);
-	return came != before;
 }
 
-bool stack_is_up(void)
+static bool has_come(void)
 {
-	struct osmo_ss7_as *server;
+	return came != 0;
+}
 
-	llist_for_each_entry(server, &osmo_sccp_get_ss7(sccp)->as_list, list)
-		if (osmo_ss7_as_active(server))
-			return true;
-	return false;
+bool stack_wait(unsigned milliseconds)
+{
+	came = 0;
+	work_until(has_come, milliseconds);
+	return has_come();
+}
+
+static bool is_all_sent(void)
+{
+	return !way_waiting() || !way_is_up();
 }
 
 void stack_close(void)
 {
 	struct osmo_ss7_instance *ss7 = sccp ? osmo_sccp_get_ss7(sccp) : NULL;
 
+	if (sccp)
+		work_until(is_all_sent, END_MILLISECONDS);
+	way_close();
 	if (sccp)
 		osmo_sccp_instance_destroy(sccp); /* and its users */
 	if (ss7)

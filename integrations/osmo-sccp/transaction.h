@@ -1,3 +1,4 @@
+/* SPDX-License-Identifier: Apache-2.0 */
 /* The transaction ids of a TCAP message (Q.773), which say what dialogue it belongs to. */
 #ifndef TRANSACTION_H
 #define TRANSACTION_H

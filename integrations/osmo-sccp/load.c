@@ -1,0 +1,195 @@
+/* SPDX-License-Identifier: Apache-2.0 */
+/*
+ * A VLR that asks and never answers: load NUMBER SCRIPT SUBSCRIBERS RATE SECONDS ipa|m3ua FRAMES OCTETS begins RATE updates a second through the STP, of
+ * one subscriber after the other, and leaves each insertSubscriberData without an answer. NUMBER is the register's; the first line of SCRIPT
+ * is a frame with an updateLocation, which is sent with other ids and IMSIs: subscriber n has 234150 and n in nine digits.
+ *
+ * Each update has one end: error 34 when the timer of its insert has expired, or the Abort of a full shard. When all have one, or nothing came
+ * for a while, or at SIGTERM, it ends. FRAMES and OCTETS are what waits at most while there is no way to the STP; while there is one it begins
+ * no update if half of that waits. It prints what comes, as the program `hlr` prints what it sends, and on standard error when the way is
+ * there, and in the end how many updates had which end.
+ * The status is 1 if something else comes, or an update has no end, and 2 if it cannot begin.
+ */
+#define _GNU_SOURCE
+#include "address.h"
+#include "script.h"
+#include "stack.h"
+#include "transaction.h"
+#include "way.h"
+
+#include <signal.h>
+#include <stdio.h>
+#include <stdlib.h>
+#include <string.h>
+#include <time.h>
+
+enum { WAIT_MILLISECONDS = 2, QUIET_SECONDS = 30 };
+/* where an updateLocation has its transaction id */
+enum { ID_AT = 4, IMSI_DIGITS = 15 };
+enum { END = 0x64, CONTINUE = 0x65, ABORT = 0x67 };
+
+static struct script_line update;
+static uint8_t *imsi_of_update;
+
+/* how far each update is, by its number, which is its transaction id too */
+enum { UNKNOWN, BEGUN, INSERTED, ENDED };
+static uint8_t *states;
+static uint32_t begun, most;
+static unsigned long inserts, failed, turned_away, strange;
+static double last_came;
+static volatile sig_atomic_t is_ended;
+
+static double seconds_now(void)
+{
+	struct timespec now;
+
+	clock_gettime(CLOCK_MONOTONIC, &now);
+	return (double)now.tv_sec + (double)now.tv_nsec / 1e9;
+}
+
+static bool has(const struct stack_frame *frame, const void *part, size_t len)
+{
+	return memmem(frame->octets, frame->len, part, len) != NULL;
+}
+
+/* Notes that an update is so far, if it was there just before. */
+static void note(uint8_t *state, uint8_t before, uint8_t after, unsigned long *counted)
+{
+	if (*state == before) {
+		*state = after;
+		++*counted;
+	} else {
+		strange++;
+	}
+}
+
+static void take_frame(const struct stack_frame *frame)
+{
+	/* a ReturnError to invocation 1 with error 34, and the cause resourceLimitation (Q.773) */
+	static const uint8_t system_failure[] = { 0xA3, 6, 2, 1, 1, 2, 1, 34 }, resource_limitation[] = { 0x4A, 1, 4 };
+	struct transaction transaction;
+	uint32_t number = 0;
+
+	last_came = seconds_now();
+	print_frame(stdout, frame->called->gt.digits, frame->octets, frame->len);
+	read_transaction(frame->octets, frame->len, &transaction);
+	for (size_t at = 0; at < transaction.destination.len; at++)
+		number = number << 8 | transaction.destination.octets[at];
+	if (number < begun && frame->octets[0] == CONTINUE)
+		note(&states[number], BEGUN, INSERTED, &inserts);
+	else if (number < begun && frame->octets[0] == END && has(frame, system_failure, sizeof(system_failure)))
+		note(&states[number], INSERTED, ENDED, &failed);
+	else if (number < begun && frame->octets[0] == ABORT && has(frame, resource_limitation, sizeof(resource_limitation)))
+		note(&states[number], BEGUN, ENDED, &turned_away);
+	else
+		strange++;
+}
+
+static void take_notice(const struct stack_frame *returned, uint32_t cause)
+{
+	(void)returned;
+	strange++;
+	fprintf(stderr, "load: a frame was returned, cause %u (Q.713, 3.12)\n", (unsigned)cause);
+}
+
+/* Digits as TBCD (TS 29.002): two an octet, the first in the low half, and a filler if their count is odd. */
+static void put_digits(uint8_t *at, const char *digits, size_t count)
+{
+	for (size_t digit = 0; digit < count; digit += 2)
+		*at++ = (uint8_t)((digits[digit] - '0') | (digit + 1 < count ? digits[digit + 1] - '0' : 15) << 4);
+}
+
+static void begin_update(const char *number, unsigned long subscribers)
+{
+	struct osmo_sccp_addr calling = address_of_number(update.from, PEER_POINT_CODE, OSMO_SCCP_SSN_VLR);
+	struct osmo_sccp_addr called = address_of_number(number, REGISTER_POINT_CODE, OSMO_SCCP_SSN_HLR);
+	char imsi[32];
+
+	for (size_t octet = 0; octet < MAX_ID; octet++)
+		update.octets[ID_AT + octet] = (uint8_t)(begun >> 8 * (MAX_ID - 1 - octet));
+	snprintf(imsi, sizeof(imsi), "234150%09lu", begun % subscribers);
+	put_digits(imsi_of_update, imsi, IMSI_DIGITS);
+	states[begun++] = BEGUN;
+	if (!stack_send(&(struct stack_frame){ &calling, &called, update.octets, update.len }))
+		strange++;
+}
+
+static const uint32_t subsystems[] = { OSMO_SCCP_SSN_VLR, 0 };
+static struct stack_user user = { "peer", PEER_POINT_CODE, REGISTER_POINT_CODE, subsystems, { 0, 0 }, take_frame, take_notice };
+
+/* Whether so much waits, though there is a way, that more would soon be dropped. */
+static bool is_ahead(void)
+{
+	return way_is_up() && (way_waiting() > user.limits.frames / 2 || way_waiting() * update.len > user.limits.octets / 2);
+}
+
+static void end(int number)
+{
+	(void)number;
+	is_ended = 1;
+}
+
+static void play(const char *number, unsigned long subscribers, double rate)
+{
+	double start;
+
+	while (!is_ended && !way_is_up())
+		stack_wait(WAIT_MILLISECONDS);
+	for (start = last_came = seconds_now(); !is_ended && begun < most; stack_wait(WAIT_MILLISECONDS))
+		while (begun < most && begun < (seconds_now() - start) * rate && !is_ahead())
+			begin_update(number, subscribers);
+	fprintf(stderr, "load: %u begun in %.1f seconds\n", (unsigned)begun, seconds_now() - start);
+	while (!is_ended && failed + turned_away < begun && seconds_now() - last_came < QUIET_SECONDS)
+		stack_wait(WAIT_MILLISECONDS);
+}
+
+/* Reads the update of a script, and finds the IMSI in it. */
+static bool read_update(const char *path)
+{
+	static const uint8_t front[] = { 4, 8, 0x32, 0x14, 0x05 };
+	FILE *script = fopen(path, "r");
+	char *text = NULL;
+	size_t size = 0;
+	bool is_read = script && getline(&text, &size, script) > 0;
+
+	if (is_read) {
+		text[strcspn(text, "\n")] = 0;
+		is_read = read_line(text, &update) && update.kind == FRAME_LINE;
+		imsi_of_update = memmem(update.octets, update.len, front, sizeof(front));
+	}
+	free(text);
+	if (script)
+		fclose(script);
+	if (!is_read || !imsi_of_update)
+		return false;
+	imsi_of_update += 2;
+	return true;
+}
+
+int main(int argc, char **argv)
+{
+	bool is_called_so = argc == 9;
+	unsigned long subscribers = is_called_so ? strtoul(argv[3], NULL, 10) : 0;
+	double rate = is_called_so ? atof(argv[4]) : 0;
+
+	most = is_called_so ? (uint32_t)(rate * atof(argv[5])) : 0;
+	states = calloc(most + 1, 1);
+	if (!subscribers || !most || !states || !read_update(argv[2])) {
+		fprintf(stderr, "load NUMBER SCRIPT SUBSCRIBERS RATE SECONDS ipa|m3ua FRAMES OCTETS\n");
+		return 2;
+	}
+	signal(SIGTERM, end);
+	user.limits = (struct stack_limits){ strtoul(argv[7], NULL, 10), strtoul(argv[8], NULL, 10) };
+	if (!stack_open(&user, argv[6]))
+		return 2;
+	play(argv[1], subscribers, rate);
+	stack_close();
+	free(states);
+	fprintf(stderr, "load: %u begun, %lu inserts, %lu ended by error 34, %lu turned away, %lu without an end, %lu not sent, %lu strange\n",
+		(unsigned)begun, inserts, failed, turned_away, begun - failed - turned_away, way_lost(), strange);
+	if (fflush(stdout) || ferror(stdout)) {
+		fprintf(stderr, "load: standard output cannot be written\n");
+		strange++;
+	}
+	return strange || failed + turned_away != begun;
+}
