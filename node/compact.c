@@ -1,6 +1,6 @@
 /* SPDX-License-Identifier: Apache-2.0 */
 /*
- * Makes the next image of a register in a store: kunchrol-compact sqlite:FILE. It has a register of its own, which it opens from the newest
+ * Makes the next image of a register in a store: kunchrol-compact STORE. It has a register of its own, which it opens from the newest
  * image and the rows after it, as a start does. Rows and images that are older than the image it began with are deleted. A process that
  * leads goes on meanwhile, and waits only while the image is written.
  */
@@ -30,7 +30,7 @@ int main(int argc, char **argv)
 
 	signal(SIGXFSZ, SIG_IGN); /* so that a file that may not grow makes a write fail */
 	if (argc != 2)
-		return fprintf(stderr, "kunchrol-compact sqlite:FILE\n"), ended(END_WORDS);
+		return fprintf(stderr, "kunchrol-compact STORE\nSTORE is " STORES "\n"), ended(END_WORDS);
 	store = store_open(argv[1], false);
 	if (!store)
 		return ended(END_STORE);

@@ -40,13 +40,19 @@ struct sqlite {
 
 static enum store_answer refused(struct sqlite *it, const char *what)
 {
-	fprintf(stderr, "store: %s: %s (%d)\n", what, sqlite3_errmsg(it->db), sqlite3_extended_errcode(it->db));
+	store_tell("store: %s: %s (%d)\n", what, sqlite3_errmsg(it->db), sqlite3_extended_errcode(it->db));
 	return STORE_REFUSED;
 }
 
 static bool is_done(struct sqlite *it, const char *sql)
 {
 	return !sqlite3_exec(it->db, sql, NULL, NULL, NULL);
+}
+
+/* Whether no transaction is open, so that a statement is one by itself. Without memory the last one may not have been ended. */
+static bool is_outside(struct sqlite *it)
+{
+	return sqlite3_get_autocommit(it->db) || is_done(it, "ROLLBACK");
 }
 
 static bool has_bound_number(sqlite3_stmt *statement, int place, uint64_t number)
@@ -73,7 +79,8 @@ static enum store_answer sqlite_append(struct store *store, uint64_t seq, const 
 	struct sqlite *it = (struct sqlite *)store;
 	enum store_answer answer = STORE_REFUSED;
 
-	if (has_bound_number(it->append, 1, seq) && has_bound_octets(it->append, 2, lines, len) && sqlite3_step(it->append) == SQLITE_DONE)
+	if (is_outside(it) && has_bound_number(it->append, 1, seq) && has_bound_octets(it->append, 2, lines, len) &&
+	    sqlite3_step(it->append) == SQLITE_DONE)
 		answer = sqlite3_changes(it->db) ? STORE_DURABLE : STORE_TAKEN;
 	else
 		refused(it, "a row");
@@ -108,17 +115,26 @@ static enum store_answer give_rows(struct sqlite *it, uint64_t after, const stru
 	return code == SQLITE_DONE ? STORE_DURABLE : refused(it, "rows");
 }
 
+static enum store_answer sqlite_rows(struct store *store, uint64_t after, const struct store_reader *reader)
+{
+	struct sqlite *it = (struct sqlite *)store;
+	enum store_answer answer = is_outside(it) ? give_rows(it, after, reader) : refused(it, "rows");
+
+	sqlite3_reset(it->rows);
+	return answer;
+}
+
 static enum store_answer sqlite_read(struct store *store, uint64_t most, const struct store_reader *reader)
 {
 	struct sqlite *it = (struct sqlite *)store;
 	uint64_t seq = 0;
-	enum store_answer answer = is_done(it, "BEGIN") ? give_image(it, most, reader, &seq) : refused(it, "a read");
+	enum store_answer answer = is_outside(it) && is_done(it, "BEGIN") ? give_image(it, most, reader, &seq) : refused(it, "a read");
 
 	if (!answer)
 		answer = give_rows(it, seq, reader);
 	sqlite3_reset(it->image);
 	sqlite3_reset(it->rows);
-	is_done(it, "ROLLBACK");
+	is_outside(it);
 	return answer;
 }
 
@@ -137,15 +153,14 @@ static enum store_answer sqlite_put_image(struct store *store, const struct stor
 	struct sqlite *it = (struct sqlite *)store;
 	enum store_answer answer = STORE_REFUSED;
 
-	if (is_done(it, "BEGIN IMMEDIATE") && has_bound_number(it->put, 1, image->seq) &&
+	if (is_outside(it) && is_done(it, "BEGIN IMMEDIATE") && has_bound_number(it->put, 1, image->seq) &&
 	    has_bound_octets(it->put, 2, image->records, image->records_len) && has_bound_octets(it->put, 3, image->image, image->image_len) &&
 	    has_bound_number(it->put, 4, from) && sqlite3_step(it->put) == SQLITE_DONE)
 		answer = !sqlite3_changes(it->db) ? STORE_TAKEN : is_tidied(it, from) ? STORE_DURABLE : STORE_REFUSED;
 	if (answer == STORE_REFUSED)
 		refused(it, "an image");
 	sqlite3_reset(it->put);
-	if (answer)
-		is_done(it, "ROLLBACK");
+	is_outside(it);
 	return answer;
 }
 
@@ -203,18 +218,12 @@ static bool has_tables(struct sqlite *it)
 static bool has_versions(struct sqlite *it, const char *path)
 {
 	int64_t head[3] = { 0 };
+	bool is_store = has_numbers(it, "SELECT lines, image, start FROM kunchrol", head, 3);
 
-	if (!has_numbers(it, "SELECT lines, image, start FROM kunchrol", head, 3)) {
+	if (!is_store)
 		refused(it, path);
-		fprintf(stderr, "store: %s is not a store of a register\n", path);
-		return false;
-	}
 	it->store.start = (uint32_t)head[2];
-	if (head[0] == STORE_LINES_VERSION && head[1] == STORE_IMAGE_VERSION)
-		return true;
-	fprintf(stderr, "store: %s has lines of version %lld and images of version %lld; versions %d and %d are read here\n", path,
-		(long long)head[0], (long long)head[1], STORE_LINES_VERSION, STORE_IMAGE_VERSION);
-	return false;
+	return store_has_versions(path, is_store ? head : NULL);
 }
 
 struct store *sqlite_open(const char *path, bool may_make)
@@ -223,7 +232,7 @@ struct store *sqlite_open(const char *path, bool may_make)
 
 	if (!it)
 		return NULL;
-	it->store = (struct store){ 0, sqlite_append, sqlite_read, sqlite_put_image, sqlite_close };
+	it->store = (struct store){ 0, sqlite_append, sqlite_rows, sqlite_read, sqlite_put_image, sqlite_close };
 	if (sqlite3_open_v2(path, &it->db, SQLITE_OPEN_READWRITE | (may_make ? SQLITE_OPEN_CREATE : 0), NULL) ||
 	    sqlite3_busy_timeout(it->db, BUSY_MILLISECONDS) || (may_make && !has_tables(it)))
 		refused(it, path);

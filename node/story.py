@@ -1,19 +1,23 @@
 # SPDX-License-Identifier: Apache-2.0
 """What the trials of `run` are made of: events, the two programs, and what a store was given and what came out of it."""
 
+import os
 import random
 import re
 import shutil
-import sqlite3
 import subprocess
+import sys
 from pathlib import Path
 
 TOP = Path(__file__).resolve().parent.parent
-PROGRAMS = {"line_node": ("line_node", "durable", "store", "store_sqlite"), "kunchrol-compact": ("compact", "durable", "store", "store_sqlite")}
+KIT = Path(os.path.realpath(shutil.which("rt") or sys.exit("there is no rt"))).parent.parent
+CLANG = [str(KIT / "toolchain/bin/clang"), "-fuse-ld=lld", "-isystem", str(TOP / "integrations/c/headers")]
+# The programs, with the file in which each begins.
+PROGRAMS = {"line_node": "line_node", "kunchrol-compact": "compact"}
 # How many events a group has at most, and how long a program may take.
 GROUP, SECONDS = 12, 60
 # How the programs end: status.h.
-WELL, WORDS, STORE, TAKEN, REFUSED, NONE, STOPPED = 0, 2, 3, 4, 5, 6, 7
+WELL, WORDS, STORE, TAKEN, REFUSED, NONE, STOPPED, PIPE = 0, 2, 3, 4, 5, 6, 7, 8
 
 
 class Wrong(Exception):
@@ -70,6 +74,12 @@ class Peers:
         ends = [b"\x64\x0d\x49\x04" + local + result, b"\x64\x06\x49\x04" + local]
         return self.random.choice([b"\x65\x13\x48\x04" + remote + b"\x49\x04" + local + result] * 2 + ends)
 
+    def noted(self, line):
+        """An event, and before it a note if it names a peer's id."""
+        octets = bytes.fromhex(line.split()[2]) if line[0] == "F" else b" "
+        words = f"{self.random.randrange(3)} 187 7 4 0 1 4 {ASKING}"
+        return [f"# note {ASKING} {octets[4:8].hex().upper()} {words}", line] if octets[0] in (0x62, 0x65) else [line]
+
     def event(self):
         kind, imsi = self.random.randrange(20), f"2341500000000{self.random.randint(1, 20):02}"
         if kind < 13:
@@ -83,7 +93,7 @@ class Peers:
         return f"O {imsi} {self.random.choice(['11,21', '-', NINE_CODES])}" if self.random.randrange(100) else f"X {imsi}"
 
     def group(self):
-        return [self.event() for _ in range(self.random.randint(1, GROUP))]
+        return [line for _ in range(self.random.randint(1, GROUP)) for line in self.noted(self.event())]
 
 
 # ---- programs
@@ -96,18 +106,31 @@ class Programs:
         self.line_node, self.compact = ([*before, f"{folder}/{name}"] for name in PROGRAMS)
 
     def compacted(self, store, **how):
-        return subprocess.run([*self.compact, f"sqlite:{store}"], capture_output=True, text=True, timeout=SECONDS, **how)
+        return subprocess.run([*self.compact, store.where], capture_output=True, text=True, timeout=SECONDS, **how)
 
     def ran(self, words, text="", **how):
         return subprocess.run([*self.line_node, *map(str, words)], input=text, capture_output=True, text=True, timeout=SECONDS, **how)
+
+    def listed(self, store):
+        """The records and dialogues of a store."""
+        done = self.ran(["--list", store.where])
+        check(done.returncode == WELL and not done.stderr, f"the list of {store.where}: {done}")
+        return done.stdout
 
 
 class Node:
     """A process line_node."""
 
-    def __init__(self, programs, store, **how):
+    def __init__(self, programs, store, *words, **how):
         pipes = {"stdin": subprocess.PIPE, "stdout": subprocess.PIPE, "stderr": subprocess.PIPE}
-        self.process = subprocess.Popen([*programs.line_node, f"sqlite:{store}"], text=True, **pipes, **how)
+        self.process = subprocess.Popen([*programs.line_node, *words, store.where], text=True, **pipes, **how)
+
+    def leads(self):
+        """The number of the row with which it leads, or None if the process ended before that."""
+        line = self.process.stdout.readline()
+        while line.startswith("follows "):
+            line = self.process.stdout.readline()
+        return int(line.split()[1]) if line.endswith("\n") else None
 
     def give(self, lines):
         try:
@@ -142,6 +165,14 @@ class Node:
         return self.process.wait(SECONDS), said
 
 
+# ---- stories
+
+
+def events_of(row):
+    """The events of a row's text, without its first line."""
+    return row.decode().splitlines()[1:]
+
+
 def is_within(few, lines):
     """Whether these lines are among those, in their order: a row has no line of a group that was no event."""
     rest = iter(lines)
@@ -151,20 +182,21 @@ def is_within(few, lines):
 class Story:
     """A store, what it was given, and what came out, to be compared with a run that never died."""
 
-    def __init__(self, programs, folder, seed):
-        self.programs, self.folder, self.peers = programs, Path(folder), Peers(seed)
-        self.store, self.first = Path(folder, "store"), Path(folder, "first")
-        self.folder.mkdir()
-        Path(folder, "records").write_text(RECORDS)
-        begun = programs.ran([f"sqlite:{self.store}", f"{folder}/records"])
-        check((begun.returncode, begun.stdout, begun.stderr) == (WELL, "W 0\n", ""), f"begun: {begun}")
-        shutil.copy(self.store, self.first)
-        # The lines of each row, what was seen of its frames, and whether all was. Groups of which one may be the next row, with what was seen:
-        # a row that was on its way when its process was killed may be found by a later start and not by the next one.
-        self.rows, self.sent, self.doubts = [], [], []
+    def __init__(self, programs, place, seed):
+        self.programs, self.place, self.folder, self.peers = programs, place, place.folder, Peers(seed)
+        self.store = place.store("store")
+        self.records = place.folder / "records"
+        self.records.write_text(RECORDS)
+        begun = programs.ran([self.store.where, self.records])
+        check((begun.returncode, begun.stdout, begun.stderr) == (WELL, "leads 1\nW 1\n", ""), f"begun: {begun}")
+        self.store.keep_rows()
+        self.first = self.store.copied("first")
+        # The lines of each row, what was seen of its frames, and whether all was; a process leads by a row without lines. Groups of which nobody
+        # knows whether they are rows, with what was seen of their frames.
+        self.rows, self.sent, self.doubts = [[]], [([], True)], []
 
-    def node(self, **how):
-        return Node(self.programs, self.store, **how)
+    def node(self, *words, **how):
+        return Node(self.programs, self.store, *words, **how)
 
     def confirm(self, lines, frames, number, is_whole=True):
         """Notes what came out of a group."""
@@ -173,27 +205,38 @@ class Story:
         if number > len(self.rows):
             self.rows.append(lines)
             self.sent.append((frames, is_whole))
-            self.doubts = []
         for frame in frames:
             self.peers.note(frame)
 
-    def settle(self, node):
-        """Asks a process that was just started for its last row, so that it is known of each group whether it is one; false if it died."""
-        frames, number = node.commit([])
-        if number is None:
-            return False
-        check(not frames, "frames came out of no group")
-        seen = [frames for _, frames in self.doubts if frames]
-        if number == len(self.rows) + 1:
-            rows = asked(self.store, f"SELECT lines FROM log WHERE seq = {number}")
-            row = rows[0][0].decode().splitlines()[1:] if rows else ["no row"]
-            found = [it for it in self.doubts if is_within(row, it[0])]
-            check(found and seen in ([], [found[-1][1]]), f"row {number} is none of {self.doubts}")
-            self.confirm(row, found[-1][1], number, False)
-            seen = []
-        check(number == len(self.rows), f"row {number} after {len(self.rows)}")
-        check(not seen, f"frames of a group that is not in the store: {seen}")
-        return True
+    def find(self, lines):
+        """The group in doubt of which these are the lines in the store."""
+        found = next((it for it in self.doubts if is_within(lines, it[0])), None)
+        check(found, f"a row that nobody gave: {lines}, in doubt {self.doubts}")
+        self.doubts.remove(found)
+        return found
+
+    def settle(self, number):
+        """Notes that a process leads since this row: all rows up to it are known now, and no other group comes later."""
+        texts = self.store.row_texts(len(self.rows))
+        for at in range(len(self.rows) + 1, number + 1):
+            check(at in texts, f"row {at} is missing, and row {number} leads")
+            lines = events_of(texts[at])
+            given, frames = self.find(lines) if lines else ([], [])
+            self.confirm(given, frames, at, not lines)
+        check(not any(frames for _, frames in self.doubts), f"frames of a group that is not in the store: {self.doubts}")
+        self.doubts = []
+
+    def begin(self, node):
+        """Whether a process that was just started leads."""
+        number = node.leads()
+        if number is not None:
+            self.settle(number)
+        return number is not None
+
+    def started(self, **how):
+        node = self.node(**how)
+        check(self.begin(node), f"not started: {node.end() if node.process.poll() else ''}")
+        return node
 
     def commit(self, node, lines):
         frames, number = node.commit(lines)
@@ -208,43 +251,27 @@ class Story:
         done = self.programs.compacted(self.store, **how)
         check(done.returncode == WELL and not done.stderr, f"compact: {done}")
 
-    def listed(self, store, rows=()):
-        text = "".join(f"{line}\n" for lines in rows for line in [*lines, "W"])
-        done = self.programs.ran(["--list", f"sqlite:{store}"], text)
-        check(done.returncode == WELL and not done.stderr, f"the list of {store.name}: {done}")
-        check(self.programs.compacted(store).returncode == WELL, "the image at the end")
-        return done.stdout
-
     def compare(self):
         """Compares all with one run that never died."""
-        whole, frames, came = self.listed(self.first, self.rows), [], []
-        for line in whole.splitlines(keepends=True):
+        texts = self.store.row_texts()
+        check(list(texts) == list(range(1, len(self.rows) + 1)), f"rows {list(texts)[-3:]} in the store, {len(self.rows)} are known")
+        check(all(is_within(events_of(texts[at]), lines) for at, lines in enumerate(self.rows, 1)), "rows with other lines than were given")
+        played = self.programs.ran([self.first.where], "".join(f"{line}\n" for lines in self.rows for line in [*lines, "W"]))
+        check(played.returncode == WELL and not played.stderr, f"the run that never died: {played.returncode} {played.stderr}")
+        frames, came = [], []
+        for line in played.stdout.splitlines(keepends=True)[1:]:
             if line[0] == "W":
                 came.append(frames)
                 frames = []
-            elif line[0] == "S":
+            else:
                 frames.append(line)
+        check(len(came) == len(self.rows) + 1, f"the run that never died: {played.stdout[-300:]}")
         for row, ((seen, is_whole), wanted) in enumerate(zip(self.sent, came), 1):
             check(seen == (wanted if is_whole else wanted[: len(seen)]), f"row {row}: other frames than in a run that never died")
-        check("\nD " in whole and len(came) == len(self.rows) + 1, f"the run that never died: {whole[-300:]}")
-        check(self.listed(self.store) == whole[whole.rindex("W ") :], "other records or dialogues than in a run that never died")
-        check(image_of(self.store) == image_of(self.first), "another image than in a run that never died")
-
-
-def asked(store, sql):
-    """The rows that a database answers with; it is closed after that."""
-    database = sqlite3.connect(store)
-    found = database.execute(sql).fetchall()
-    database.close()
-    return found
-
-
-def change(store, sql):
-    """Runs statements in a database."""
-    database = sqlite3.connect(store)
-    database.executescript(sql)
-    database.close()
-
-
-def image_of(store):
-    return asked(store, "SELECT * FROM image ORDER BY seq DESC LIMIT 1")
+        whole, own = self.programs.listed(self.first), self.programs.listed(self.store)
+        check("\nD " in whole and own == whole, "other records, dialogues or notes than in a run that never died")
+        noted = any(line[0] == "#" for lines in self.rows for line in lines)
+        check(not noted or "\n# note " in whole, "no note of an open dialogue")
+        for store in (self.first, self.store):
+            check(self.programs.compacted(store).returncode == WELL, "the image at the end")
+        check(self.store.image() == self.first.image(), "another image than in a run that never died")
