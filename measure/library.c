@@ -1,19 +1,21 @@
 /*
  * What calls of the library take: library KIND RECORDS COUNT prints a line of numbers, of which measure/library makes tables: octets of the
- * records, the images and the log, and then seconds of the processor, of ticks and frames the least of three runs. No journals are kept.
+ * records, the images and the log, and then seconds of the processor, of ticks the least of three runs. No journals are kept.
  *
  *   texts   to open, to save, to write the sixteen images, and to restore, COUNT updates being open
  *   ticks   COUNT updates being open: ten ticks when no timer is due; the one when all are; to take the frames that this one sends
- *   frames  COUNT routes; COUNT updates: Begin, result of the insert, result of the cancel
+ *   frames  COUNT routes; COUNT updates: Begin, result of the insert, result of the cancel. All frames are made before, and given in four ways, for
+ *           each of which both are printed: what they send is copied by kunchrol_next; is looked up by a kunchrol_next that has no space to copy
+ *           to, and dropped; is dropped unseen; and the same in Rattle, by the loop of library_loop.rs, if the archive has it, otherwise 0
  *   log     to replay COUNT lines in pieces of 64 KiB, after each of which the frames that they send are dropped
  */
 #include "../include/kunchrol.h"
 #include "../integrations/c/events.h"
 
-enum { MAX_TEXT = 67108864, MAX_IMAGE = 8388608, MAX_LOG = 134217728, PIECE = 65536 };
+enum { MAX_TEXT = 67108864, MAX_IMAGE = 8388608, MAX_LOG = 134217728, MAX_FRAMES = 16777216, PIECE = 65536 };
 
 /* The parts of a run that are printed, and what is done between them. */
-enum { PARTS = 4, BETWEEN = PARTS };
+enum { PARTS = 8, BETWEEN = PARTS };
 
 /* Subscribers are numbered from FIRST on, in the last digits of IMSI and MSISDN; the next one that is named is STRIDE further. */
 enum { FIRST = 10000000, STRIDE = 7919 };
@@ -29,10 +31,15 @@ enum { IMSI_AT = 54, IMSI_DIGIT = 7, MSISDN_AT = 55, MSISDN_DIGIT = 4, VLR_AT = 
 
 _Noreturn void exit(int status);
 
+/* The loop of library_loop.rs: each frame, after an octet that is its length, is given, and the octets that it sends are added. */
+__attribute__((weak)) uint32_t measured_frames(struct kunchrol *hlr, const uint8_t *from, size_t from_len, const uint8_t *frames, size_t frames_len,
+					       uint64_t *sent);
+
 static struct kunchrol hlr = KUNCHROL_CLOSED_HANDLE, restored = KUNCHROL_CLOSED_HANDLE;
-static uint8_t records[MAX_TEXT], image[MAX_IMAGE], log_text[MAX_LOG];
-static size_t registered, count, records_len, image_len, log_len, sent;
-static int is_logged;
+static uint8_t records[MAX_TEXT], image[MAX_IMAGE], log_text[MAX_LOG], frames[MAX_FRAMES];
+static size_t registered, count, records_len, image_len, log_len, frames_len, sent;
+static uint64_t octets_sent;
+static int is_logged, is_noted;
 static uint64_t fault;
 static double begun, least[PARTS + 1];
 
@@ -95,9 +102,18 @@ static void take_all(void)
 	size_t to_len, len;
 	uint32_t code;
 
-	for (; !(code = kunchrol_next(&hlr, to, sizeof(to), &to_len, octets, sizeof(octets), &len)); sent++)
+	for (; !(code = kunchrol_next(&hlr, to, sizeof(to), &to_len, octets, sizeof(octets), &len)); sent++, octets_sent += len)
 		note_ids(octets);
 	expect(code == KUNCHROL_NONE, kunchrol_name(code));
+}
+
+/* Notes a frame, after an octet that is its length. */
+static void note_frame(const uint8_t *frame, size_t len)
+{
+	expect(len < 256 && frames_len + len < MAX_FRAMES, "too many frames");
+	frames[frames_len] = (uint8_t)len;
+	memcpy(frames + frames_len + 1, frame, len);
+	frames_len += 1 + len;
 }
 
 /* Gives the line that was made, and adds it to the log. */
@@ -118,6 +134,8 @@ static void give(const uint8_t *frame, size_t len)
 		give_line(put_frame(frame, len));
 		return;
 	}
+	if (is_noted)
+		note_frame(frame, len);
 	must(kunchrol_frame(&hlr, (const uint8_t *)ASKING, strlen(ASKING), frame, len));
 	take_all();
 }
@@ -234,16 +252,80 @@ static void time_ticks(void)
 	expect(dialogues(&hlr) == 0, "a timer does not expire");
 }
 
+/* The ways in which what a frame sends is taken. */
+
+static void take_copies(void)
+{
+	uint8_t to[KUNCHROL_MAX_DIGITS], octets[KUNCHROL_MAX_OCTETS];
+	size_t to_len, len;
+	uint32_t code;
+
+	while (!(code = kunchrol_next(&hlr, to, sizeof(to), &to_len, octets, sizeof(octets), &len)))
+		octets_sent += len;
+	expect(code == KUNCHROL_NONE, kunchrol_name(code));
+}
+
+static void drop_unseen(void)
+{
+	must(kunchrol_drop_frames(&hlr));
+}
+
+/* Of two frames that wait the first alone is looked up. */
+static void look_up_and_drop(void)
+{
+	uint8_t to, octet;
+	size_t to_len, len;
+	uint32_t code = kunchrol_next(&hlr, &to, 0, &to_len, &octet, 0, &len);
+
+	expect(code == KUNCHROL_SMALL || code == KUNCHROL_NONE, kunchrol_name(code));
+	drop_unseen();
+}
+
+/* Gives the frames that were noted from here to there. */
+static void give_again(const uint8_t *from, const uint8_t *to, void (*take)(void))
+{
+	if (!take)
+		must(measured_frames(&hlr, (const uint8_t *)ASKING, strlen(ASKING), from, (size_t)(to - from), &octets_sent));
+	for (; take && from < to; from += 1 + *from) {
+		must(kunchrol_frame(&hlr, (const uint8_t *)ASKING, strlen(ASKING), from + 1, *from));
+		take();
+	}
+}
+
+/* Makes the frames of the routes, and then those of the updates; where these begin. */
+static const uint8_t *make_frames(void)
+{
+	const uint8_t *updates;
+
+	frames_len = sent = octets_sent = 0;
+	is_noted = 1;
+	open_register();
+	each(route);
+	updates = frames + frames_len;
+	each(update);
+	is_noted = 0;
+	expect(sent == 4 * count && dialogues(&hlr) == 0, "a frame is not answered");
+	return updates;
+}
+
 static void time_frames(void)
 {
-	open_register();
-	sent = 0;
-	lap(BETWEEN);
-	each(route);
-	lap(0);
-	each(update);
-	lap(1);
-	expect(sent == 4 * count && dialogues(&hlr) == 0, "a frame is not answered");
+	static void (*const ways[])(void) = { take_copies, look_up_and_drop, drop_unseen, NULL };
+	const uint8_t *updates = make_frames(), *end = frames + frames_len;
+	uint64_t wanted = octets_sent;
+
+	for (size_t way = 0; way < sizeof(ways) / sizeof(ways[0]) && (ways[way] || measured_frames); way++) {
+		kunchrol_close(&hlr);
+		open_register();
+		octets_sent = 0;
+		lap(BETWEEN);
+		give_again(frames, updates, ways[way]);
+		lap(2 * way);
+		give_again(updates, end, ways[way]);
+		lap(2 * way + 1);
+		expect(dialogues(&hlr) == 0, "an update is not completed");
+		expect(octets_sent == (ways[way] == look_up_and_drop || ways[way] == drop_unseen ? 0 : wanted), "other octets are sent");
+	}
 }
 
 static void time_log(void)
@@ -272,7 +354,7 @@ int main(int argc, char **argv)
 		const char *word;
 		void (*run)(void);
 		size_t runs;
-	} kinds[] = { { "texts", time_texts, 1 }, { "ticks", time_ticks, 3 }, { "frames", time_frames, 3 }, { "log", time_log, 1 } };
+	} kinds[] = { { "texts", time_texts, 1 }, { "ticks", time_ticks, 3 }, { "frames", time_frames, 1 }, { "log", time_log, 1 } };
 
 	expect(argc == 4, "KIND RECORDS COUNT");
 	registered = strtoull(argv[2], NULL, 10);
@@ -281,6 +363,9 @@ int main(int argc, char **argv)
 	for (size_t kind = 0; kind < sizeof(kinds) / sizeof(kinds[0]); kind++)
 		for (size_t run = 0; run < kinds[kind].runs && !strcmp(argv[1], kinds[kind].word); run++, kunchrol_close(&hlr))
 			kinds[kind].run();
-	printf("%zu %zu %zu %.9f %.9f %.9f %.9f\n", records_len, image_len, log_len, least[0], least[1], least[2], least[3]);
+	printf("%zu %zu %zu", records_len, image_len, log_len);
+	for (size_t part = 0; part < PARTS; part++)
+		printf(" %.9f", least[part]);
+	printf("\n");
 	return 0;
 }
