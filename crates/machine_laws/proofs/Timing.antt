@@ -17,7 +17,7 @@ not_later t t' r h = by (cases_lt t' t)
     by (inr other) = other
 
 -- a dialogue that has one invocation has no other
-only_one : (d e : Dialogue) (v w : Invocation) (j : ℤ) → d ≡ e → d.invocations ≡ v ∷ [] → invocation_of j e.invocations ≡ Some w
+pub only_one : (d e : Dialogue) (v w : Invocation) (j : ℤ) → d ≡ e → d.invocations ≡ v ∷ [] → invocation_of j e.invocations ≡ Some w
     → (v ≡ w) × (v.id ≡ j)
 only_one d e v w j q has stands = by (int_eq v.id j) refl (ap (λ vs. invocation_of j vs) (sym has ∙ ap (λ (f : Dialogue). f.invocations) q) ∙ stands)
   where

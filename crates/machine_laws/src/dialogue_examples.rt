@@ -5,9 +5,10 @@ ghost use Rattle.std.specs.Prelude.{◌≡◌, ◌^◌, ℕ, ℤ, pos, negsuc, L
 ghost use Rattle.std.specs.Ordering.{is_gt};
 ghost use Rattle.machine.specs.Received.{Abort, Bad, Begin, Component, Continue, Discard, End, General, Ignored, Invoke, Number, OfError, OfInvoke, OfResult, Read, Refuse, Reject, ResultNotLast, ReturnError, Side, Typed, Update};
 ghost use Rattle.machine.specs.Sent.{Cancel, Cause, Insert, LocationCancellation, MsPurging, NetworkLocUp, NoCause, Refusing, Rejection, RouteResult, SentAbort, SentBegin, SentContinue, SentEnd, SentError, ShortMsgGateway, UpdateProcedure, UpdateResult, Why};
-ghost use Rattle.machine.specs.State.{IsIdOf, OperationSent, State, Transaction, Updates, WaitForReject};
+ghost use Rattle.machine.specs.Holders.{IsNamed};
+ghost use Rattle.machine.specs.State.{Dialogue, Invocation, IsIdOf, OperationSent, State, Transaction, Updates, WaitForReject};
 ghost use Rattle.machine.specs.Events.{Codes, Expire, Frame, Withdraw};
-ghost use Rattle.machine.specs.Turns.{Dismissed, TurnsTo, triple_cmp, turn_of_verdict};
+ghost use Rattle.machine.specs.Turns.{Dismissed, IsDue, TurnsTo, triple_cmp, turn_of_verdict};
 ghost use Rattle.machine.specs.declared.numbers.TheConstants.{MAX_DIALOGUES, MAX_ENTRIES, SHARDS};
 ghost use Rattle.machine.specs.Contexts.{name_of};
 ghost use Rattle.machine.specs.Transactions.{CloseComes, ContinueComes, ForIt, IsSent, Nothing, OwnClose, OwnEnd, Unassigned, row, transact};
@@ -270,6 +271,24 @@ pub fn earlier_of_two_timers()
         let both = waits other.state 1 30 in
         let takes = λ (id : List ℕ). TurnsTo both (Expire 1) (expiry_at id (both.dialogues id) (pos 1)) in
         takes id_b × (takes id_a → ⊥) }
+{}
+
+/// A timer is due when the clock has come to its deadline, and not before.
+pub fn due_at_the_deadline()
+    ensures { let begun = receives start vlr_b
+        (begin_in NetworkLocUp (update_of first_imsi at_b ∷ [])) id_b in
+        let is_due = λ (now : ℕ) (d : Dialogue) (v : Invocation). IsDue (waits begun.state 1 now) 1 id_b d (pos 1) v in
+        ((d : Dialogue) × (v : Invocation) × is_due 20 d v)
+        × ((d : Dialogue) (v : Invocation) → is_due 19 d v → ⊥) }
+{}
+
+/// Of two dialogues with a timer that is due, an expiry names that of the earlier one.
+pub fn named_by_an_expiry()
+    ensures { let first = receives start vlr_b
+        (begin_in NetworkLocUp (update_of first_imsi at_b ∷ [])) id_b in
+        let other = receives (waits first.state 1 10) vlr_b (begin_in NetworkLocUp (update_of fifth_imsi at_b ∷ [])) id_a in
+        let both = waits other.state 1 30 in
+        IsNamed both (Expire 1) id_b × (IsNamed both (Expire 1) id_a → ⊥) }
 {}
 
 /// A message for an id of four octets goes to the shard of its first octet, if there is such a shard, and otherwise to shard 0.

@@ -80,6 +80,15 @@ pub fn purge()
         × ((asks (purge_of hlr (Some vlr_a))).answer.sent ≡ answer (SentError (pos 1) 1)) }
 {}
 
+/// A purge by a VLR whose number begins that of the serving one changes nothing.
+pub fn purge_by_a_prefix()
+    ensures { let asked = receives start vlr_a
+        (begin_in MsPurging (purge_of first_imsi (Some (4 ∷ 4 ∷ [])) ∷ [])) id_a in
+        (asked.answer.sent ≡ one vlr_a
+        (SentEnd theirs (Some MsPurging) [] (PurgeResult (pos 1) false ∷ [])))
+        × (asked.state.records first_imsi ≡ Some first_record) }
+{}
+
 /// Without a VLR number dataMissing comes first, even for an unknown subscriber. If no register serves, there is no freezeTMSI. A
 /// register that is already purged is answered freezeTMSI again. A purge during an update does not affect the update. A
 /// withdrawal clears the purged flag.
@@ -208,6 +217,15 @@ pub fn withdrawn()
         × ((expires_at (waits gone.state 1 20) id_a (pos 1) id_b).answer.sent
         ≡ one vlr_a (SentBegin id_b LocationCancellation
         (Cancel (pos 1) first_imsi SubscriptionWithdraw ∷ []))) }
+{}
+
+/// A register that has purged the subscriber gets the cancel of a withdrawal too.
+pub fn withdrawn_when_purged()
+    ensures { let purged = receives start vlr_a
+        (begin_in MsPurging (purge_of first_imsi (Some vlr_a) ∷ [])) id_a in
+        (is_changed purged.state first_imsi Withdraw id_a).answer.sent
+        ≡ one vlr_a (SentBegin id_a LocationCancellation
+        (Cancel (pos 1) first_imsi SubscriptionWithdraw ∷ [])) }
 {}
 
 /// An update in progress when the subscription is withdrawn ends with systemFailure.

@@ -4,6 +4,7 @@
 
 pub mod dialogue_examples;
 pub mod examples;
+pub mod journal_examples;
 pub mod state_examples;
 pub mod update_examples;
 

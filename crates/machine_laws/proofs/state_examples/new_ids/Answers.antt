@@ -1,0 +1,23 @@
+use Rattle.std.proofs.Common.{arith, refl}
+use Rattle.machine.specs.Keys.{put, put_at, shard_of, shard_of_id}
+use Rattle.machine.specs.State.{local_of, local_of_nobody}
+use Rattle.machine.specs.Effect.{effect, conclusion_of}
+use Rattle.machine.specs.Contexts.{accepted, context_of, refused_name}
+use Rattle.machine.specs.Opening.{opening}
+use Rattle.machine_laws.proofs.state_examples.new_ids.Goals as goal
+
+pub returns : goal.returns
+unfolding put put_at local_of local_of_nobody effect conclusion_of accepted context_of refused_name shard_of shard_of_id opening
+returns c = (
+  record {
+    of_shard = record {
+      four = refl;
+      octets = (omega arith, (omega arith, (omega arith, (omega arith, tt))));
+      shard = refl;
+      not_zero = λ
+          (p, q, r). cc q;
+    };
+    is_new = refl;
+  },
+  λ new. cc new.is_new,
+)
