@@ -191,7 +191,10 @@ class Check:
             self.fault = f"the check did not end (status {status}): {first}"
 
     def is_proved(self, function):
-        return not self.fault and f"fn {self.crate}::{function}: proved" in self.lines
+        # (a method's name leaves out the modules that its path begins with)
+        told = re.compile(rf"fn {self.crate}::(?:\S+::)?{re.escape(function)}: (.*)")
+        verdicts = {found[1] for it in self.lines if (found := told.fullmatch(it))}
+        return not self.fault and verdicts == {"proved"}
 
     def refusal(self, function, by_lemmas=False):
         """Whether a goal of the function's own, or of a closure in it, stays open, and what tells so or otherwise. `by_lemmas`:
