@@ -33,8 +33,8 @@ const MAX_WORKERS: u8 = 16;
 /// Reads the records and the script, runs the script and prints what is sent, batch by batch. A fault is one line on `err`.
 /// Returns the program's exit status: 0 if all was run and printed.
 ///
-/// With 1 to 16 workers that many threads handle each part of a batch, the caller's among them, but no more than the part has events; those
-/// that are started for it are joined.
+/// With 1 to 16 workers that many threads handle each part of a batch, the caller's among them, but no more than one for 32 of its events;
+/// those that are started for it are joined.
 ///
 /// Limitation: with workers the contract does not say in which order the events of a batch are handled, what was handled before a
 /// fault, or that a run ends. After a run that ends well the memory of the shards and of their journals is not freed, since a run is

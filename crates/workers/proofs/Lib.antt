@@ -16,3 +16,4 @@ pub mod Offices
 pub mod Orders
 pub mod Standing
 pub mod Stops
+pub mod Alone

@@ -15,7 +15,7 @@ use crate::lot::{Lot, crew_size, lot_size, messages};
 use crate::office::Office;
 use crate::receipt::Receipt;
 use crate::rule::{Hires, Receiver, Seat, Sender, Sends, Totals, Work};
-use crate::worker::{Served, serve};
+use crate::worker::{Served, serve, serve_alone};
 use crossbeam_channel::bounded_with;
 use std::alloc::{AllocError, Global};
 use std::sync::Wait;
@@ -215,8 +215,9 @@ pub fn numbers_rise(jobs: &[Job]) -> bool
 }
 
 /// Has 1 to 16 workers handle the jobs, but no more than there are jobs. One of them is the caller's thread, and a thread is started for
-/// each other. There is one receipt for each job, by ascending number. If a worker could not be started, or there is no memory for the channel
-/// or the receipts, it returns an error after all started workers have stopped: some jobs may then have been handled without a receipt.
+/// each other; one worker alone takes the jobs in their order, with no channel. There is one receipt for each job, by ascending number. If a
+/// worker could not be started, or there is no memory for the channel or the receipts, it returns an error after all started workers have
+/// stopped: some jobs may then have been handled without a receipt.
 ///
 /// Limitation: no contract says which worker takes a job, in which order the jobs of a batch reach their shard, or that the call
 /// returns. That a receipt has its entry is known only from `reconcile`.
@@ -235,6 +236,27 @@ pub fn run_batch<R: Threads + Wait + Sync, G: Gate + Sync>(
     ensures rising { IfOk result (λ rs. IsStrictlyIncreasing (map (λ r. r.job) rs.items)) }
 {
     let workers = crew_size(jobs.len(), workers);
+    let mut receipts = share(rt, alloc, office, jobs, gate, workers)?;
+    receipts.sort_by_key(|r| r.job)?;
+    Ok(receipts)
+}
+
+/// The receipts of all jobs, in any order.
+fn share<R: Threads + Wait + Sync, G: Gate + Sync>(
+    rt: &R,
+    alloc: Global,
+    office: &Office,
+    jobs: &[Job],
+    gate: &G,
+    workers: usize,
+) -> Result<Vec<Receipt>, AllocError>
+    requires workers { (1 ≤ workers) × (workers ≤ 16) }
+    ensures one_each { IfOk result (λ rs. IsPermutation (map (λ j. j.number) jobs.now)
+        (map (λ r. r.job) rs.items)) }
+{
+    if workers == 1 {
+        return serve_alone(rt, alloc, office, jobs, gate);
+    }
     let (to, from, seat) = bounded_with(alloc, messages(jobs.len(), workers))?;
     let (sender, receiver) = (&to, &from);
     let (mut seat, gathered) = thread::scope(
@@ -266,8 +288,7 @@ pub fn run_batch<R: Threads + Wait + Sync, G: Gate + Sync>(
             )
         },
     );
-    let mut receipts = gathered?;
+    let receipts = gathered?;
     to.learn_as::<Totals>(&mut seat);
-    receipts.sort_by_key(|r| r.job)?;
     Ok(receipts)
 }

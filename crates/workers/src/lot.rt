@@ -1,6 +1,6 @@
 //! Jobs that are handed over together.
 
-ghost use Rattle.std.specs.Prelude.{◌≡◌, ◌+◌, ◌*◌, ◌<◌, ◌≤◌, max, min};
+ghost use Rattle.std.specs.Prelude.{◌≡◌, ◌+◌, ◌*◌, ◌/◌, ◌<◌, ◌≤◌, max, min};
 ghost use Rattle.workers.specs.Lots.{lot_size};
 
 use crate::job::Job;
@@ -10,6 +10,9 @@ const MAX_LOT: usize = 64;
 
 /// How many lots each worker has at least, if there are jobs enough: so none waits long for another that has the last one.
 const LOTS_EACH: usize = 16;
+
+/// A thread is started for so many jobs at least, which take as long as to start it.
+const JOBS_OF_A_START: usize = 32;
 
 /// Which jobs of a batch one worker handles, one after another: `count` jobs, the first of them at the place `from`. The jobs stay
 /// in the batch, and nothing of them is copied.
@@ -39,6 +42,15 @@ pub(crate) fn crew_size(jobs: usize, workers: usize) -> usize
     ensures few { (1 ≤ result) × (result ≤ workers) }
 {
     workers.min(jobs).max(1)
+}
+
+/// How many of these workers are worth their threads, but at least one.
+pub(crate) fn paying_crew(jobs: usize, workers: usize) -> usize
+    requires { 1 ≤ workers }
+    ensures size { result ≡ max (min workers (jobs / 32)) 1 }
+    ensures few { (1 ≤ result) × (result ≤ workers) }
+{
+    crew_size(jobs / JOBS_OF_A_START, workers)
 }
 
 /// How many jobs a lot of a batch has, if so many workers share the batch.

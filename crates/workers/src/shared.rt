@@ -3,6 +3,7 @@
 use crate::batch::run_batch;
 use crate::gate::OpenGate;
 use crate::job::Job;
+use crate::lot::paying_crew;
 use crate::office::Office;
 use crate::part::{copy_sent, first_fault, longest_with, number_jobs};
 use crate::receipt::Receipt;
@@ -72,8 +73,8 @@ impl SharedRegister {
         })
     }
 
-    /// Has 1 to 16 workers handle a part of a batch. What it sends is appended to `sent`, a list for each event, in the order of
-    /// the part.
+    /// Has 1 to 16 workers handle a part of a batch: at most one for each 32 events, since it takes as long to start a thread, and at least one.
+    /// What it sends is appended to `sent`, a list for each event, in the order of the part.
     ///
     /// If by the receipts some journal has no room for that many more entries, all journals are cut first, once jobs and receipts
     /// account for them. The epochs are dropped.
@@ -179,6 +180,7 @@ impl SharedRegister {
         let Some(office) = &self.office else {
             return Err(SharedFault::Unaccounted(0));
         };
+        let workers = paying_crew(jobs.len(), workers);
         let receipts = run_batch(rt, self.alloc, office, jobs, &OpenGate, workers)?;
         match first_fault(&receipts) {
             Some(fault) => Err(fault),

@@ -1,6 +1,6 @@
 //! A worker.
 
-ghost use Rattle.std.specs.Prelude.{◌≡◌, ◌++◌, false, [], map, OnOk, OnErr};
+ghost use Rattle.std.specs.Prelude.{◌≡◌, ◌++◌, false, [], map, IfOk, OnOk, OnErr};
 ghost use Rattle.crossbeam_channel.specs.Claims.{view, IsSeatAt};
 ghost use Rattle.crossbeam_channel.specs.Ends.{receives_on};
 ghost use Rattle.workers.specs.Hands.{hand};
@@ -68,6 +68,22 @@ pub fn serve<R: Wait, G: Gate>(
         }
     }
     unreachable!()
+}
+
+/// A worker that shares the jobs with nobody: handles them in their order. The receipts are in that order too.
+pub(crate) fn serve_alone<R: Wait, G: Gate>(
+    rt: &R,
+    alloc: Global,
+    office: &Office,
+    jobs: &[Job],
+    gate: &G,
+) -> Result<Vec<Receipt>, AllocError>
+    ensures all { IfOk result (λ rs. map (λ r. r.job) rs.items ≡ map (λ j. j.number) jobs.now) }
+{
+    let mut bump = Bump::new(alloc);
+    let mut receipts = Vec::new(alloc);
+    answer_all(rt, alloc, office, &mut bump, jobs, gate, &mut receipts)?;
+    Ok(receipts)
 }
 
 /// Handles jobs, and appends their receipts. If there is no memory for these, no job is handled.
