@@ -13,7 +13,7 @@ UNIT_NAME = 1
 # Bits of an address, and the title with translation type, numbering plan and nature.
 HAS_PC, HAS_SSN, TITLE, BY_SSN = 1, 2, 4 << 2, 0x40
 HLR, VLR, MSC = 6, 7, 8
-NUMBER = "447700900100"
+NUMBER, OWN_POINT_CODE = "447700900100", 23 * 8 + 2
 
 
 def bcd(digits):
@@ -25,9 +25,11 @@ def title(digits, nature=4):
     return bytes([0, 0x11 if len(digits) % 2 else 0x12, nature]) + bcd(digits)
 
 
-def address(digits="", subsystem=VLR, nature=4):
+def address(digits="", subsystem=VLR, nature=4, point_code=None):
     """An address by subsystem, with a title if there are digits."""
-    return bytes([BY_SSN | HAS_SSN | (TITLE if digits else 0), subsystem]) + (title(digits, nature) if digits else b"")
+    front = b"" if point_code is None else point_code.to_bytes(2, "little")
+    present = HAS_SSN | (HAS_PC if front else 0) | (TITLE if digits else 0)
+    return bytes([BY_SSN | present]) + front + bytes([subsystem]) + (title(digits, nature) if digits else b"")
 
 
 def without_point_code(octets):

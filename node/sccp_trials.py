@@ -15,7 +15,7 @@ from pair import free_port
 from programs import HERE as SCCP
 from programs import Running, started_stp
 from sccp_node import CONFIG, CONSOLE, CONTROL, SECONDS, SUBSCRIBERS, Daemon, control, many, started
-from sccp_peer import CONTINUE, END, MSC, VLR, Peer, Vlr, address, has_error, ids_of, result, update
+from sccp_peer import CONTINUE, END, HLR, MSC, OWN_POINT_CODE, VLR, Peer, Vlr, address, has_error, ids_of, result, route, update
 from servers import BIN, Postgresql, Server
 from story import TOP, check
 
@@ -40,6 +40,16 @@ def examples(ends, folder, programs):
     it.waits_for("a frame to 447700909999 was returned, cause 4")
     fault = rounds.Round("whole_update", "digits", rounds.wanted_of("whole_update")).fault(programs["peer"], "ipa")
     check(not fault, f"whole_update: {fault}")
+    it.end()
+
+
+def itself(ends, folder, programs):
+    _, it = started(ends, folder, programs, records=many(folder))
+    vlr = Vlr(Peer(), SUBSCRIBERS)
+    for number, subsystem in enumerate((HLR, VLR, MSC), 1):
+        vlr.peer.give(address("", subsystem, point_code=OWN_POINT_CODE), route(number, number))
+        check(vlr.asked(number) == 0, "a subscriber without a VLR has one")
+    it.waits_for("a frame to 0000186007 was returned, cause 4")
     it.end()
 
 
@@ -423,4 +433,4 @@ def pair(ends, folder, programs):
     return f"{store.partition(':')[0]}; without service, seconds: {told}; {len(vlrs[0].confirmed)} subscribers confirmed, {newer} newer"
 
 
-TRIALS = (examples, killed, resumed, ended, away, held, bounded, refused, faults, console, control_interface, pair)
+TRIALS = (examples, itself, killed, resumed, ended, away, held, bounded, refused, faults, console, control_interface, pair)

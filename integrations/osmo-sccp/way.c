@@ -67,12 +67,13 @@ static bool give(const struct stack_frame *frame)
 
 /*
  * Gives the library the oldest frame that waits, if it has nothing to write: then its next write is that of this frame, and it is known which
- * frames are not written when a connection is lost.
+ * frames are not written when a connection is lost. What the library does not write (it is for our own point code, say, and the library brings
+ * it there itself) must not be waited for, since then nothing would go out any more.
  */
 static void send_waiting(void)
 {
 	while (!given && !(connection()->when & OSMO_FD_WRITE) && (given = unsent_take()))
-		if (!give(&given->frame))
+		if (!give(&given->frame) || !(connection()->when & OSMO_FD_WRITE))
 			forget_given();
 }
 
