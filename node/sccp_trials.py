@@ -244,11 +244,16 @@ def failed(programs, folder, text, status, *said):
     check(is_right, f"status {done.returncode}, not {status} with {said}: {done.stderr[-600:]}")
 
 
+# Lines of the configuration, and what stands in their place: also in the first line, too long for libosmovty, and in the last one without a line feed.
+FAULTY_LINES = [(" ticks 20", " ticks 0"), (" ticks 20", " tocks 20"), (" ticks 20", "  ticks 20"), (" no pair", " pair 0"), ("log stderr", "log nowhere"),
+                (" peers peers", f" peers {600 * 'p'}"), (" no pair\n", " no pairs")]
+
+
 def faults(ends, folder, programs):
     good = CONFIG.format(host="127.0.0.1", store=f"sqlite:{folder}/a.db", records=TOP / "examples/first_route.records", ticks=20, pair="no pair")
-    failed(programs, folder, good.replace(" ticks 20", " ticks 0"), 2, "ticks 0")
-    failed(programs, folder, good.replace(" ticks 20", " tocks 20"), 2, "tocks 20")
-    failed(programs, folder, good.replace(" no pair", " pair 0"), 2, "pair 0")
+    for line, fault in FAULTY_LINES:
+        text = good.replace(line, fault)
+        failed(programs, folder, text, 2, fault.strip()[-60:], f"has a fault in line {text.splitlines().index(fault) + 1}\n")
     failed(programs, folder, good.replace(f" store sqlite:{folder}/a.db\n", ""), 2, "names no store")
     failed(programs, folder, good.replace(" peers peers\n", ""), 2, "names no peers")
     failed(programs, folder, good.replace(" point-code 0.23.2\n", "", 1), 2, "point-code")
@@ -258,9 +263,10 @@ def faults(ends, folder, programs):
     failed(programs, folder, re.sub(" records .*\n", "", good).replace("a.db", "c.db"), 3)
     (folder / "faulty.records").write_text("HLR1 447700900100\n234150000000001 x\n")
     failed(programs, folder, re.sub(" records .*", f" records {folder}/faulty.records", good).replace("a.db", "d.db"), 7, "line 2")
-    for words, status in ((["-h"], 0), (["-V"], 0), (["-x"], 2), (["word"], 2), (["-c", folder / "none.cfg"], 2)):
+    for words, status, said in ((["-h"], 0, ""), (["-V"], 0, ""), (["-x"], 2, "-c FILE"), (["word"], 2, "-c FILE"),
+                                (["-c", folder / "none.cfg"], 2, "none.cfg cannot be read: No such file")):
         done = subprocess.run([programs["kunchrold"], *words], capture_output=True, text=True, timeout=SECONDS)
-        check(done.returncode == status and (status or done.stdout), f"{words}: {done}")
+        check(done.returncode == status and (status or done.stdout) and said in done.stderr, f"{words}: {done}")
 
 
 def console(ends, folder, programs):

@@ -4,6 +4,7 @@
 #include "daemon.h"
 #include "service.h"
 
+#include <errno.h>
 #include <osmocom/core/talloc.h>
 #include <osmocom/ctrl/control_vty.h>
 #include <osmocom/sigtran/osmo_ss7.h>
@@ -15,6 +16,7 @@
 #include <osmocom/vty/telnet_interface.h>
 #include <stdio.h>
 #include <stdlib.h>
+#include <string.h>
 
 enum { PORT = 4299, KUNCHROL_NODE = _LAST_OSMOVTY_NODE + 1 };
 
@@ -115,6 +117,47 @@ static struct vty_app_info app_info = { .name = "kunchrold",
 						     "version 3\r\n",
 					.go_parent_cb = osmo_ss7_vty_go_parent };
 
+/* The number of the line that was read last, or 0 of a file that cannot be read again, a pipe say. */
+static unsigned line_read_last(FILE *file)
+{
+	long octets = ftell(file);
+	unsigned lines = 0;
+	int octet = '\n';
+
+	for (rewind(file); octets > 0; octets--) {
+		octet = getc(file);
+		lines += octet == '\n';
+	}
+	return lines + (octet != '\n');
+}
+
+static void tell_fault(const char *path, unsigned line)
+{
+	if (line)
+		LOGP(DKUNCHROL, LOGL_FATAL, "the configuration %s has a fault in line %u\n", path, line);
+	else
+		LOGP(DKUNCHROL, LOGL_FATAL, "the configuration %s has a fault\n", path);
+}
+
+/* libosmovty stops after the first line with a fault, whose text it shows without its number. */
+static bool read_settings(const char *path)
+{
+	FILE *file = fopen(path, "r");
+	bool is_read;
+
+	if (!file) {
+		LOGP(DKUNCHROL, LOGL_FATAL, "the configuration %s cannot be read: %s\n", path, strerror(errno));
+		return false;
+	}
+	is_read = vty_read_config_filep(file, NULL) >= 0;
+	if (is_read)
+		host_config_set(path); /* which `write file` writes */
+	else
+		tell_fault(path, line_read_last(file));
+	fclose(file);
+	return is_read;
+}
+
 bool console_begin(const char *path)
 {
 	app_info.tall_ctx = daemon_context;
@@ -128,10 +171,8 @@ bool console_begin(const char *path)
 	osmo_sccp_vty_init();
 	install_settings();
 	commands_install();
-	if (vty_read_config_file(path, NULL) < 0) {
-		LOGP(DKUNCHROL, LOGL_FATAL, "the configuration %s cannot be used\n", path);
+	if (!read_settings(path))
 		return false;
-	}
 	if (!settings.store || !settings.peers)
 		LOGP(DKUNCHROL, LOGL_FATAL, "the configuration %s names no %s\n", path, settings.store ? "peers" : "store");
 	return settings.store && settings.peers;
