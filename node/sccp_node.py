@@ -1,18 +1,28 @@
 # SPDX-License-Identifier: Apache-2.0
-"""kunchrold as the trials of `run_sccp` have it: its configuration, the process, its console and its control interface."""
+"""kunchrold as the trials of `run_sccp` and `soak` have it: built, its configuration, the process, its console and its control interface."""
 
+import os
 import re
+import shutil
 import socket
 import sqlite3
 import struct
+import subprocess
+import sys
 import time
 
-from programs import Running, started_stp
+from programs import Running, built, started_stp
 from sccp_peer import NUMBER
-from story import TOP, check
+from story import KIT, TOP, check
 
-SUBSCRIBERS, SECONDS = 2000, 30
-CONSOLE, CONTROL = 4299, 4298
+PACKAGES = "osmo-stp libosmo-sigtran-dev libosmo-netif-dev libosmocore-dev libsqlite3-dev sqlite3 gcc make pkg-config iproute2"
+NEEDED = ("osmo-stp", "gcc", "make", "pkg-config", "sqlite3", "unshare", "ip")
+ARCHIVE = TOP / "crates/kunchrol/out/libkunchrol.a"
+INSIDE = "KUNCHROL_RUN_SCCP"
+SANITIZED = "-O1 -g -fsanitize=address,undefined -fno-sanitize-recover=all"
+# Subscribers, updates that begin in a second, and how long something may take.
+SUBSCRIBERS, RATE, SECONDS = 2000, 400, 30
+CONSOLE, CONTROL, CONSOLE_OF_STP = 4299, 4298, 4239
 CONFIG = """log stderr
  logging filter all 1
  logging color 0
@@ -45,6 +55,34 @@ kunchrol
 """
 
 
+def say_lacking():
+    """Whether something is not there that is needed, which it says."""
+    missing = [it for it in NEEDED if not shutil.which(it)]
+    probe = ["pkg-config", "--exists", "libosmo-sigtran", "libosmo-netif", "libosmovty", "libosmoctrl", "sqlite3"]
+    if not missing and subprocess.run(probe).returncode:
+        missing = ["the libraries"]
+    if missing:
+        print(f"there is no {' '.join(missing)} (Debian: {PACKAGES}): nothing is tried")
+    return bool(missing)
+
+
+def go_inside():
+    """Begins the program once more in a network of its own, if it is not there."""
+    if INSIDE not in os.environ:
+        own = ["unshare", "-n"] if os.geteuid() == 0 else ["unshare", "-rn"]
+        os.execvpe(own[0], [*own, sys.executable, *sys.argv], {**os.environ, INSIDE: "1"})
+    subprocess.run(["ip", "link", "set", "lo", "up"], check=True)
+
+
+def built_programs(folder, archive, flags=""):
+    """kunchrold, with these flags of the compiler if there are any, kunchrol-compact, and a peer."""
+    words = ["make", "-s", "-C", TOP / "node/kunchrold", f"OUT={folder}", f"LIBRARY={archive}", f"LIBC={KIT}/c/liblibc_c.a"]
+    subprocess.run([*words, f"CFLAGS={flags}"] if flags else words, check=True)
+    sources = [TOP / f"node/{it}.c" for it in ("compact", "durable", "notes", "caller", "store", "store_sqlite", "told")]
+    subprocess.run(["cc", "-std=c11", "-O2", "-o", folder / "kunchrol-compact", *sources, archive, KIT / "c/liblibc_c.a", "-lsqlite3"], check=True)
+    return {"kunchrold": folder / "kunchrold", "compact": folder / "kunchrol-compact", "peer": built(folder, "peer", archive, [])}
+
+
 class Daemon:
     """kunchrold with a configuration, started."""
 
@@ -55,13 +93,20 @@ class Daemon:
         self.config.write_text(CONFIG.format(host=host, store=store or f"sqlite:{self.store}", records=records, ticks=ticks, pair=pair))
         self.starts = self.most = 0
 
-    def start(self, until="DSCCP .*up, "):
+    def start(self):
         self.starts += 1
         place = self.folder / str(self.starts)
         place.mkdir()
         self.process = Running(self.ends, place, [self.programs["kunchrold"], "-s", "-c", self.config])
-        self.waits_for(until)
+        self.waits_for("DSCCP .*up, ")
+        self.waits_for_stp()
         return self
+
+    def waits_for_stp(self):
+        """Waits until the STP, too, knows that it is there: before, frames for it are lost in the STP."""
+        stp, end = Console(self.host, CONSOLE_OF_STP), time.monotonic() + SECONDS
+        while "asp-clnt-hlr AS_ACTIVE" not in stp.ask("show cs7 instance 0 as active"):
+            check(time.monotonic() < end, f"{self.host}: the STP does not know it")
 
     def said(self):
         return self.process.said.read_text()
@@ -83,6 +128,9 @@ class Daemon:
     def console(self):
         return Console(self.host)
 
+    def leads(self):
+        return control(self.host, "GET 1 role")[0].split()[3] == "leads"
+
     def counter(self, name):
         self.most = max(self.most, self.process.memory()[1])
         return int(control(self.host, f"GET 1 rate_ctr.abs.kunchrol.0.{name}")[0].split()[-1])
@@ -102,10 +150,10 @@ class Daemon:
 
 
 class Console:
-    """The console, as one has it with telnet."""
+    """A console, as one has it with telnet."""
 
-    def __init__(self, host):
-        self.socket = socket.create_connection((host, CONSOLE))
+    def __init__(self, host, port=CONSOLE):
+        self.socket = socket.create_connection((host, port))
         self.socket.settimeout(10)
         self.until("> ")
 
@@ -149,10 +197,10 @@ def control(host, *all_words):
     return answers
 
 
-def many(folder):
+def many(folder, subscribers=SUBSCRIBERS):
     """Records of many subscribers."""
     path = folder / "records"
-    path.write_text(f"HLR1 {NUMBER}\n" + "".join(f"234150{it:09} 447{it:09} 11,21 * -\n" for it in range(1, SUBSCRIBERS + 1)))
+    path.write_text(f"HLR1 {NUMBER}\n" + "".join(f"234150{it:09} 447{it:09} 11,21 * -\n" for it in range(1, subscribers + 1)))
     return path
 
 

@@ -21,6 +21,10 @@ def bcd(digits):
     return bytes(int(digits[at]) | (int(digits[at + 1]) if at + 1 < len(digits) else 0) << 4 for at in range(0, len(digits), 2))
 
 
+def bcd_text(octets):
+    return "".join(f"{it & 15}{it >> 4}" for it in octets)
+
+
 def title(digits, nature=4):
     return bytes([0, 0x11 if len(digits) % 2 else 0x12, nature]) + bcd(digits)
 
@@ -98,6 +102,8 @@ BEGUN, IMSI, SUBSCRIBER = bytes.fromhex("0000000B"), bytes.fromhex("321405000000
 FROM, ROUTED = "447700900012", bytes.fromhex("810791")
 FIRST_ID = bytes.fromhex("4804")
 END, CONTINUE, BEGIN, ABORT = 0x64, 0x65, 0x62, 0x67
+# How long an answer to a route may take where others have the machine too, and after how long without a frame it is looked whether it can still come.
+ANSWERED, QUIET = 30, 5
 
 
 def octets_of(number):
@@ -141,6 +147,12 @@ def ids_of(frame):
     local = frame[at + 2 : at + 6] if frame[at] == 0x48 else b""
     at += 6 if local else 0
     return local, int.from_bytes(frame[at + 2 : at + 2 + frame[at + 1]], "big") if frame[at] == 0x49 else None
+
+
+def told_by(frame):
+    """The number of the update whose MSC the answer to a route tells, or 0 if it tells none."""
+    at = frame.find(ROUTED)
+    return 0 if at < 0 else int(bcd_text(frame[at + 3 : at + 9])[5:])
 
 
 def has_error(frame, error):
@@ -195,14 +207,21 @@ class Vlr:
 
     def asked(self, subscriber):
         """The number of the update that a route tells, or 0 if there is none."""
-        number = 0x40000000 + subscriber
+        number, end = 0x40000000 + subscriber, time.monotonic() + ANSWERED
         self.peer.give(address("447700909999", MSC), route(number, subscriber))
-        while came := self.peer.take(5):
-            if ids_of(came[1])[1] == number:
-                at = came[1].find(ROUTED)
-                return 0 if at < 0 else int(bcd_text(came[1][at + 3 : at + 9])[5:])
-            self.answer(came[1])
+        while time.monotonic() < end:
+            came = self.peer.take(QUIET)
+            if came and ids_of(came[1])[1] == number:
+                return told_by(came[1])
+            if came:
+                self.answer(came[1])
+            elif self.turns():
+                return self.asked(subscriber)
         check(False, f"no answer to a route of {subscriber}")
+
+    def turns(self):
+        """Whether frames go to another process from now on, since the one before may have lost them. (Of a pair.)"""
+        return False
 
     def compare(self, last=0):
         """Each subscriber, or those confirmed last, is where the last confirmed update says, or one begun since. Returns how often it was such a one."""
@@ -215,7 +234,3 @@ class Vlr:
                 wrong.append((subscriber, number, self.confirmed.get(subscriber)))
         check(not wrong, f"{len(wrong)} subscribers are not where the last confirmed update says: {wrong[:5]}")
         return newer
-
-
-def bcd_text(octets):
-    return "".join(f"{it & 15}{it >> 4}" for it in octets)

@@ -11,20 +11,16 @@ import subprocess
 import time
 from pathlib import Path
 
-from pair import free_port
-from programs import HERE as SCCP
-from programs import Running, started_stp
-from sccp_node import CONFIG, CONSOLE, CONTROL, SECONDS, SUBSCRIBERS, Daemon, control, many, started
+from programs import started_stp
+from sccp_node import CONFIG, CONSOLE, CONTROL, RATE, SECONDS, SUBSCRIBERS, control, many, started
+from sccp_pair import pair
 from sccp_peer import CONTINUE, END, HLR, MSC, OWN_POINT_CODE, VLR, Peer, Vlr, address, has_error, ids_of, result, route, update
-from servers import BIN, Postgresql, Server
 from story import TOP, check
 
-# How often it is killed, how many updates begin in a second, and how many frames are a flood.
-DEATHS, RATE, FLOOD = 20, 400, 40_000
+# How often it is killed, and how many frames are a flood.
+DEATHS, FLOOD = 20, 40_000
 # How many of those confirmed last are asked for after each death.
 LATEST = 50
-# How long one of a pair waits for a row.
-PATIENCE = 1
 
 # ---- frames
 
@@ -158,6 +154,7 @@ def away(ends, folder, programs):
     it.waits_for("away, ")
     started_stp(ends, folder, "ipa")
     it.waits_for(" up, ", 2)
+    it.waits_for_stp()
     vlr.peer = Peer()
     return last_second(it, vlr)
 
@@ -360,83 +357,6 @@ def control_interface(ends, folder, programs):
             line.sendall(struct.pack(">HBB", len(octets) + 1, 0xEE, 0) + octets if pick.randrange(8) else octets)
     check(control(it.host, "GET 1 role")[0].startswith("GET_REPLY 1 role leads"), "no answer after random octets")
     it.end()
-
-
-# ---- pair
-
-
-def store_of_pair(ends, folder):
-    """Where the store of a pair is, and what can be done to the one that leads."""
-    if not BIN:
-        return f"sqlite:{folder}/pair.db", ["killed", "left", "ended"]  # (who is stopped may hold the lock of a file)
-    server = Server(folder / "server", free_port()).make()
-    ends.callback(server.end)
-    server.start()
-    return Postgresql(server, folder / "pair").store("store").where, ["killed", "left", "ended", "stopped"]
-
-
-def started_stp_at(ends, folder, host):
-    place = folder / f"stp {host}"
-    place.mkdir()
-    config = place / "stp.cfg"
-    config.write_text((SCCP / "stp-ipa.cfg").read_text().replace("127.0.0.1", host))
-    check(Running(ends, place, ["osmo-stp", "-c", config]).waits_for("telnet"), "no STP")
-
-
-def strike(fault, here, there):
-    """Does this to the one that leads. Returns how long it takes until the other one does."""
-    times, began = there.said().count(" leads, row"), time.monotonic()
-    if fault == "killed":
-        here.kill()
-    elif fault == "left":
-        here.console().enable().ask("leave")
-    elif fault == "stopped":
-        here.process.send(signal.SIGSTOP)
-    else:
-        here.end()
-    there.waits_for(" leads, row", times + 1)
-    return time.monotonic() - began
-
-
-def come_back(fault, here, vlr):
-    """The one that led follows."""
-    vlr.rest(0.3)
-    if fault == "stopped":
-        vlr.play(RATE, 0.3)  # what comes to one who does not know yet that it was deposed
-        follows = here.said().count(" follows, row")
-        here.process.send(signal.SIGCONT)
-        here.waits_for(" follows, row", follows + 1)
-        vlr.rest(0.3)
-    elif fault != "left":
-        here.start()
-
-
-def pair(ends, folder, programs):
-    hosts, records, (store, all_faults), seconds = ("127.0.0.1", "127.0.0.2"), many(folder), store_of_pair(ends, folder), {}
-    for host in hosts:
-        started_stp_at(ends, folder, host)
-    nodes = [Daemon(ends, folder, programs, host, records=records, pair=f"pair {PATIENCE}", store=store) for host in hosts]
-    nodes[0].start().waits_for("leads")
-    nodes[1].start()
-    vlrs = [Vlr(Peer(host), SUBSCRIBERS) for host in hosts]
-    vlrs[1].confirmed, vlrs[1].doubts = vlrs[0].confirmed, vlrs[0].doubts  # of both together
-    leader = 0
-    for fault in all_faults * 3:
-        vlrs[leader].play(RATE, 1)
-        seconds.setdefault(fault, []).append(strike(fault, nodes[leader], nodes[1 - leader]))
-        come_back(fault, nodes[leader], vlrs[leader])
-        leader = 1 - leader
-        vlrs[leader].begun = max(it.begun for it in vlrs)
-        roles = [control(hosts[it], "GET 1 role")[0].split()[3] for it in (leader, 1 - leader)]
-        check(roles == ["leads", "follows"], f"roles: {roles}")
-    vlrs[leader].play(RATE, 1)
-    vlrs[leader].rest(2)
-    newer = vlrs[leader].compare()
-    check(max(min(seconds["left"]), min(seconds["ended"])) < PATIENCE, f"leaving takes as long as dying: {seconds}")
-    for it in (nodes[1 - leader], nodes[leader]):
-        it.end()
-    told = ", ".join(f"{fault} {min(all_of):.2f} to {max(all_of):.2f}" for fault, all_of in seconds.items())
-    return f"{store.partition(':')[0]}; without service, seconds: {told}; {len(vlrs[0].confirmed)} subscribers confirmed, {newer} newer"
 
 
 TRIALS = (examples, itself, killed, resumed, ended, away, held, bounded, refused, faults, console, control_interface, pair)
