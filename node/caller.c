@@ -69,9 +69,10 @@ static void *work(void *context)
 			it->answer = read_rows(it);
 		else
 			it->answer = it->lines ? it->store->append(it->store, it->seq, it->lines, it->len) : STORE_REFUSED;
-		sem_post(&it->is_answered);
+		/* first the descriptor: who has the answer has read it, so that it tells of no answer that was taken */
 		if (write(it->fd, &one, sizeof(one)) != sizeof(one))
 			perror("caller");
+		sem_post(&it->is_answered);
 	}
 }
 

@@ -1,6 +1,7 @@
 # SPDX-License-Identifier: Apache-2.0
 """The trials of `run_sccp`. Each raises Wrong, or returns what there is to say."""
 
+import os
 import random
 import re
 import signal
@@ -17,8 +18,8 @@ from sccp_pair import pair
 from sccp_peer import CONTINUE, END, HLR, MSC, OWN_POINT_CODE, VLR, Peer, Vlr, address, has_error, ids_of, result, route, update
 from story import TOP, check
 
-# How often it is killed, and how many frames are a flood.
-DEATHS, FLOOD = 20, 40_000
+# How often it is killed, and started, and how many frames are a flood.
+DEATHS, STARTS, FLOOD = 20, 20, 40_000
 # How many of those confirmed last are asked for after each death.
 LATEST = 50
 
@@ -47,6 +48,24 @@ def itself(ends, folder, programs):
         check(vlr.asked(number) == 0, "a subscriber without a VLR has one")
     it.waits_for("a frame to 0000186007 was returned, cause 4")
     it.end()
+
+
+def idle(ends, folder, programs):
+    _, it = started(ends, folder, programs)
+    processors = os.sched_getaffinity(0)
+    os.sched_setaffinity(0, {min(processors)})  # of a process and its children: where a thread is interrupted when it has answered
+    try:
+        for start in range(STARTS):
+            it.kill()
+            it.start()
+            before = it.process.processor()
+            time.sleep(0.3)
+            took = it.process.processor() - before
+            check(took < 0.02, f"start {start}: nobody asks, and it takes {took:.3f} of 0.3 seconds")
+    finally:
+        os.sched_setaffinity(0, processors)
+    it.end()
+    return f"{STARTS} starts"
 
 
 def killed(ends, folder, programs):
@@ -359,4 +378,4 @@ def control_interface(ends, folder, programs):
     it.end()
 
 
-TRIALS = (examples, itself, killed, resumed, ended, away, held, bounded, refused, faults, console, control_interface, pair)
+TRIALS = (examples, itself, idle, killed, resumed, ended, away, held, bounded, refused, faults, console, control_interface, pair)

@@ -83,6 +83,10 @@ class Running:
         status = dict(it.split(":", 1) for it in Path(f"/proc/{self.process.pid}/status").read_text().splitlines())
         return [int(status[it].split()[0]) for it in ("VmRSS", "VmHWM")]
 
+    def processor(self):
+        """The seconds of a processor that its threads took."""
+        return sum(int(it.read_text().split()[0]) for it in Path(f"/proc/{self.process.pid}/task").glob("*/schedstat")) / 1e9
+
     def kill(self):
         self.process.kill()
         self.process.wait()
