@@ -1,13 +1,13 @@
 /* SPDX-License-Identifier: Apache-2.0 */
 /*
- * A VLR that asks and never answers: load NUMBER SCRIPT SUBSCRIBERS RATE SECONDS ipa|m3ua FRAMES OCTETS begins RATE updates a second through the STP, of
- * one subscriber after the other, and leaves each insertSubscriberData without an answer. NUMBER is the register's; the first line of SCRIPT
- * is a frame with an updateLocation, which is sent with other ids and IMSIs: subscriber n has 234150 and n in nine digits.
+ * A VLR that asks and never answers: load NUMBER SCRIPT SUBSCRIBERS RATE SECONDS ipa|m3ua FRAMES OCTETS UNANSWERED begins RATE updates a second
+ * through the STP, of one subscriber after the other, and leaves each insertSubscriberData without an answer. NUMBER is the register's; the first
+ * line of SCRIPT is a frame with an updateLocation, which is sent with other ids and IMSIs: subscriber n has 234150 and n in nine digits.
  *
- * Each update has one end: error 34 when the timer of its insert has expired, or the Abort of a full shard. When all have one, or nothing came
- * for a while, or at SIGTERM, it ends. FRAMES and OCTETS are what waits at most while there is no way to the STP; while there is one it begins
- * no update if half of that waits. It prints what comes, as the program `hlr` prints what it sends, and on standard error when the way is
- * there, and in the end how many updates had which end.
+ * Each update has one end: error 34 when the timer of its insert has expired, or, just if its shard is full, an Abort. When all have one, or nothing
+ * came for a while, or at SIGTERM, it ends. FRAMES and OCTETS are what waits at most while there is no way to the STP; while there is one it begins
+ * no update if half of that waits, or if more than UNANSWERED have no frame of the register. It prints what comes, as the program `hlr` prints what it
+ * sends, and on standard error when the way is there, and in the end how many updates had which end.
  * The status is 1 if something else comes, or an update has no end, and 2 if it cannot begin.
  */
 #define _GNU_SOURCE
@@ -26,6 +26,8 @@
 enum { WAIT_MILLISECONDS = 2, QUIET_SECONDS = 30 };
 /* where an updateLocation has its transaction id */
 enum { ID_AT = 4, IMSI_DIGITS = 15 };
+/* how many dialogues a shard holds (docs/PROTOCOL.md) */
+enum { FULL = 4096 };
 enum { END = 0x64, CONTINUE = 0x65, ABORT = 0x67 };
 
 static struct script_line update;
@@ -36,6 +38,9 @@ enum { UNKNOWN, BEGUN, INSERTED, ENDED };
 static uint8_t *states;
 static uint32_t begun, most;
 static unsigned long inserts, failed, turned_away, strange;
+static unsigned long subscribers, most_unanswered;
+/* the open dialogues of each shard: frames come in the order in which the register sent them, so what it had when it sent one is known */
+static unsigned open_dialogues[KUNCHROL_SHARDS];
 static double last_came;
 static volatile sig_atomic_t is_ended;
 
@@ -52,15 +57,25 @@ static bool has(const struct stack_frame *frame, const void *part, size_t len)
 	return memmem(frame->octets, frame->len, part, len) != NULL;
 }
 
-/* Notes that an update is so far, if it was there just before. */
-static void note(uint8_t *state, uint8_t before, uint8_t after, unsigned long *counted)
+/* The dialogues of the shard of an update: that of the last two digits of its IMSI. */
+static unsigned *dialogues_of(uint32_t number)
 {
-	if (*state == before) {
-		*state = after;
-		++*counted;
-	} else {
+	return &open_dialogues[number % subscribers % 100 % KUNCHROL_SHARDS];
+}
+
+/* Notes that an update is so far, if it was there just before and its shard was as it must be. */
+static void note(uint32_t number, uint8_t before, uint8_t after, unsigned long *counted)
+{
+	unsigned *dialogues = dialogues_of(number);
+
+	if (states[number] != before || (before == BEGUN && (*dialogues == FULL) != (after == ENDED))) {
 		strange++;
+		return;
 	}
+	states[number] = after;
+	*dialogues += after == INSERTED;
+	*dialogues -= before == INSERTED;
+	++*counted;
 }
 
 static void take_frame(const struct stack_frame *frame)
@@ -76,11 +91,11 @@ static void take_frame(const struct stack_frame *frame)
 	for (size_t at = 0; at < transaction.destination.len; at++)
 		number = number << 8 | transaction.destination.octets[at];
 	if (number < begun && frame->octets[0] == CONTINUE)
-		note(&states[number], BEGUN, INSERTED, &inserts);
+		note(number, BEGUN, INSERTED, &inserts);
 	else if (number < begun && frame->octets[0] == END && has(frame, system_failure, sizeof(system_failure)))
-		note(&states[number], INSERTED, ENDED, &failed);
+		note(number, INSERTED, ENDED, &failed);
 	else if (number < begun && frame->octets[0] == ABORT && has(frame, resource_limitation, sizeof(resource_limitation)))
-		note(&states[number], BEGUN, ENDED, &turned_away);
+		note(number, BEGUN, ENDED, &turned_away);
 	else
 		strange++;
 }
@@ -99,7 +114,7 @@ static void put_digits(uint8_t *at, const char *digits, size_t count)
 		*at++ = (uint8_t)((digits[digit] - '0') | (digit + 1 < count ? digits[digit + 1] - '0' : 15) << 4);
 }
 
-static void begin_update(const char *number, unsigned long subscribers)
+static void begin_update(const char *number)
 {
 	struct osmo_sccp_addr calling = address_of_number(update.from, PEER_POINT_CODE, OSMO_SCCP_SSN_VLR);
 	struct osmo_sccp_addr called = address_of_number(number, REGISTER_POINT_CODE, OSMO_SCCP_SSN_HLR);
@@ -117,10 +132,13 @@ static void begin_update(const char *number, unsigned long subscribers)
 static const uint32_t subsystems[] = { OSMO_SCCP_SSN_VLR, 0 };
 static struct stack_user user = { "peer", PEER_POINT_CODE, REGISTER_POINT_CODE, subsystems, { 0, 0 }, take_frame, take_notice };
 
-/* Whether so much waits, though there is a way, that more would soon be dropped. */
+/*
+ * Whether so much waits, though there is a way, that more would soon be dropped: here, or by the register, where the STP takes less than that sends.
+ */
 static bool is_ahead(void)
 {
-	return way_is_up() && (way_waiting() > user.limits.frames / 2 || way_waiting() * update.len > user.limits.octets / 2);
+	return way_is_up() && (way_waiting() > user.limits.frames / 2 || way_waiting() * update.len > user.limits.octets / 2 ||
+			       begun - inserts - turned_away > most_unanswered);
 }
 
 static void end(int number)
@@ -129,7 +147,7 @@ static void end(int number)
 	is_ended = 1;
 }
 
-static void play(const char *number, unsigned long subscribers, double rate)
+static void play(const char *number, double rate)
 {
 	double start;
 
@@ -137,7 +155,7 @@ static void play(const char *number, unsigned long subscribers, double rate)
 		stack_wait(WAIT_MILLISECONDS);
 	for (start = last_came = seconds_now(); !is_ended && begun < most; stack_wait(WAIT_MILLISECONDS))
 		while (begun < most && begun < (seconds_now() - start) * rate && !is_ahead())
-			begin_update(number, subscribers);
+			begin_update(number);
 	fprintf(stderr, "load: %u begun in %.1f seconds\n", (unsigned)begun, seconds_now() - start);
 	while (!is_ended && failed + turned_away < begun && seconds_now() - last_came < QUIET_SECONDS)
 		stack_wait(WAIT_MILLISECONDS);
@@ -168,21 +186,22 @@ static bool read_update(const char *path)
 
 int main(int argc, char **argv)
 {
-	bool is_called_so = argc == 9;
-	unsigned long subscribers = is_called_so ? strtoul(argv[3], NULL, 10) : 0;
+	bool is_called_so = argc == 10;
 	double rate = is_called_so ? atof(argv[4]) : 0;
 
+	subscribers = is_called_so ? strtoul(argv[3], NULL, 10) : 0;
 	most = is_called_so ? (uint32_t)(rate * atof(argv[5])) : 0;
 	states = calloc(most + 1, 1);
 	if (!subscribers || !most || !states || !read_update(argv[2])) {
-		fprintf(stderr, "load NUMBER SCRIPT SUBSCRIBERS RATE SECONDS ipa|m3ua FRAMES OCTETS\n");
+		fprintf(stderr, "load NUMBER SCRIPT SUBSCRIBERS RATE SECONDS ipa|m3ua FRAMES OCTETS UNANSWERED\n");
 		return 2;
 	}
 	signal(SIGTERM, end);
 	user.limits = (struct stack_limits){ strtoul(argv[7], NULL, 10), strtoul(argv[8], NULL, 10) };
+	most_unanswered = strtoul(argv[9], NULL, 10);
 	if (!stack_open(&user, argv[6]))
 		return 2;
-	play(argv[1], subscribers, rate);
+	play(argv[1], rate);
 	stack_close();
 	free(states);
 	fprintf(stderr, "load: %u begun, %lu inserts, %lu ended by error 34, %lu turned away, %lu without an end, %lu not sent, %lu strange\n",
