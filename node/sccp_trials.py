@@ -15,11 +15,13 @@ from pathlib import Path
 from programs import started_stp
 from sccp_node import CONFIG, CONSOLE, CONTROL, RATE, SECONDS, SUBSCRIBERS, control, many, started
 from sccp_pair import pair
-from sccp_peer import CONTINUE, END, HLR, MSC, OWN_POINT_CODE, VLR, Peer, Vlr, address, has_error, ids_of, result, route, update
+from sccp_peer import CONTINUE, END, HLR, MSC, OWN_POINT_CODE, QUIET, VLR, Peer, Vlr, address, has_error, ids_of, imsi_of, result, route, update
 from story import TOP, check
 
 # How often it is killed, and started, and how many frames are a flood.
 DEATHS, STARTS, FLOOD = 20, 20, 40_000
+# How many frames may wait for the STP (kunchrold/signalling.c), and how many more there are.
+UNSENT, DROPPED = 65_536, 100
 # How many of those confirmed last are asked for after each death.
 LATEST = 50
 
@@ -176,6 +178,37 @@ def away(ends, folder, programs):
     it.waits_for_stp()
     vlr.peer = Peer()
     return last_second(it, vlr)
+
+
+def unsent(ends, folder, programs):
+    stp, it = started(ends, folder, programs, records=many(folder))
+    vlr = Vlr(Peer(), SUBSCRIBERS)
+    vlr.play(RATE, 1)
+    vlr.rest(2)
+    stp.kill()
+    it.waits_for("away, ")
+    line, told, sent = it.console().enable(), len(it.said()), it.counter("frames:sent")
+    for number in range(UNSENT + DROPPED):
+        subscriber = vlr.latest[number % len(vlr.latest)]
+        given = line.ask(f"subscriber imsi {imsi_of(subscriber)} codes {'11,21,22,'[: 3 * (1 + number // len(vlr.latest) % 3)].strip(',')}")
+        check("given: done when row" in given, given)
+    end = time.monotonic() + SECONDS
+    while it.counter("frames:sent") < sent + UNSENT + DROPPED:
+        check(time.monotonic() < end, "not each change is sent")
+    lost = it.counter("frames:lost")
+    check(lost == DROPPED and f": {UNSENT} frames wait, {DROPPED} were lost" in line.ask("show role"), f"{lost} lost")
+    words = it.said()[told:].count(f"frames are dropped: {UNSENT} wait for the STP")
+    check(0 < words <= SECONDS, f"told {words} times")
+    it.process.send(signal.SIGSTOP)  # so that the peer is there before it
+    started_stp(ends, folder, "ipa")
+    vlr.peer = Peer()
+    it.process.send(signal.SIGCONT)
+    inserts = 0
+    while vlr.peer.take(QUIET if inserts else SECONDS):
+        inserts += 1
+    check(inserts == UNSENT, f"{inserts} inserts came")
+    it.end()
+    return f"{inserts} inserts waited, {lost} were dropped, told {words} times"
 
 
 def held(ends, folder, programs):
@@ -378,4 +411,4 @@ def control_interface(ends, folder, programs):
     it.end()
 
 
-TRIALS = (examples, itself, idle, killed, resumed, ended, away, held, bounded, refused, faults, console, control_interface, pair)
+TRIALS = (examples, itself, idle, killed, resumed, ended, away, unsent, held, bounded, refused, faults, console, control_interface, pair)

@@ -30,6 +30,7 @@ static const struct rate_ctr_desc descriptions[COUNTERS] = {
 	[FRAMES_TAKEN] = { "frames:taken", "Frames given to the register" },
 	[FRAMES_SENT] = { "frames:sent", "Frames of the register, to the STP or waiting for it" },
 	[FRAMES_UNSENT] = { "frames:unsent", "Frames of the register that SCCP cannot carry" },
+	[FRAMES_LOST] = { "frames:lost", "Frames of the register dropped: too much waits for the STP, or the library refused them" },
 	[FRAMES_RETURNED] = { "frames:returned", "Frames that came back (N-NOTICE)" },
 	[FRAMES_UNREADABLE] = { "frames:unreadable", "Frames dropped: no number and no subsystem, or too long" },
 	[FRAMES_NOT_LEADING] = { "frames:not_leading", "Frames dropped: this process does not lead" },

@@ -3,6 +3,7 @@
 #include "../../integrations/osmo-sccp/address.h"
 #include "../../integrations/osmo-sccp/stack.h"
 #include "../../integrations/osmo-sccp/transaction.h"
+#include "../../integrations/osmo-sccp/way.h"
 #include "address_words.h"
 #include "daemon.h"
 #include "service.h"
@@ -100,6 +101,16 @@ static struct osmo_sccp_addr address_for(const struct durable_frame *frame, cons
 					.ssn = subsystem };
 }
 
+/* Of those that were to be sent: too much waits for the STP, which is away or takes less than is sent, or the library refused them. */
+static void count_lost(void)
+{
+	static unsigned long counted;
+
+	for (; counted < way_lost(); counted++)
+		if (count_and_tell(FRAMES_LOST))
+			LOGP(DSCCP, LOGL_ERROR, "frames are dropped: %zu wait for the STP\n", way_waiting());
+}
+
 void signalling_send(void)
 {
 	struct osmo_sccp_addr calling = address_of_number(service_number(), user.point_code, OSMO_SCCP_SSN_HLR);
@@ -113,6 +124,7 @@ void signalling_send(void)
 		called = address_for(&frame, to);
 		count(stack_send(&(struct stack_frame){ &calling, &called, frame.octets, frame.len }) ? FRAMES_SENT : FRAMES_UNSENT);
 	}
+	count_lost();
 }
 
 /* ---- the STP */
