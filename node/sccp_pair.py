@@ -47,10 +47,11 @@ class Pair:
         self.nodes[1].start()
 
     def lead(self):
-        """Which one leads, and the how manieth time of which of its processes that is."""
+        """Which one leads, how many starts it had, and how often that process has begun to lead."""
         end = time.monotonic() + SECONDS
         while len(leading := [at for at, it in enumerate(self.nodes) if it.leads()]) != 1:  # who was deposed says that it leads until it writes
             check(time.monotonic() < end, f"of {HOSTS} not one leads, but {leading}")
+            time.sleep(0.02)
         return leading[0], self.nodes[leading[0]].starts, self.nodes[leading[0]].counter("role:leads")
 
     def strike(self, fault, at):
@@ -66,6 +67,7 @@ class Pair:
             here.end()
         while not there.leads():
             check(time.monotonic() < began + SECONDS, f"the other one does not lead: {there.said()[-1500:]}")
+            time.sleep(0.02)
         return time.monotonic() - began
 
     def come_back(self, fault, at, vlr):
