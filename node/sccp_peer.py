@@ -104,6 +104,8 @@ FIRST_ID = bytes.fromhex("4804")
 END, CONTINUE, BEGIN, ABORT = 0x64, 0x65, 0x62, 0x67
 # How long an answer to a route may take where others have the machine too, and after how long without a frame it is looked whether it can still come.
 ANSWERED, QUIET = 30, 5
+# How many updates a VLR begins at most before it hears again, however late it is.
+BURST = 50
 
 
 def octets_of(number):
@@ -190,15 +192,16 @@ class Vlr:
             self.aborts += 1
 
     def play(self, rate, seconds):
-        """Begins so many updates a second, and answers what comes."""
+        """Begins so many updates a second, or as many as it can, and answers what comes."""
         start = time.monotonic()
         end, begun = start + seconds, self.begun
-        while time.monotonic() < end:
-            while self.begun - begun < (time.monotonic() - start) * rate:
+        while (now := time.monotonic()) < end:
+            for _ in range(min(BURST, int((now - start) * rate) - (self.begun - begun))):
                 self.begin()
             came = self.peer.take(0.002)
-            if came:
+            while came:
                 self.answer(came[1])
+                came = self.peer.take(0)
 
     def rest(self, seconds):
         """Answers what comes until nothing comes for so long."""
