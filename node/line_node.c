@@ -115,22 +115,25 @@ static int open_or_begin(struct durable *it, struct store *store, const char *pa
 	return status ? status : ended_by(answer);
 }
 
-/* Opens the register, and follows. */
-static void follow(struct node *node)
+/* Opens the register; one of a pair follows. */
+static void open_register(struct node *node)
 {
 	node->status = open_or_begin(&node->it, node->store, node->records);
-	if (!node->status)
+	if (!node->status && node->patience)
 		tell(node, "follows");
 }
 
-/* What one of a pair does when another one was faster: it goes on from what is in the store. One that is alone ends. */
-static void yield_to_other(struct node *node)
+/*
+ * What one of a pair does when another one was faster: it goes on from what is in the store. So does one that is alone and does not lead yet: what came
+ * may be the last row of a process that was killed, which a server had still to do. One that is alone and leads ends.
+ */
+static void yield_to_other(struct node *node, enum durable_job job)
 {
-	if (!node->patience) {
+	if (!node->patience && job != DURABLE_LEAD) {
 		node->status = ended_by(STORE_TAKEN);
-	} else if (node->it.answer) {
+	} else if (!node->patience || node->it.answer) {
 		durable_close(&node->it);
-		follow(node);
+		open_register(node);
 	}
 }
 
@@ -141,7 +144,7 @@ static void take_answer(struct node *node)
 
 	hand_out(node);
 	if (answer == STORE_TAKEN) {
-		yield_to_other(node);
+		yield_to_other(node, job);
 	} else if (answer) {
 		node->status = ended_by(answer);
 	} else if (job == DURABLE_COMMIT) {
@@ -250,10 +253,7 @@ static void turn(struct node *node)
 
 static int run(struct node *node, bool is_listed)
 {
-	if (node->patience)
-		follow(node);
-	else
-		node->status = open_or_begin(&node->it, node->store, node->records);
+	open_register(node);
 	if (!node->status && is_listed)
 		node->status = list(&node->it);
 	while (!node->status && !node->is_done && !is_listed)

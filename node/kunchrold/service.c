@@ -226,21 +226,24 @@ static void begin_to_follow(void)
 	LOGP(DKUNCHROL, LOGL_NOTICE, "follows, row %" PRIu64 "\n", service_last_row());
 }
 
-/* Another process was faster. One of a pair goes on from what is in the store, if its register has events that the store has not. */
-static void yield_to_other(void)
+/*
+ * Another process was faster. One of a pair goes on from what is in the store, if its register has events that the store has not. So does one that is
+ * alone and does not lead yet: what came may be the last row of a process that was killed, which a server had still to do.
+ */
+static void yield_to_other(enum durable_job job)
 {
 	control_answer(0);
-	if (!patience) {
+	if (!patience && job != DURABLE_LEAD) {
 		LOGP(DKUNCHROL, LOGL_FATAL, "taken: another process has written to the store\n");
 		end_with(END_TAKEN);
 		return;
 	}
-	if (it.answer) {
+	if (!patience || it.answer) {
 		close_register();
 		status = open_register();
 		is_over = status;
 	}
-	if (!is_over)
+	if (!is_over && patience)
 		begin_to_follow();
 }
 
@@ -272,7 +275,7 @@ static int take_answer(struct osmo_fd *fd, unsigned what)
 	(void)what;
 	signalling_send();
 	if (answer == STORE_TAKEN) {
-		yield_to_other();
+		yield_to_other(job);
 	} else if (answer) {
 		LOGP(DKUNCHROL, LOGL_FATAL, "%s\n", answer == STORE_REFUSED ? "refused by the store" : "the register cannot go on");
 		control_answer(0);
@@ -370,11 +373,11 @@ int service_begin(void)
 		code = open_register();
 	if (code)
 		return code;
-	if (patience) {
+	if (patience)
 		begin_to_follow();
-	} else {
+	while (!patience && !is_over && !it.leads) { /* before there is a way to the peers, who would write to nobody */
 		durable_start(&it, DURABLE_LEAD);
-		take_answer(&answer_fd, OSMO_FD_READ); /* before there is a way to the peers, who would write to nobody */
+		take_answer(&answer_fd, OSMO_FD_READ);
 	}
 	osmo_timer_setup(&rest_timer, on_rested, NULL);
 	osmo_timer_setup(&tick_timer, on_tick, NULL);
