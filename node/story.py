@@ -217,6 +217,7 @@ class Story:
 
     def settle(self, number):
         """Notes that a process leads since this row: all rows up to it are known now, and no other group comes later."""
+        check(number > len(self.rows), f"row {number} leads, and of {len(self.rows)} it was told that they are durable")
         texts = self.store.row_texts(len(self.rows))
         for at in range(len(self.rows) + 1, number + 1):
             check(at in texts, f"row {at} is missing, and row {number} leads")

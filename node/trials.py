@@ -26,17 +26,19 @@ LIMIT, NOBODY = 200_000, 65534
 
 
 class Compactions(threading.Thread):
-    """Runs kunchrol-compact again and again, and kills half of the runs."""
+    """Runs kunchrol-compact again and again, and kills half of the runs. None starts while `starts` is locked."""
 
     def __init__(self, story):
         super().__init__()
         self.story, self.random, self.is_over = story, random.Random(7), threading.Event()
         self.counts, self.fault = {WELL: 0, -signal.SIGKILL: 0}, None
+        self.process, self.starts = None, threading.Lock()
 
     def run(self):
         while not self.is_over.wait(0.01) and not self.fault:
             words = [*self.story.programs.compact, self.story.store.where]
-            process = subprocess.Popen(words, stdout=subprocess.DEVNULL, stderr=subprocess.PIPE, text=True)
+            with self.starts:
+                process = self.process = subprocess.Popen(words, stdout=subprocess.DEVNULL, stderr=subprocess.PIPE, text=True)
             if self.random.randrange(2):
                 time.sleep(self.random.uniform(0, 0.015))
                 process.kill()
@@ -47,19 +49,20 @@ class Compactions(threading.Thread):
                 self.counts[process.returncode] += 1
 
 
-def live_and_die(story, pick):
+def live_and_die(story, pick, kill):
     """A life of the process up to the moment when it is killed, with two groups on the way or in its start."""
     node, lives, given = story.node(), pick.randrange(LIFE) if pick.random() < 0.8 else -1, []
     if lives < 0:
         time.sleep(pick.uniform(0, story.place.start_seconds))
     else:
-        check(story.begin(node), "it died by itself")
+        is_begun = story.begin(node)
+        check(is_begun, f"it died by itself: {None if is_begun else node.end()}")
         story.go_on(node, lives)
         given = [story.peers.group(), story.peers.group()]
         for lines in given:
             node.give(lines)
         time.sleep(pick.uniform(0, story.place.commit_seconds))
-    node.process.kill()
+    kill(node)
     for lines in given:
         frames, number = node.take()
         if number is None:
@@ -70,24 +73,29 @@ def live_and_die(story, pick):
     check(ended == (-signal.SIGKILL, ""), f"ended: {ended}")
 
 
-def killed(programs, place, deaths):
-    story, pick = Story(programs, place, 1), random.Random(2)
-    beside = Compactions(story)
+def die_often(story, deaths, kill, compactions=2):
+    """Deaths of the process, by a function of it and of the compactions beside it, of which so many are to be whole; and what all came to."""
+    pick, beside = random.Random(2), Compactions(story)
     beside.start()
     try:
         for _ in range(deaths):
-            live_and_die(story, pick)
+            live_and_die(story, pick, lambda node: kill(node, beside))
     finally:
         beside.is_over.set()
         beside.join()
     check(not beside.fault, beside.fault)
-    check(beside.counts[WELL] > 1 and not story.store.asked("SELECT 1 FROM log WHERE seq = 1"), f"nothing was compacted: {beside.counts}")
+    is_compacted = beside.counts[WELL] >= compactions and not story.store.asked("SELECT 1 FROM log WHERE seq = 1")
+    check(is_compacted, f"nothing was compacted: {beside.counts}")
     node = story.started()
     story.go_on(node, 10)
     node.end()
     story.compare()
     died = sum(not is_whole for _, is_whole in story.sent)
     return f"{deaths} deaths, {len(story.rows)} rows, {died} of them with a death; {' and '.join(map(str, beside.counts.values()))} compactions, whole and killed"
+
+
+def killed(programs, place, deaths):
+    return die_often(Story(programs, place, 1), deaths, lambda node, _: node.process.kill())
 
 
 # ---- refused, taken
@@ -241,7 +249,28 @@ def gathering(programs, place):
     story.compare()
 
 
-# ---- behind
+# ---- orphaned, behind
+
+
+def orphaned(programs, place):
+    """A process is killed while its row waits for the store, and another one starts meanwhile: it leads, after that row if a server still does it."""
+    story = Story(programs, place, 11)
+    for codes in ("11", NINE_CODES, "11", NINE_CODES):
+        node, lines = story.started(), [f"O 234150000000001 {codes}"]
+        held = story.store.held()
+        node.give(lines)
+        time.sleep(0.3)  # now its row waits
+        node.end(signal.SIGKILL)
+        story.doubts.append((lines, []))
+        node = story.node()
+        time.sleep(0.3)
+        held.execute("COMMIT")
+        held.close()
+        is_begun = story.begin(node)
+        check(is_begun, f"not started: {None if is_begun else node.end()}")
+        story.go_on(node, 3)
+        check(node.end() == (WELL, ""), "not ended")
+    story.compare()
 
 
 def behind(programs, place):
@@ -454,19 +483,6 @@ def begun_by_three(programs, store, records):
     led = [int(it[0].split()[1]) for it in said if it[2] == WELL]
     others = [it for it in said if it[2] == TAKEN and not it[0] and "ended: taken" in it[1]]
     check(sorted(led) == list(range(1, len(led) + 1)) and led and len(led) + len(others) == 3, f"three processes on a new store: {said}")
-
-
-def synced(programs, place):
-    """Whether there are at least as many syncs as rows."""
-    story, rows = Story(programs, place, 8), 20
-    told = story.folder / "calls"
-    traced = Programs(Path(programs.line_node[0]).parent, ["strace", "-f", "-e", "trace=fsync,fdatasync", "-o", str(told)])
-    done = traced.ran([story.store.where], "O 234150000000001 11\nW\n" * rows)
-    if done.returncode and not done.stdout:
-        return f"strace cannot trace here: {done.stderr}"
-    count = told.read_text().count("sync(")
-    check(done.stdout.count("W ") == rows + 1 and count > rows, f"{count} syncs for {rows} rows: {done.stdout[-100:]}")
-    return None
 
 
 def slow(programs, place):
