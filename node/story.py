@@ -195,6 +195,10 @@ class Story:
         # knows whether they are rows, with what was seen of their frames.
         self.rows, self.sent, self.doubts = [[]], [([], True)], []
 
+    @staticmethod
+    def kill(process):
+        process.kill()
+
     def node(self, *words, **how):
         return Node(self.programs, self.store, *words, **how)
 

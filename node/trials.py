@@ -41,7 +41,7 @@ class Compactions(threading.Thread):
                 process = self.process = subprocess.Popen(words, stdout=subprocess.DEVNULL, stderr=subprocess.PIPE, text=True)
             if self.random.randrange(2):
                 time.sleep(self.random.uniform(0, 0.015))
-                process.kill()
+                self.story.kill(process)
             said = process.communicate(timeout=SECONDS)[1]
             if process.returncode not in self.counts or said:
                 self.fault = f"compact: status {process.returncode}: {said}"

@@ -90,18 +90,25 @@ class Machine:
         while process.poll() is None and not (listed.exists() and listed.stat().st_size):
             time.sleep(DELAY / 1e7)
 
-    def lose_power(self, *processes):
-        """All processes end at one moment; then there is what the disk has, and no index of the write-ahead log, which is in memory only."""
+    def kill(self, *processes, then=lambda: None):
+        """Ends processes, none of which has a write in its file that is not yet in the list, or the other way round."""
         with open(self.disk / "lock", "a") as lock:
             fcntl.flock(lock, fcntl.LOCK_EX)
             for process in filter(None, processes):
                 process.kill()
                 process.wait()
-            for file in self.files:
-                self.lose(file, self.disk / file.name, self.disk / f"{file.name}.list")
-            Path(f"{self.store}-shm").unlink(missing_ok=True)
+            then()
 
-    def lose(self, file, copy, listed):
+    def lose_power(self, *processes):
+        """All processes end at one moment; then there is what the disk has, and no index of the write-ahead log, which is in memory only."""
+        self.kill(*processes, then=self.lose)
+
+    def lose(self):
+        for file in self.files:
+            self.lose_of(file, self.disk / file.name, self.disk / f"{file.name}.list")
+        Path(f"{self.store}-shm").unlink(missing_ok=True)
+
+    def lose_of(self, file, copy, listed):
         """A file becomes what the disk has of it, with what comes to the disk all the same."""
         records, synced = [*records_in(listed)], octets_of(copy)
         check(changed(synced, records) == octets_of(file), f"{file.name} has not what was synced and what was not")
@@ -148,6 +155,7 @@ def unsynced(programs, place, deaths):
         story.compact()
     check(node.end() == (WELL, ""), "not ended")
     machine.sync()
+    story.kill = machine.kill
     for _ in range(deaths // 2):
         end_and_die(story, machine, pick)
 
