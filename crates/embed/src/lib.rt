@@ -16,7 +16,7 @@ pub use buffer::write_record;
 pub use events::{
     codes_event, expiry_event, frame_event, read_imsi, read_number, withdrawal_event,
 };
-pub use examples::{law_log_lines, law_log_texts};
+pub use examples::{law_log_lines, law_log_texts, law_logged_runs, law_saved_files};
 pub use fault::{BufferFault, LineFault, ReplayFault, RestoreFault};
 pub use laws::{images_are_restored, logs_are_replayed, replays_agree};
 pub use log_line::{LogLine, read_log_line};

@@ -145,7 +145,8 @@ impl Register {
     ///
     /// - `JournalFull`: the journal of its shard has 65,536 entries, until `cut`.
     /// - `NoRoom`: it is an operator's change for which the machine has no step: it would open a dialogue beside 4,096.
-    /// - `Memory` and `ResetRefused`: out of memory.
+    /// - `Memory`: out of memory.
+    /// - `ResetRefused`: it is a frame, after which the arena could not be reset.
     pub fn handle(&mut self, raw: RawEvent) -> Result<bool, Cause>
         ensures gives { IfOk result (λ done. Gives done self.old (raw_event raw) self.new) }
         ensures refused { IfErr result (λ cause. Refuses self.old.node (raw_event raw) cause) }

@@ -4,7 +4,7 @@ ghost use Rattle.frames_laws.specs.Examples.{FirstRoute, IndefiniteRoute, RouteE
 ghost use Rattle.frames_laws.specs.AccountExamples.{Accounts};
 ghost use Rattle.frames_laws.specs.IdentityExamples.{DigitOctets, ImsiOctets, AddressOctets, OctetStrings};
 ghost use Rattle.frames_laws.specs.TagExamples.{TagOctets, NumbersOfFrames, ElementsRead};
-ghost use Rattle.frames_laws.specs.TreeExamples.{MessagesRead, ComponentsRead};
+ghost use Rattle.frames_laws.specs.TreeExamples.{MessagesRead, ComponentsRead, ReadUnderItsTag, IndefiniteLengths};
 ghost use Rattle.frames_laws.specs.PortionExamples.{UserInformation, NamesOfContexts, Versions, DialogueAborts, CodesOfComponents, LongTagNumbers, SentAddress, EventsFromOutside};
 
 /// The first example: where a short message is routed to.
@@ -236,4 +236,14 @@ pub fn messages_read()
 /// Results, parts of results and Rejects of both, and what becomes of ill-formed ones.
 pub fn components_read()
     ensures { ComponentsRead }
+{}
+
+/// An element of each class is read under its own tag, and under no other.
+pub fn read_under_its_tag()
+    ensures { ReadUnderItsTag }
+{}
+
+/// The length octet 80 is one of constructed elements alone.
+pub fn indefinite_lengths()
+    ensures { IndefiniteLengths }
 {}

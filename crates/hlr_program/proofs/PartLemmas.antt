@@ -17,11 +17,11 @@ use Rattle.shardlog.specs.declared.keep.Keep.TheVariants.{Entries, Nothing}
 use Rattle.shardlog.specs.Log.{Log, cut_log}
 use Rattle.wholenode.specs.declared.fault.Cause.{Cause}
 use Rattle.wholenode.specs.declared.fault.Cause.TheVariants as cause
-use Rattle.wholenode.specs.Handling.{Drops, IsRun, Refuses, Runs, Stops, Takes, sent_of}
+use Rattle.wholenode.specs.Handling.{Drops, IsRun, Refuses, Runs, Takes, sent_of}
 use Rattle.wholenode.specs.Keeping.{NodeKeeps}
 use Rattle.wholenode.specs.Nodes.{NodeState, whole}
 use Rattle.wholenode.specs.Opening.{BeginsWith}
-use Rattle.wholenode.specs.Reading.{AreRead}
+use Rattle.wholenode.specs.Reading.{AreRead, HasUnread}
 use Rattle.wholenode.proofs.Places.{set_elsewhere, set_or_not, set_there}
 use Rattle.wholenode.proofs.ReadLemmas.{Reading, reading_ends, reading_goes_on, reading_next}
 use Rattle.wholenode.proofs.RunLemmas.{is_run}
@@ -199,9 +199,15 @@ refused_stops before here raws handled next rest sent cause.NoRoom split run ref
   no_room = refused.no_room;
 }
 
--- events that were not read
-pub unread_stops : (node : NodeState) (raws : List RawEvent) (c : Cause) → Stops node raws [] c node → EventsStop (Some (whole node.shards)) raws (stopped_by c)
-unread_stops node raws c stops = refused_stops node node raws stops.handled stops.next stops.rest (map sent_of []) c stops.raws_are stops.run stops.refuses
+-- events of which one was not read
+pub unread_stops : (node : NodeState) (raws : List RawEvent) (c : Cause) → HasUnread raws c → EventsStop (Some (whole node.shards)) raws (stopped_by c)
+unread_stops node raws cause.Memory unread = tt
+unread_stops node raws cause.ResetRefused unread = tt
+unread_stops node raws cause.JournalFull unread = tt
+unread_stops node raws cause.NoRoom unread =
+    let lacks = unread.refuses (record node { shards = [] }) in
+    let none : None ≡ Some lacks.shard = lacks.is_for.stands in
+    absurd cc
 
 -- ---- one event by itself
 

@@ -18,3 +18,4 @@ pub mod Running
 pub mod Ids
 pub mod Replaying
 pub mod Resuming
+pub mod Examples

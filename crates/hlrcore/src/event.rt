@@ -1,11 +1,11 @@
 //! Events: the inputs of the register.
 
-ghost use Rattle.std.specs.Prelude.{◌≡◌, IfOk};
+ghost use Rattle.std.specs.Prelude.{◌≡◌, IfErr, IfOk};
 ghost use Rattle.frames.specs.Octets as frames;
 ghost use Rattle.frames.specs.Octets.{IsEvent};
 ghost use Rattle.hlrcore.specs.Events.{raw_event, raw_of, event_of};
 ghost use Rattle.hlrcore.specs.Spent.{spent};
-ghost use Rattle.hlrcore.specs.Taken.{IfRead};
+ghost use Rattle.hlrcore.specs.Taken.{IfRead, IsEventFault};
 
 use crate::change::Change;
 use crate::shard_number::ShardNumber;
@@ -81,11 +81,12 @@ impl RawEvent {
 }
 
 impl Event {
-    /// The event, with its frame decoded in the arena, which is then reset.
+    /// The event, with its frame decoded in the arena, which is then reset. `ResetRefused` comes of a frame alone.
     pub fn of(alloc: Global, bump: &mut Bump, raw: &RawEvent) -> Result<Event, EventFault>
         // It is that event, as the machine has it.
         ensures same { IfRead result (λ event. raw_of event ≡ raw_event raw.now) }
         ensures read { IfRead result (λ event. IsEvent (raw_event raw.now) (event_of event)) }
+        ensures refused { IfErr result (IsEventFault (raw_event raw.now)) }
     {
         Event::of_owned(alloc, bump, raw.try_copy(alloc)?)
     }
@@ -94,6 +95,7 @@ impl Event {
     pub fn of_owned(alloc: Global, bump: &mut Bump, raw: RawEvent) -> Result<Event, EventFault>
         ensures same { IfRead result (λ event. raw_of event ≡ raw_event raw) }
         ensures read { IfRead result (λ event. IsEvent (raw_event raw) (event_of event)) }
+        ensures refused { IfErr result (IsEventFault (raw_event raw)) }
     {
         match raw {
             RawEvent::Frame { from, octets } => read_frame(alloc, bump, from, octets),
@@ -155,6 +157,7 @@ fn read_frame(
     ensures same { IfRead result (λ event. raw_of event ≡ frames.RawFrame from octets.items) }
     ensures read { IfRead result (λ event. IsEvent (frames.RawFrame from octets.items)
         (event_of event)) }
+    ensures refused { IfErr result (IsEventFault (frames.RawFrame from octets.items)) }
 {
     match Round::take_owned(alloc, bump, from, octets) {
         Ok(indication) => Ok(Event::Frame(indication)),

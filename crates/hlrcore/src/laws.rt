@@ -4,6 +4,7 @@ ghost use Rattle.std.specs.Prelude.{◌≡◌, ◌%◌, ℕ, List, [], ◌∷◌
 ghost use Rattle.frames.specs.Octets.{RawEvent};
 ghost use Rattle.tidalloc.specs.LiveIds.{next_generation, next_id, unused};
 ghost use Rattle.hlrcore.specs.declared.answer.StepAnswer.{StepAnswer};
+ghost use Rattle.hlrcore.specs.Examples.{FirstIds};
 ghost use Rattle.hlrcore.specs.Ids.{first_generation};
 ghost use Rattle.hlrcore.specs.Replaying.{IsAlike, Runs};
 ghost use Rattle.hlrcore.specs.Shards.{ShardState};
@@ -28,4 +29,9 @@ pub fn law_starts()
     ensures second { next_id 3 (unused (first_generation 1)) ≡ Some (3 ∷ 158 ∷ 64 ∷ 0 ∷ []) }
     ensures third { next_id 3 (unused (first_generation 2)) ≡ Some (3 ∷ 60 ∷ 128 ∷ 0 ∷ []) }
     ensures round { next_id 3 (unused (first_generation 4095)) ≡ Some (3 ∷ 0 ∷ 16 ∷ 0 ∷ []) }
+{}
+
+/// Worked example: the id under which the first dialogue of shard 3 opens is the one that was next before the step.
+pub fn law_first_ids()
+    ensures { FirstIds }
 {}

@@ -51,7 +51,7 @@ pub use continuing::plan_continue;
 pub use event::{Event, EventFault, RawEvent};
 pub use expiry::{nothing_is_due, plan_expiry};
 pub use fault::StepFault;
-pub use laws::{law_replayed, law_starts, law_starts_apart};
+pub use laws::{law_first_ids, law_replayed, law_starts, law_starts_apart};
 pub use out_list::OutList;
 pub use parts::ShardParts;
 pub use plan::{Named, Plan};

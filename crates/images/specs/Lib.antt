@@ -7,3 +7,4 @@ pub mod Seen
 pub mod Texts
 pub mod Same
 pub mod Beginnings
+pub mod Examples

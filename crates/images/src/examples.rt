@@ -1,4 +1,4 @@
-//! Worked examples: how shards begin, and what lines make of a shard as far as it was read.
+//! Worked examples: how shards begin, what lines make of a shard as far as it was read, and the image of a shard, octet for octet.
 
 ghost use Rattle.std.specs.Prelude.{◌≡◌, ℕ, List, [], ◌∷◌, Some, length, pos, slice_get};
 ghost use Rattle.machine.specs.State.{Invocation, OperationSent, WaitForReject};
@@ -8,6 +8,7 @@ ghost use Rattle.dialogues.specs.Dialogues.{next_of};
 ghost use Rattle.hlrcore.specs.Shards.{ShardState};
 ghost use Rattle.image_lines.specs.Lines.{End, Shard, Used, Waits};
 ghost use Rattle.images.specs.Beginnings.{beginning, beginnings};
+ghost use Rattle.images.specs.Examples.{MarkedUpdates};
 ghost use Rattle.images.specs.Same.{AreSameShards};
 ghost use Rattle.images.specs.Reading.{Begins, Ends, HasIds, HasOpened, Reading, Takes, Whole, reading, with_ids};
 
@@ -55,4 +56,9 @@ pub fn law_beginnings()
     ensures other { (s : ShardState) → s.shard ≡ 1
         → AreSameShards (s ∷ []) (record s { shard = 2 } ∷ []) → ⊥ }
     ensures fewer { (s : ShardState) → AreSameShards (s ∷ s ∷ []) (s ∷ []) → ⊥ }
+{}
+
+/// The image of a shard with one open update. Its line has the mark `*` exactly if it is the current update of its subscriber.
+pub fn law_marked_updates()
+    ensures { MarkedUpdates }
 {}

@@ -12,7 +12,7 @@ mod reading;
 mod so_far;
 mod write;
 
-pub use examples::{law_beginnings, law_first_lines, law_later_lines};
+pub use examples::{law_beginnings, law_first_lines, law_later_lines, law_marked_updates};
 pub use fault::ImageFault;
 pub use laws::{law_images, law_read_again};
 pub use read::read_image;

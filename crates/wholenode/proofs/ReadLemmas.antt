@@ -7,14 +7,15 @@ use Rattle.hlrcore.specs.declared.event.EventFault.{EventFault}
 use Rattle.hlrcore.specs.declared.event.EventFault.TheVariants as fault
 use Rattle.hlrcore.specs.declared.event.RawEvent as code
 use Rattle.hlrcore.specs.Events.{event_of, raw_event, raw_of}
+use Rattle.hlrcore.specs.Taken.{IsEventFault}
 use Rattle.shardlog.specs.declared.entry.Handled.{Handled}
 use Rattle.wholenode.specs.declared.fault.Cause.{Cause}
 use Rattle.wholenode.specs.Causes.{unread}
-use Rattle.wholenode.specs.Handling.{Refuses, Runs, Stops, Takes}
+use Rattle.wholenode.specs.Handling.{Refuses, Runs, Takes}
 use Rattle.wholenode.specs.Keeping.{NodeKeeps}
 use Rattle.wholenode.specs.Nodes.{NodeState}
-use Rattle.wholenode.specs.Reading.{AreRead}
-use Rattle.wholenode.proofs.RunLemmas.{each_more, stops_at}
+use Rattle.wholenode.specs.Reading.{AreRead, HasUnread}
+use Rattle.wholenode.proofs.RunLemmas.{each_more}
 
 -- ---- events are read
 
@@ -33,16 +34,20 @@ read_next front all raw event read same is =
     subst (λ (raws : List RawEvent). AreRead raws (all ++ event ∷ [])) (sym (map-append raw_event front (raw ∷ [])))
     (read_more (map raw_event front) all (raw_event raw) event read same is)
 
--- where one is not read, none is handled: the register stops at the first of them
-pub stops_unread : (node : NodeState) (events front back : List code.RawEvent) (raw : code.RawEvent) (cause : Cause) → front ++ raw ∷ back ≡ events
-    → ((r : RawEvent) → Refuses node r cause) → Stops node (map raw_event events) [] cause node
-stops_unread node events [] back raw cause is refused = stops_at node node events [] back raw [] cause is refl (refused (raw_event raw))
-stops_unread node events (first ∷ front) back raw cause is refused =
-    stops_at node node events [] (front ++ raw ∷ back) first [] cause is refl (refused (raw_event first))
+-- one of them is not
+pub has_unread : (events front back : List code.RawEvent) (raw : code.RawEvent) (cause : Cause) → front ++ raw ∷ back ≡ events
+    → ((node : NodeState) → Refuses node (raw_event raw) cause) → HasUnread (map raw_event events) cause
+has_unread events front back raw cause is refused = record {
+  before = map raw_event front;
+  refused = raw_event raw;
+  rest = map raw_event back;
+  raws_are = ap (map raw_event) (sym is) ∙ map-append raw_event front (raw ∷ back);
+  refuses = refused;
+}
 
-pub unread_refuses : (node : NodeState) (f : EventFault) (raw : RawEvent) → Refuses node raw (unread f)
-unread_refuses node fault.Memory raw = tt
-unread_refuses node (fault.ResetRefused event) raw = tt
+pub unread_refuses : (node : NodeState) (f : EventFault) (raw : RawEvent) → IsEventFault raw f → Refuses node raw (unread f)
+unread_refuses node fault.Memory raw is = tt
+unread_refuses node (fault.ResetRefused event) raw is = is
 
 -- ---- those that were read are handled one after another
 

@@ -121,7 +121,7 @@ split : (events : List code.RawEvent) (i : ℕ) (event : code.RawEvent) → i < 
     → events ≡ take i events ++ event ∷ drop (suc i) events
 split events i event lt is = split_at events i event lt ∙ ap (λ (e : code.RawEvent). take i events ++ e ∷ drop (suc i) events) (sym is)
 
-pub stops_at : (before after : NodeState) (events front back : List code.RawEvent) (event : code.RawEvent) (done : List Handled) (cause : Cause)
+stops_at : (before after : NodeState) (events front back : List code.RawEvent) (event : code.RawEvent) (done : List Handled) (cause : Cause)
     → front ++ event ∷ back ≡ events → Runs before (map raw_event front) done after → Refuses after (raw_event event) cause
     → Stops before (map raw_event events) done cause after
 stops_at before after events front back event done cause is runs refused = record {

@@ -7,6 +7,7 @@ use Rattle.machine.specs.Step.{HasNoRoom}
 use Rattle.frames.specs.Octets.{RawEvent, RawEntry, RawOut, IsEvent, IsRouted, RunOctets, StepOctets}
 use Rattle.frames.specs.OctetJournals.{RawEpoch}
 use Rattle.hlrcore.specs.Shards.{directory_of}
+use Rattle.hlrcore.specs.Taken.{HasFrame}
 use Rattle.shardlog.specs.declared.entry.Epoch.{Epoch}
 use Rattle.shardlog.specs.declared.entry.Handled.{Handled}
 use Rattle.shardlog.specs.declared.keep.Keep.TheVariants.{Entries}
@@ -70,10 +71,11 @@ pub record LacksStep (node : NodeState) (raw : RawEvent) : Type 0 where
   pub is_event : IsEvent raw event
   pub no_room : HasNoRoom (whole node.shards) event
 
--- Why an event is refused, apart from memory: the journal of its shard is full, or the machine has no step for it.
+-- Why an event is refused: memory can run out with every one, and after a frame alone the arena can be refused its reset; the journal of its shard is full,
+-- or the machine has no step for it.
 abbrev pub Refuses : NodeState → RawEvent → Cause → Type 0
 Refuses node raw Memory = Unit {0}
-Refuses node raw ResetRefused = Unit {0}
+Refuses node raw ResetRefused = HasFrame raw
 Refuses node raw JournalFull = (n : ℕ) × (l : Log) × IsFor node raw n l × IsFullJournal l
 Refuses node raw NoRoom = LacksStep node raw
 

@@ -17,7 +17,7 @@ pub enum Cause {
     /// The journal of the event's shard is full: it has 65,536 entries.
     #[error("the journal is full")]
     JournalFull,
-    /// The arena could not be reset.
+    /// The arena could not be reset after a frame.
     #[error("the arena could not be reset")]
     ResetRefused,
     /// An operator's change would open a dialogue, and the shard is full: 4,096 dialogues are open.

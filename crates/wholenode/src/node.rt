@@ -123,7 +123,8 @@ impl Node {
     ///
     /// - `JournalFull`: the journal of its shard has 65,536 entries, until `cut`.
     /// - `NoRoom`: it is an operator's change for which the machine has no step: it would open a dialogue beside 4,096.
-    /// - `Memory` and `ResetRefused`: out of memory.
+    /// - `Memory`: out of memory.
+    /// - `ResetRefused`: it is a frame, after which the arena could not be reset.
     ///
     /// Limitation: after a fault the arena's contents are unspecified. Use a new one then.
     pub fn run(&mut self, bump: &mut Bump, events: &[RawEvent]) -> Result<Vec<Handled>, NodeFault>
@@ -168,7 +169,8 @@ impl Node {
     ///
     /// - `JournalFull`: the journal of its shard has 65,536 entries, until `cut`.
     /// - `NoRoom`: it is an operator's change for which the machine has no step: it would open a dialogue beside 4,096.
-    /// - `Memory` and `ResetRefused`: out of memory.
+    /// - `Memory`: out of memory.
+    /// - `ResetRefused`: it is a frame, after which the arena could not be reset.
     ///
     /// Limitation: after a fault the arena's contents are unspecified. Use a new one then.
     pub fn take(&mut self, bump: &mut Bump, raw: RawEvent) -> Result<Handled, Cause>

@@ -2,9 +2,7 @@
 
 ghost use Rattle.std.specs.Prelude.{◌≡◌, ◌≢◌, [], map, Err, IfErr, OnOk};
 ghost use Rattle.hlrcore.specs.Events.{raw_event};
-ghost use Rattle.wholenode.specs.Handling.{Stops};
-ghost use Rattle.wholenode.specs.Nodes.{NodeState};
-ghost use Rattle.wholenode.specs.Reading.{AreRead};
+ghost use Rattle.wholenode.specs.Reading.{AreRead, HasUnread};
 
 use crate::fault::{Cause, unread};
 use bumpalo::Bump;
@@ -12,7 +10,10 @@ use hlrcore::{Event, RawEvent};
 use std::alloc::Global;
 
 /// Reads events, which are taken out of their list, for `Node::handle`: each frame is decoded in the arena. They stand in `read` then,
-/// in place of what was there. If memory runs out, the events are dropped.
+/// in place of what was there. On error the events are dropped.
+///
+/// - `Memory`: out of memory.
+/// - `ResetRefused`: one of them is a frame, after which the arena could not be reset.
 ///
 /// Both lists keep their buffers, so that the next events need none of their own.
 ///
@@ -25,9 +26,8 @@ pub fn read_lot(
     read: &mut Vec<Event>,
 ) -> Result<(), Cause>
     ensures read { OnOk result (AreRead (map raw_event events.old.items) read.new.items) }
-    // Whatever the register is, it stops at the first of them.
-    ensures stops { IfErr result (λ cause. (node : NodeState)
-        → Stops node (map raw_event events.old.items) [] cause node) }
+    // One of them is refused, whatever the register is.
+    ensures unread { IfErr result (HasUnread (map raw_event events.old.items)) }
     ensures never_full { result ≢ Err Cause.JournalFull }
     ensures emptied { events.new.items ≡ [] }
 {
@@ -44,8 +44,7 @@ fn read_taken(
 ) -> Result<(), Cause>
     requires { read.old.items ≡ [] }
     ensures read { OnOk result (AreRead (map raw_event events.old.items) read.new.items) }
-    ensures stops { IfErr result (λ cause. (node : NodeState)
-        → Stops node (map raw_event events.old.items) [] cause node) }
+    ensures unread { IfErr result (HasUnread (map raw_event events.old.items)) }
     ensures never_full { result ≢ Err Cause.JournalFull }
     ensures emptied { events.new.items ≡ [] }
 {

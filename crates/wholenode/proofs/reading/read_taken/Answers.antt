@@ -7,7 +7,7 @@ use Rattle.wholenode.specs.declared.fault.Cause.{Cause}
 use Rattle.wholenode.specs.declared.fault.Cause.TheVariants.{Memory}
 use Rattle.wholenode.specs.Handling.{Refuses}
 use Rattle.wholenode.specs.Reading.{AreRead}
-use Rattle.wholenode.proofs.ReadLemmas.{read_next, stops_unread, unread_refuses}
+use Rattle.wholenode.proofs.ReadLemmas.{has_unread, read_next, unread_refuses}
 use Rattle.wholenode.proofs.reading.read_taken.Goals as goal
 
 pub loop-raw-preserved : goal.loop-raw-preserved
@@ -22,15 +22,16 @@ loop-raw-preserved c =
           (read_next c.loop-raw.yielded c.loop-raw.read.items c.in-Some.raw c.in-Ok.event at.read c.in-Ok.ensures.same c.in-Ok.ensures.read);
     }
 
-pub returns-then-is_err-clause-stops : goal.returns-then-is_err-clause-stops
-returns-then-is_err-clause-stops c = λ node.
+pub returns-then-is_err-clause-unread : goal.returns-then-is_err-clause-unread
+returns-then-is_err-clause-unread c =
     let left : drain_items c.loop-raw.raw-iterator ≡ c.in-Some.raw ∷ drain_items c.next.new.self = search rules in
-    stops_unread node c.args.events.now.items c.loop-raw.yielded (drain_items c.next.new.self) c.in-Some.raw Memory
-    (ap (λ (l : List RawEvent). c.loop-raw.yielded ++ l) (sym left) ∙ c.loop-raw.invariant.whole) (λ r. tt)
+    has_unread c.args.events.now.items c.loop-raw.yielded (drain_items c.next.new.self) c.in-Some.raw Memory
+    (ap (λ (l : List RawEvent). c.loop-raw.yielded ++ l) (sym left) ∙ c.loop-raw.invariant.whole) (λ node. tt)
 
-pub returns-in-Err-clause-stops : goal.returns-in-Err-clause-stops
-returns-in-Err-clause-stops c = λ node.
+pub returns-in-Err-clause-unread : goal.returns-in-Err-clause-unread
+returns-in-Err-clause-unread c =
     let left : drain_items c.loop-raw.raw-iterator ≡ c.in-Some.raw ∷ drain_items c.next.new.self = search rules in
-    stops_unread node c.args.events.now.items c.loop-raw.yielded (drain_items c.next.new.self) c.in-Some.raw c.unread.result
+    has_unread c.args.events.now.items c.loop-raw.yielded (drain_items c.next.new.self) c.in-Some.raw c.unread.result
     (ap (λ (l : List RawEvent). c.loop-raw.yielded ++ l) (sym left) ∙ c.loop-raw.invariant.whole)
-    (λ r. subst (λ (cause : Cause). Refuses node r cause) (sym c.unread.ensures) (unread_refuses node c.in-Err.fault r))
+    (λ node. subst (λ (cause : Cause). Refuses node (raw_event c.in-Some.raw) cause) (sym c.unread.ensures)
+    (unread_refuses node c.in-Err.fault (raw_event c.in-Some.raw) c.in-Err.ensures.refused))

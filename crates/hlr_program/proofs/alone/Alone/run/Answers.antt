@@ -71,4 +71,4 @@ returns-in-Err-clause-stops c =
     let raws : List RawEvent = map raw_event c.self.inside.gathered.items in
     lot_stops c.args.self.now c.self.inside.node c.begin_part.new.node c.args.answers.now raws c.stopped.result c.self.view_is c.begin_part.ensures.ran
     (subst (λ (f : Fault). EventsStop (Some (whole c.begin_part.new.node.shards)) raws f) (sym c.stopped.ensures)
-    (unread_stops c.begin_part.new.node raws c.in-Err.cause (c.in-Err.ensures.stops c.begin_part.new.node)))
+    (unread_stops c.begin_part.new.node raws c.in-Err.cause c.in-Err.ensures.unread))
