@@ -1,10 +1,11 @@
 -- The shards at the beginning.
 use Rattle.std.proofs.Common.{◌≡◌, ℕ, ◌+◌, ◌<◌, zero, suc, List, [], ◌∷◌, ◌++◌, length, length-append, refl, sym, ap, subst, ◌∙◌, append_assoc, arith, inl, inr, eq-eqb, Bool, true, false, cond, ◌==◌}
 use Rattle.std.specs.Prelude.{Some, None, map as each, slice_get, nat_lt}
-use Rattle.std.specs.List.{AllByRecursion}
+use Rattle.std.specs.List.{All}
 use Rattle.std.proofs.lemmas.Bool.{both_ways, ltb-true}
 use Rattle.std.proofs.lemmas.List.{length-map}
-use Rattle.std.proofs.lemmas.Option.{get_or_from_slice_get, same_Some}
+use Rattle.std.proofs.lemmas.List.Elements.{All-get_or}
+use Rattle.std.proofs.lemmas.Option.{get_or_from_slice_get, same_Some, slice_get_within}
 use Rattle.std.proofs.Math.Seq.{get_or-append_seam}
 use Rattle.machine.specs.Keys.{shard_of, shard_of_id}
 use Rattle.machine.specs.Opening.{opening}
@@ -86,11 +87,8 @@ logs_at keep [] (suc n) l e = absurd cc
 logs_at keep (s ∷ ss) zero l e = (s, refl, sym (same_Some (fresh keep s) l e))
 logs_at keep (s ∷ ss) (suc n) l e = logs_at keep ss n l e
 
-pub all_at : {X : Type 0} (P : X → Type 0) (xs : List X) → AllByRecursion P xs → (n : ℕ) (x : X) → slice_get xs n ≡ Some x → P x
-all_at P [] h zero x e = absurd cc
-all_at P [] h (suc n) x e = absurd cc
-all_at P (y ∷ ys) h zero x e = subst P (same_Some y x e) h.0
-all_at P (y ∷ ys) h (suc n) x e = all_at P ys h.1 n x e
+pub all_at : {X : Type 0} (P : X → Type 0) (xs : List X) → All P xs → (n : ℕ) (x : X) → slice_get xs n ≡ Some x → P x
+all_at P xs all n x e = subst P (get_or_from_slice_get xs n x x e) (All-get_or P xs n x (slice_get_within xs n x e) all)
 
 each_push : (keep : Keep) (ss : List ShardState) (s : ShardState) → each (fresh keep) ss ++ fresh keep s ∷ [] ≡ each (fresh keep) (ss ++ s ∷ [])
 each_push keep [] s = refl
@@ -101,19 +99,11 @@ pub push_fresh : (keep : Keep) (ss : List ShardState) (s : ShardState) (shards a
 push_fresh keep ss s shards after l are is pushed =
     pushed ∙ ap (λ z. z ++ l ∷ []) are ∙ ap (λ z. each (fresh keep) ss ++ z ∷ []) is ∙ each_push keep ss s
 
-pub push_all : {X : Type 0} (P : X → Type 0) (xs : List X) (x : X) → AllByRecursion P xs → P x → AllByRecursion P (xs ++ x ∷ [])
-push_all P [] x all is = (is, tt)
-push_all P (y ∷ xs) x all is = (all.0, push_all P xs x all.1 is)
-
-pub none_of : {X : Type 0} (xs : List X) → length xs ≡ 0 → xs ≡ []
-none_of [] none = refl
-none_of (x ∷ xs) none = absurd (omega (arith, none))
-
 pub as_many : (keep : Keep) (states : List ShardState) (shards : List Log) → shards ≡ each (fresh keep) states → length shards ≡ length states
 as_many keep states shards are = ap length are ∙ length-map states (fresh keep)
 
 pub are_opening : (loaded : Subscribers) (keep : Keep) (start : ℕ) (states : List ShardState) (shards : List Log) → AreBeginning loaded start 16 states
-    → shards ≡ each (fresh keep) states → AllByRecursion LogKeeps shards → AreOpening loaded keep start 16 shards
+    → shards ≡ each (fresh keep) states → All LogKeeps shards → AreOpening loaded keep start 16 shards
 are_opening loaded keep start states shards begin are keeps = record {
   length_is = as_many keep states shards are ∙ begin.length_is;
   each = λ n l e.

@@ -1,7 +1,7 @@
 -- The shards of a register that goes on where an image was made.
 use Rattle.std.proofs.Common.{◌≡◌, ◌≢◌, ◌+◌, ◌∷◌, ℕ, zero, suc, List, [], length, refl, sym, ap, ap₂, ◌∙◌, subst, arith}
 use Rattle.std.specs.Prelude.{Some, map as each, slice_get}
-use Rattle.std.specs.List.{AllByRecursion, range_with_len}
+use Rattle.std.specs.List.{All, AllByRecursion, range_with_len}
 use Rattle.std.proofs.lemmas.Option.{same_Some}
 use Rattle.records.specs.Loaded.{Subscribers}
 use Rattle.records.specs.Maps.{DirectoryMap}
@@ -65,7 +65,7 @@ same_place (s ∷ ss) (u ∷ ts) h (suc n) t e = same_place ss ts h.1 n t e
 
 pub restored_shards : (loaded : Subscribers) (keep : Keep) (start : ℕ) (directory : DirectoryMap) (begin whole : List ShardState) (shards : List Log)
     → directory ≡ loaded.directory → AreBeginning loaded start 16 begin → AreSameShards begin whole → shards ≡ each (fresh keep) whole
-    → AllByRecursion LogKeeps shards → AreShards directory shards
+    → All LogKeeps shards → AreShards directory shards
 restored_shards loaded keep start directory begin whole shards same beginning same_ones are keeps = record {
   hlr = loaded.hlr;
   count = as_many keep whole shards are ∙ same_many begin whole same_ones ∙ beginning.length_is;

@@ -1,8 +1,7 @@
 //! The shards at the beginning.
 
-ghost use Rattle.std.specs.Prelude.{◌≡◌, ◌<◌, IfOk, map as each};
+ghost use Rattle.std.specs.Prelude.{◌≡◌, ◌<◌, All, IfOk, map as each};
 ghost use Rattle.std.specs.Arc.{arc_value};
-ghost use Rattle.std.specs.List.{AllByRecursion};
 ghost use Rattle.records.specs.Fresh.{AreFresh};
 ghost use Rattle.records.specs.Maps.{RecordMap, part_of};
 ghost use Rattle.shardlog.specs.Log.{LogKeeps, fresh};
@@ -62,7 +61,7 @@ pub(crate) fn with_journals(
     keep: Keep,
 ) -> Result<Vec<Shard>, AllocError>
     ensures shards { IfOk result (λ shards. shards.items ≡ each (fresh keep) states.items) }
-    ensures keeps { IfOk result (λ shards. AllByRecursion LogKeeps shards.items) }
+    ensures keeps { IfOk result (λ shards. All LogKeeps shards.items) }
 {
     let mut shards = Vec::with_capacity(alloc, states.len())?;
     for state in states {

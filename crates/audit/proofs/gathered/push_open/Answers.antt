@@ -6,7 +6,8 @@ use Rattle.dialogues.specs.Dialogues.{dialogues_of, invocations_in}
 use Rattle.dialogues.specs.Seen.{dialogue_with}
 use Rattle.audit.specs.Gathered.{opened, told_back}
 use Rattle.audit.specs.Listing.{Open}
-use Rattle.audit.proofs.Entries.{is_open, pushed_open}
+use Rattle.images.proofs.OpenEntries.{is_open}
+use Rattle.audit.proofs.Entries.{pushed_open}
 use Rattle.audit.proofs.gathered.push_open.Goals as goal
 
 pub unreachable-requires : goal.unreachable-requires

@@ -1,8 +1,10 @@
 use Rattle.std.proofs.Common.{rules, ◌≡◌, ◌∷◌, ◌++◌, [], length, sym, ap, subst, ◌∙◌, append_assoc, append-nil}
 use Rattle.std.specs.Prelude.{map as each}
-use Rattle.std.specs.List.{AllByRecursion}
+use Rattle.std.specs.List.{All}
+use Rattle.std.proofs.lemmas.List.{nil_from_length}
+use Rattle.std.proofs.lemmas.List.Elements.{All-nil, All-push}
 use Rattle.shardlog.specs.Log.{LogKeeps, fresh}
-use Rattle.wholenode.proofs.OpeningLemmas.{none_of, push_all, push_fresh}
+use Rattle.wholenode.proofs.OpeningLemmas.{push_fresh}
 use Rattle.wholenode.proofs.opening.with_journals.Goals as goal
 
 pub loop-state-init : goal.loop-state-init
@@ -11,7 +13,7 @@ loop-state-init c =
       tt,
       tt,
       c.in_ok-shards.ensures.items,
-      subst (AllByRecursion LogKeeps) (sym c.in_ok-shards.ensures.items) tt,
+      subst (All LogKeeps) (sym c.in_ok-shards.ensures.items) (All-nil LogKeeps),
       same,
     )
 
@@ -24,8 +26,8 @@ loop-state-preserved c =
       tt,
       push_fresh c.args.keep c.loop-state.yielded c.in-Some.state c.loop-state.shards.items _ shard at.2 c.in_ok-with_journal.ensures.begins
           c.in_ok-push.ensures.items,
-      subst (AllByRecursion LogKeeps) (sym c.in_ok-push.ensures.items)
-          (push_all LogKeeps c.loop-state.shards.items shard at.3 c.in_ok-with_journal.ensures.keeps),
+      subst (All LogKeeps) (sym c.in_ok-push.ensures.items)
+          (All-push LogKeeps c.loop-state.shards.items shard at.3 c.in_ok-with_journal.ensures.keeps),
       append_assoc c.loop-state.yielded (c.in-Some.state ∷ []) c.next.new.self.rest.items ∙ ap (λ z. c.loop-state.yielded ++ z) (sym left) ∙ at.4,
     )
 
@@ -34,7 +36,7 @@ returns-clause-shards c =
     let at = c.loop-state.invariant in
     let none_left : length c.loop-state.state-iterator.rest.items ≡ 0 = search rules in
     let all : c.loop-state.yielded ≡ c.args.states.items =
-    sym (append-nil c.loop-state.yielded) ∙ ap (λ z. c.loop-state.yielded ++ z) (sym (none_of _ none_left)) ∙ at.4 in
+    sym (append-nil c.loop-state.yielded) ∙ ap (λ z. c.loop-state.yielded ++ z) (sym (nil_from_length _ none_left)) ∙ at.4 in
     at.2 ∙ ap (each (fresh c.args.keep)) all
 
 pub returns-clause-keeps : goal.returns-clause-keeps
