@@ -14,3 +14,4 @@ pub mod Offices
 pub mod Merged
 pub mod Shared
 pub mod SharedFaults
+pub mod Tasks

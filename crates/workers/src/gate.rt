@@ -4,8 +4,8 @@
 /// a job whose event could not be read `inside` is not called.
 ///
 /// Limitation: a gate that waits in `inside` holds the shard's lock meanwhile. In a batch of 32 jobs for each worker or more, a
-/// worker takes several jobs at once and handles them in turn: a gate that holds one of them until a later one is done may wait
-/// forever. No contract says when or whether it is called.
+/// worker takes several jobs at once, and handles those that are for one shard under one lock: a gate that holds one of them until a
+/// later one is done may wait forever. No contract says when or whether it is called.
 pub trait Gate {
     /// The shard that the job is for is locked.
     fn inside(&self, job: u64);

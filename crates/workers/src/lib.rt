@@ -25,6 +25,7 @@ mod settle;
 mod shared;
 mod shared_fault;
 mod swapped;
+mod task;
 mod worker;
 
 pub use account::{Unaccounted, reconcile};

@@ -5,13 +5,13 @@ ghost use Rattle.workers.specs.Lots.{lot_size};
 
 use crate::job::Job;
 
-/// The most jobs of a lot: with so many, the way through the channel costs little beside the jobs.
-const MAX_LOT: usize = 64;
+/// The most jobs of a lot: with so many, the way through the channel and the locks of the shards cost little beside the jobs.
+pub(crate) const MAX_LOT: usize = 64;
 
 /// How many lots each worker has at least, if there are jobs enough: so none waits long for another that has the last one.
 const LOTS_EACH: usize = 16;
 
-/// A thread is started for so many jobs at least, which take as long as to start it.
+/// How many jobs each worker has at least, if there is more than one: they take as long as to start a thread.
 const JOBS_OF_A_START: usize = 32;
 
 /// Which jobs of a batch one worker handles, one after another: `count` jobs, the first of them at the place `from`. The jobs stay

@@ -1,14 +1,15 @@
 //! The locked shards.
 
-use crate::apply::{apply, read};
+use crate::apply::apply;
 use crate::gate::Gate;
-use crate::job::Job;
+use crate::job::{Job, JobNumber};
 use crate::placed::Placed;
 use crate::receipt::Receipt;
 use crate::refusal::Refusal;
 use crate::swapped::first_swapped;
+use crate::task::{Stage, Task};
 use bumpalo::Bump;
-use hlrcore::{ShardNumber, State, route};
+use hlrcore::{Event, ShardNumber, State};
 use records::Loaded;
 use shardlog::Shard;
 use std::alloc::{AllocError, AllocFailed, Global};
@@ -74,8 +75,10 @@ impl Model for Office {
 }
 
 impl Office {
-    ghost use Rattle.std.specs.Prelude.{◌≡◌, ◌<◌, vec_len, All, IfOk, IfSome, Err};
+    ghost use Rattle.std.specs.Prelude.{◌≡◌, ◌<◌, length, slice_index_or, vec_len, All, IfOk, IfSome, Err};
+    ghost use Rattle.frames.specs.Account.{Job};
     ghost use Rattle.records.specs.Maps.{DirectoryMap};
+    ghost use Rattle.hlrcore.specs.Events.{raw_of};
     ghost use Rattle.shardlog.specs.Log.{LogKeeps};
     ghost use Rattle.wholenode.specs.Keeping.{AreShards};
     ghost use Rattle.workers.specs.Answered.{IsAnswered};
@@ -145,44 +148,70 @@ impl Office {
         }
     }
 
-    /// Handles a job, and makes the receipt.
+    /// Reads the jobs of a lot in a worker's arena, and finds the shard of each.
+    pub(crate) fn read_lot<'a>(
+        &self,
+        alloc: Global,
+        bump: &mut Bump,
+        jobs: &'a [Job],
+    ) -> Result<Vec<Task<'a>>, AllocError>
+        ensures { IfOk result (λ tasks. tasks.items ≡ jobs.now) }
+    {
+        let mut tasks = Vec::with_capacity(alloc, jobs.len())?;
+        for job in jobs {
+            tasks.push(Task::new(alloc, bump, self.bases[0].directory(), job))?;
+        }
+        Ok(tasks)
+    }
+
+    /// Makes the receipt of the task at this place of a lot. If it has no answer yet, its event is handled in its shard, and with it the
+    /// later tasks that are for this shard.
     pub(crate) fn answer<R: Wait, G: Gate>(
         &self,
         rt: &R,
-        alloc: Global,
-        bump: &mut Bump,
-        job: &Job,
+        tasks: &mut [Task],
+        place: usize,
         gate: &G,
     ) -> Receipt
-        ensures job { result.job ≡ job.now.number }
+        requires { place < length tasks.old }
+        ensures same { tasks.new ≡ tasks.old }
+        ensures job { (d : Job) → result.job ≡ (slice_index_or tasks.old place d).number }
         // A receipt with a place is for an event that some shard handled.
-        ensures place { IfSome result.place (IsAnswered job.now.event) }
+        ensures place { (d : Job) → IfSome result.place
+            (IsAnswered (slice_index_or tasks.old place d).event) }
     {
-        let answer = self.enter(rt, alloc, bump, job, gate);
-        let receipt = Receipt {
-            job: job.number,
-            answer,
+        let job = tasks[place].number();
+        let answer = match tasks[place].take_stage() {
+            Stage::Answered(answer) => answer,
+            Stage::Read(number, event) => {
+                self.enter(rt, job, number, event, tasks, place + 1, gate)
+            }
         };
-        gate.done(job.number.get());
-        receipt
+        tasks[place].receipt(answer)
     }
 
-    /// Reads a job's event in a worker's arena, and handles it in its shard, under the lock.
+    /// Handles an event in its shard, and after it the tasks from a place on that are for this shard, under one lock.
     fn enter<R: Wait, G: Gate>(
         &self,
         rt: &R,
-        alloc: Global,
-        bump: &mut Bump,
-        job: &Job,
+        job: JobNumber,
+        number: ShardNumber,
+        event: Event,
+        tasks: &mut [Task],
+        from: usize,
         gate: &G,
     ) -> Result<Placed, Refusal>
-        ensures { IfSome (place_of result) (IsAnswered job.now.event) }
+        ensures place { IfSome (place_of result) (IsAnswered (raw_of event)) }
+        ensures same { tasks.new ≡ tasks.old }
     {
-        let mut event = read(alloc, bump, &job.event)?;
-        let place = route(self.bases[0].directory(), &event);
-        let number = ShardNumber::new(place).unwrap();
-        let mut shard = self.locks[usize::from(place)].lock(rt);
-        gate.inside(job.number.get());
-        apply(&mut *shard, number, &mut event)
+        let mut event = event;
+        let mut guard = self.locks[usize::from(number.number())].lock(rt);
+        let shard = &mut *guard;
+        gate.inside(job.get());
+        let answer = apply(shard, number, &mut event);
+        'tasks: for other in from..tasks.len() {
+            tasks[other].handle_in(shard, number, gate);
+        }
+        answer
     }
 }

@@ -103,24 +103,16 @@ impl SharedRegister {
     }
 
     /// Takes the shards out of their locks, if jobs and receipts since the last cut account for their journals. On error the shards
-    /// are dropped.
-    pub fn close(self) -> Result<Vec<Shard>, SharedFault>
+    /// are dropped. The register, which still has the jobs and receipts, must not be used after that.
+    pub fn close(&mut self) -> Result<Vec<Shard>, SharedFault>
         ensures hands_out { IfOk result (λ shards. (begin : State) (events : List octets.RawEvent)
-            (sent : List (List octets.RawOut)) → StandsBehind begin events sent self
+            (sent : List (List octets.RawOut)) → StandsBehind begin events sent self.old
             → HandsOut begin events sent shards.items) }
     {
-        let SharedRegister {
-            alloc: _,
-            office,
-            jobs,
-            receipts,
-            next: _,
-            longest: _,
-        } = self;
-        match office {
-            Some(office) => settle(office, &jobs, &receipts),
-            None => Err(SharedFault::Unaccounted(0)),
-        }
+        let Some(office) = self.office.take() else {
+            return Err(SharedFault::Unaccounted(0));
+        };
+        settle(office, &self.jobs, &self.receipts)
     }
 
     /// Cuts all journals, if one of them has no room for `count` more entries.

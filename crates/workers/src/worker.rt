@@ -8,6 +8,7 @@ ghost use Rattle.workers.specs.Batch.{HasTaken};
 
 use crate::gate::Gate;
 use crate::job::Job;
+use crate::lot::{Lot, MAX_LOT};
 use crate::office::Office;
 use crate::receipt::Receipt;
 use crate::rule::{Receiver, Seat, Takes, Work};
@@ -23,10 +24,10 @@ pub struct Served {
     pub refused: bool,
 }
 
-/// A worker: takes lots of the jobs of a batch from a channel until it takes `Stop`. For a lot it reserves memory for the receipts; for each job
-/// of it, it reads the event in its own arena, locks the event's shard, and handles it there. The receipts are, in order, for the
-/// jobs that its pass took. If memory for receipts runs out, they are for the first of these; it then goes on taking lots without
-/// touching a shard.
+/// A worker: takes lots of the jobs of a batch from a channel until it takes `Stop`. For a lot it reserves memory for the receipts, and reads
+/// the events in its own arena; then it locks each shard that some of them are for once, and handles these there, in their order. The
+/// receipts are, in order, for the jobs that its pass took. If memory for a lot runs out, they are for the jobs before it; it then goes on
+/// taking lots without touching a shard.
 ///
 /// Limitation: no contract says what a lock held, so none says that a receipt has its entry; `reconcile` finds out. Progress is
 /// not claimed: a call that waits for a message or a lock may wait forever.
@@ -64,7 +65,7 @@ pub fn serve<R: Wait, G: Gate>(
         };
         if !refused {
             let jobs = lot.of(jobs);
-            refused = answer_all(rt, alloc, office, &mut bump, jobs, gate, &mut receipts).is_err();
+            refused = answer_lot(rt, alloc, office, &mut bump, jobs, gate, &mut receipts).is_err();
         }
     }
     unreachable!()
@@ -82,12 +83,19 @@ pub(crate) fn serve_alone<R: Wait, G: Gate>(
 {
     let mut bump = Bump::new(alloc);
     let mut receipts = Vec::new(alloc);
-    answer_all(rt, alloc, office, &mut bump, jobs, gate, &mut receipts)?;
+    let mut from = 0;
+    while from < jobs.len() {
+        let count = MAX_LOT.min(jobs.len() - from);
+        let lot = Lot { from, count }.of(jobs);
+        answer_lot(rt, alloc, office, &mut bump, lot, gate, &mut receipts)?;
+        from += count;
+    }
     Ok(receipts)
 }
 
-/// Handles jobs, and appends their receipts. If there is no memory for these, no job is handled.
-fn answer_all<R: Wait, G: Gate>(
+/// Handles the jobs of a lot, and appends their receipts, in the order of the jobs. All events are read first, while the code that reads
+/// them is near; then each shard that some are for is locked once. If there is no memory for the receipts, no job is handled.
+fn answer_lot<R: Wait, G: Gate>(
     rt: &R,
     alloc: Global,
     office: &Office,
@@ -101,8 +109,12 @@ fn answer_all<R: Wait, G: Gate>(
     ensures err { OnErr result (receipts.new.items ≡ receipts.old.items) }
 {
     receipts.reserve(jobs.len())?;
-    for job in jobs {
-        receipts.push_reserved(office.answer(rt, alloc, bump, job, gate));
+    let mut tasks = office.read_lot(alloc, bump, jobs)?;
+    for place in 0..jobs.len() {
+        let receipt = office.answer(rt, &mut tasks, place, gate);
+        let job = receipt.job;
+        receipts.push_reserved(receipt);
+        gate.done(job.get());
     }
     Ok(())
 }

@@ -1,7 +1,7 @@
-use Rattle.std.proofs.Common.{arith, ap, refl, ◌∙◌, ◌+◌, ◌-◌, ◌≡◌, subst, sym}
+use Rattle.std.proofs.Common.{arith, ap, ◌+◌, ◌-◌, ◌≡◌, subst, sym}
 use Rattle.crossbeam_channel.specs.Claims.{view}
 use Rattle.workers.specs.Batch.{stops_in}
-use Rattle.workers.specs.Hands.{hand, IsBatch}
+use Rattle.workers.specs.Hands.{IsBatch}
 use Rattle.workers.proofs.Batches.{batch_lots}
 use Rattle.workers.proofs.Moves.{hires}
 use Rattle.workers.proofs.Stops.{stop_taken, stops_sent}

@@ -15,10 +15,10 @@ returns-in-Stop-clause-taken g c = stopped _ _ _ _ _ _ _ c.loop.invariant.1 c.in
 
 pub loop-preserved-then-not-refused : goal.loop-preserved-then-not-refused
 loop-preserved-then-not-refused g c =
-    let kept : OnErr c.answer_all.result (map (λ r. r.job) c.answer_all.new.receipts.items ≡ map (λ r. r.job) c.loop.receipts.items) = search rules in (
+    let kept : OnErr c.answer_lot.result (map (λ r. r.job) c.answer_lot.new.receipts.items ≡ map (λ r. r.job) c.loop.receipts.items) = search rules in (
       c.in-Ok.ensures.channel.0,
-      answered c.answer_all.result _ _ _ _ _ _ _ _ _ _ c.of-jobs.ensures c.loop.invariant.1 c.if-not-refused.true c.in-Ok.ensures.rule c.in-Do.is
-          c.answer_all.ensures.ok kept c.is_err-refused.ensures.value,
+      answered c.answer_lot.result _ _ _ _ _ _ _ _ _ _ c.of-jobs.ensures c.loop.invariant.1 c.if-not-refused.true c.in-Ok.ensures.rule c.in-Do.is
+          c.answer_lot.ensures.ok kept c.is_err-refused.ensures.value,
     )
 
 pub loop-preserved : goal.loop-preserved
