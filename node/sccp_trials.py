@@ -70,22 +70,48 @@ def idle(ends, folder, programs):
     return f"{STARTS} starts"
 
 
+def stp_dies(ends, folder, stp, it, vlr):
+    """The STP is killed and started again, and the peer comes back; the new one."""
+    stp.kill()
+    it.waits_for("away, ")
+    again = started_stp(ends, folder, "ipa")
+    it.waits_for(" up, ", 2)
+    it.waits_for_stp()
+    vlr.peer = Peer()
+    return again
+
+
+def node_dies(it, vlr, is_held):
+    """The node is killed and started again; before, commits may wait, so that what goes out too early is not there afterwards."""
+    lock = it.locked() if is_held else None
+    if lock:
+        vlr.play(RATE, 0.2)
+    it.kill()
+    if lock:
+        lock.close()
+    it.start()
+
+
+def peer_dies(vlr):
+    vlr.peer.socket.close()
+    vlr.peer = Peer()
+
+
 def killed(ends, folder, programs):
+    """The node, the node while commits wait, the STP and the peer are killed in turn."""
     pick = random.Random(1)
-    _, it = started(ends, folder, programs, records=many(folder))
+    stp, it = started(ends, folder, programs, records=many(folder))
     vlr = Vlr(Peer(), SUBSCRIBERS)
     for death in range(DEATHS):
         vlr.play(RATE, pick.uniform(0.5, 1.5))
-        if death % 2:  # with commits that wait, so that what goes out too early is not there afterwards
-            lock = it.locked()
-            vlr.play(RATE, 0.2)
-            it.kill()
-            lock.close()
+        if death % 4 < 2:
+            node_dies(it, vlr, death % 2)
+        elif death % 4 == 2:
+            stp = stp_dies(ends, folder, stp, it, vlr)
         else:
-            it.kill()
+            peer_dies(vlr)
         if death % 5 == 2:
             check(subprocess.run([programs["compact"], f"sqlite:{it.store}"], capture_output=True).returncode == 0, "no image")
-        it.start()
         vlr.compare(LATEST)  # before another update hides what is lost
     vlr.play(RATE, 1)
     vlr.rest(2)
@@ -171,12 +197,7 @@ def away(ends, folder, programs):
     stp, it = started(ends, folder, programs, records=many(folder))
     vlr = Vlr(Peer(), SUBSCRIBERS)
     vlr.play(RATE, 1)
-    stp.kill()
-    it.waits_for("away, ")
-    started_stp(ends, folder, "ipa")
-    it.waits_for(" up, ", 2)
-    it.waits_for_stp()
-    vlr.peer = Peer()
+    stp_dies(ends, folder, stp, it, vlr)
     return last_second(it, vlr)
 
 
