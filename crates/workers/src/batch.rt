@@ -215,7 +215,7 @@ pub fn numbers_rise(jobs: &[Job]) -> bool
 }
 
 /// Has 1 to 16 workers handle the jobs, but no more than there are jobs. One of them is the caller's thread, and a thread is started for
-/// each other; one worker alone takes the jobs in their order, with no channel. There is one receipt for each job, by ascending number. If a
+/// each other; one worker alone takes lots of them, in order, with no channel. There is one receipt for each job, by ascending number. If a
 /// worker could not be started, or there is no memory for the channel or the receipts, it returns an error after all started workers have
 /// stopped: some jobs may then have been handled without a receipt.
 ///

@@ -71,7 +71,7 @@ pub fn serve<R: Wait, G: Gate>(
     unreachable!()
 }
 
-/// A worker that shares the jobs with nobody: handles them in their order. The receipts are in that order too.
+/// A worker that shares the jobs with nobody: takes them in lots, in their order. The receipts are in that order too.
 pub(crate) fn serve_alone<R: Wait, G: Gate>(
     rt: &R,
     alloc: Global,
