@@ -37,8 +37,8 @@ const MAX_WORKERS: u8 = 16;
 /// those that are started for it are joined.
 ///
 /// Limitation: with workers the contract does not say in which order the events of a batch are handled, what was handled before a
-/// fault, or that a run ends. After a run that ends well the memory of the shards and of their journals is not freed, since a run is
-/// the last thing that a process does.
+/// fault, or that a run ends. After a run that ends well the memory of the shards and of their journals is not freed, and with workers
+/// that of jobs and receipts never is, once the script was run: a run is the last thing that a process does.
 pub fn serve_script<R: Threads + Wait + Sync, A: Read, B: Read, W: Write, E: Write>(
     rt: &R,
     alloc: Global,
