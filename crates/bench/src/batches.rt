@@ -137,7 +137,7 @@ fn time_workers<R: Threads + Wait + Sync>(
     tell(rt, "batch", &start, count)?;
     let shards = office.into_shards().ok().context("shards")?;
     let start = Instant::now(rt)?;
-    reconcile(&shards, &jobs, &receipts)
+    reconcile(threads, workers, &shards, &jobs, &receipts)
         .ok()
         .context("unaccounted")?;
     tell(rt, "reconcile", &start, count)

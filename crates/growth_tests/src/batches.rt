@@ -153,8 +153,8 @@ fn share<R: Threads + Wait + Sync>(
 }
 
 /// The least job that is not accounted for.
-fn least_unaccounted(shards: &[Shard], row: &Row) -> Option<u64> {
-    match reconcile(shards, &row.jobs, &row.receipts) {
+fn least_unaccounted<R: Threads + Sync>(rt: &R, shards: &[Shard], row: &Row) -> Option<u64> {
+    match reconcile(rt, 2, shards, &row.jobs, &row.receipts) {
         Ok(()) => None,
         Err(Unaccounted(number)) => Some(number),
     }
@@ -188,8 +188,8 @@ fn share_all<R: Threads + Wait + Sync>(
 }
 
 /// Whether at most one job ran out of memory, and is the least that is not accounted for.
-fn is_accounted(shards: &[Shard], row: &Row) -> bool {
-    row.lost.count <= 1 && row.lost.last == least_unaccounted(shards, row)
+fn is_accounted<R: Threads + Sync>(rt: &R, shards: &[Shard], row: &Row) -> bool {
+    row.lost.count <= 1 && row.lost.last == least_unaccounted(rt, shards, row)
 }
 
 /// Whether at most one job ran out of memory in some batches (of a batch without receipts its first), and is the least that is not accounted
@@ -202,7 +202,7 @@ fn lose_one_at_most<R: Threads + Wait + Sync>(
     let office = office(alloc)?;
     let mut row = new_row(alloc);
     share_all(rt, alloc, &office, &mut row, given)?;
-    Some(is_accounted(&shards_of(office)?, &row))
+    Some(is_accounted(rt, &shards_of(office)?, &row))
 }
 
 /// At most one job, or one batch, has no entry: the batches after it are unaffected. `reconcile` finds it. (A batch has twenty jobs

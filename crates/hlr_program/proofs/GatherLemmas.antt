@@ -13,7 +13,7 @@ use Rattle.wholenode.specs.Nodes.{whole}
 use Rattle.wholenode.proofs.Places.{there}
 use Rattle.hlr_input.specs.declared.group.Group.{Group}
 use Rattle.hlr_input.specs.declared.group.Group.TheVariants.{Octet, Letter}
-use Rattle.hlr_input.specs.Octets.{IsOctets, are_known, is_known, octets_of, octets_of_group}
+use Rattle.hlr_input.specs.Octets.{are_known, is_known, octets_of, octets_of_group}
 use Rattle.hlr_input.specs.Script.{Line, Frame, Clock, Expire, Batch, Codes, Withdraw, IsLine, HasOctets}
 use Rattle.hlr_program.specs.declared.fault.Fault.{Fault}
 use Rattle.hlr_program.specs.declared.fault.Fault.TheVariants.{CommandLine, UnreadableRecords, BadRecord, TwiceRecord, UnreadableScript, BadLine, NoRoom, Memory, Unaccounted, Output}

@@ -13,5 +13,6 @@ pub mod ScriptLemmas
 pub mod ListLemmas
 pub mod LotLemmas
 pub mod EndLemmas
+pub mod HalfLemmas
 pub mod SoundLemmas
 pub mod OperatorLemmas

@@ -12,9 +12,10 @@ use Rattle.wholenode.specs.Reading.{AreRead}
 use Rattle.wholenode.proofs.ReadLemmas.{read_alone}
 use Rattle.hlr_program.specs.declared.answers.Answers.{Answers}
 use Rattle.hlr_program.specs.declared.fault.Fault.{Fault}
-use Rattle.workers.specs.Shared.{SharedState}
+use Rattle.frames.specs.Account.{Receipt}
+use Rattle.workers.specs.Shared.{GoesOn, SharedState, sent_at, sent_for}
 use Rattle.hlr_program.specs.declared.register.Register.TheVariants.{Alone, Shared}
-use Rattle.hlr_program.specs.Answered.{so_far}
+use Rattle.hlr_program.specs.Answered.{frames_for, so_far}
 use Rattle.hlr_program.specs.Gathered.{Gathered, with_part}
 use Rattle.hlr_program.specs.Gathering.{Adds, AddingStops, progress}
 use Rattle.hlr_program.specs.Journals.{RunsAlone}
@@ -55,6 +56,26 @@ shared_more before register raws more raw answers is put =
     subst (λ (g : Gathered SharedState). Adds (progress (Shared g) answers) (raw ∷ []) (progress (Shared (with_part register more)) answers)) is
     (adds_one (progress (Shared (with_part register raws)) answers) (progress (Shared (with_part register more)) answers) raw
     (ran_none (Shared (with_part register raws))) put refl)
+
+-- what receipts have, as what events send
+frames_of_sent : (receipts : List Receipt) → flat_map (λ o. o) (sent_for receipts) ≡ frames_for receipts
+frames_of_sent [] = refl
+frames_of_sent (r ∷ receipts) = ap (λ (frames : List RawOut). sent_at r.place ++ frames) (frames_of_sent receipts)
+
+-- as many receipts as events
+pub one_receipt_each : (before after : SharedState) (raws : List RawEvent) (receipts : List Receipt) (count : ℕ) → GoesOn before raws (sent_for receipts) after
+    → count ≡ length raws → length receipts ≡ count
+one_receipt_each before after raws receipts count ran is = sym (length-map receipts (λ (r : Receipt). sent_at r.place)) ∙ ran.0 ∙ sym is
+
+-- workers handle a part, and what its receipts have is printed
+pub part_adds : (before : Gathered SharedState) (register after : SharedState) (raws none : List RawEvent) (receipts printed : List Receipt)
+    (answers more : Answers) → with_part register raws ≡ before → GoesOn register raws (sent_for receipts) after → none ≡ [] → printed ≡ receipts
+    → Prints (so_far answers) (frames_for printed) (so_far more)
+    → Adds (progress (Shared before) answers) [] (progress (Shared (with_part after none)) more)
+part_adds before register after raws none receipts printed answers more is ran empty same prints =
+    subst (λ (g : Gathered SharedState). Adds (progress (Shared g) answers) [] (progress (Shared (with_part after none)) more)) is
+    (adds_part (progress (Shared (with_part register raws)) answers) (progress (Shared (with_part after none)) more) (sent_for receipts) ran empty
+    (subst (λ (frames : List RawOut). Prints (so_far answers) frames (so_far more)) (ap frames_for same ∙ sym (frames_of_sent receipts)) prints))
 
 -- room is made, and they are handled
 pub lot_adds : (before after : Gathered NodeState) (node begun : NodeState) (answers more : Answers) (raws : List RawEvent) (outs : List (List RawOut))

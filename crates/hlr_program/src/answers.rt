@@ -1,15 +1,16 @@
 //! What a batch answers, as it is handled.
 
 ghost use Rattle.std.specs.Prelude.{◌≡◌, ◌∷◌, [], OnOk, map};
-ghost use Rattle.std.specs.List.{flat_map};
 ghost use Rattle.hlrcore.specs.Frames.{raw_out};
 ghost use Rattle.hlr_program.specs.Printed.{Prints};
-ghost use Rattle.hlr_program.specs.Answered.{so_far};
+ghost use Rattle.workers.specs.Shared.{sent_at};
+ghost use Rattle.hlr_program.specs.Answered.{frames_for, so_far};
 
 use crate::printed::push_sent;
 use hlr_input::Letters;
-use hlrcore::{Out, OutList};
+use hlrcore::Out;
 use std::alloc::{AllocError, Global};
+use workers::Receipt;
 
 /// The lines of the frames that a batch has sent so far, and the local ids that letters stand for after it. Nothing is printed
 /// yet, so that a batch with a fault prints nothing.
@@ -42,14 +43,24 @@ impl Answers {
         Ok(())
     }
 
-    /// The same for lists of frames, one after the other.
-    pub fn push_lists(&mut self, sent: &[OutList]) -> Result<(), AllocError>
-        ensures { OnOk result (Prints (so_far self.old) (flat_map (λ outs. outs) sent.now) (so_far self.new)) }
+    /// The same for the frames that receipts have, one receipt after the other.
+    pub fn push_receipts(&mut self, receipts: &[Receipt]) -> Result<(), AllocError>
+        ensures { OnOk result (Prints (so_far self.old) (frames_for receipts.now) (so_far self.new)) }
     {
-        for outs in sent {
-            self.push_all(outs.as_slice())?;
+        for receipt in receipts {
+            self.push_receipt(receipt)?;
         }
         Ok(())
+    }
+
+    /// The same for the frames of a receipt, none if its job was refused.
+    fn push_receipt(&mut self, receipt: &Receipt) -> Result<(), AllocError>
+        ensures { OnOk result (Prints (so_far self.old) (sent_at receipt.now.place) (so_far self.new)) }
+    {
+        match &receipt.answer {
+            Ok(placed) => self.push_all(placed.outs.as_slice()),
+            Err(_) => Ok(()),
+        }
     }
 
     /// Appends the line of a frame, and records the local id in it.

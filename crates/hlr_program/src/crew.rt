@@ -127,15 +127,14 @@ impl Crew {
         }
         let next = Vec::with_capacity(self.alloc, self.part.capacity())?;
         let part = mem::replace(&mut self.part, next);
-        let mut sent = Vec::new(self.alloc);
-        match self.register.run_part(rt, self.workers, part, &mut sent) {
-            Ok(()) => Ok(answers.push_lists(&sent)?),
-            Err(fault) => Err(Fault::from(fault)),
-        }
+        let count = part.len();
+        self.register.run_part(rt, self.workers, part)?;
+        answers.push_receipts(self.register.last_receipts(count))?;
+        Ok(())
     }
 
     /// Takes the shards out of their locks, if jobs and receipts account for their journals.
-    pub fn into_shards(self) -> Result<Vec<Shard>, Fault>
+    pub fn into_shards<R: Threads + Sync>(self, rt: &R) -> Result<Vec<Shard>, Fault>
         ensures hands_out { IfOk result (λ shards. (begin : State) (events : List Event)
             (sent : List (List RawOut))
             → StandsBehind begin events sent self.register → HandsOut begin events sent shards.items) }
@@ -143,15 +142,16 @@ impl Crew {
     {
         let Crew {
             alloc: _,
-            mut register,
-            workers: _,
+            register,
+            workers,
             part: _,
         } = self;
-        let closed = register.close();
-        // The process ends soon, and gives back all of its memory at once. To free each job and each receipt takes a tenth of a run.
-        mem::forget(register);
-        match closed {
-            Ok(shards) => Ok(shards),
+        match register.close(rt, workers) {
+            Ok((shards, jobs, receipts)) => {
+                // The process ends soon, and gives back all of its memory at once. To free each job and each receipt takes a tenth of a run.
+                mem::forget((jobs, receipts));
+                Ok(shards)
+            }
             Err(fault) => Err(Fault::at_close(fault)),
         }
     }

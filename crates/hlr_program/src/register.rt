@@ -132,13 +132,13 @@ impl Register {
     }
 
     /// Consumes the register, and returns its shards, indexed by their numbers.
-    pub fn into_shards(self) -> Result<Vec<Shard>, Fault>
+    pub fn into_shards<R: Threads + Sync>(self, rt: &R) -> Result<Vec<Shard>, Fault>
         ensures hands_over { IfOk result (λ shards. HandsOver self shards.items) }
         ensures stops { IfErr result (HandingOutStops (state_known self)) }
     {
         match self {
             Register::Alone(alone) => Ok(alone.into_shards()),
-            Register::Shared(crew) => crew.into_shards(),
+            Register::Shared(crew) => crew.into_shards(rt),
         }
     }
 }

@@ -33,12 +33,13 @@ const MAX_WORKERS: u8 = 16;
 /// Reads the records and the script, runs the script and prints what is sent, batch by batch. A fault is one line on `err`.
 /// Returns the program's exit status: 0 if all was run and printed.
 ///
-/// With 1 to 16 workers that many threads handle each part of a batch, the caller's among them, but no more than one for 32 of its events;
-/// those that are started for it are joined.
+/// With 1 to 16 workers that many threads, the caller's among them, check the script, no more than one for 32,768 of its octets; handle each
+/// part of a batch, no more than one for 32 of its events; and at the end compare the journals with jobs and receipts, no more than one
+/// for 1,024 events. Those that are started for one of these are joined after it.
 ///
 /// Limitation: with workers the contract does not say in which order the events of a batch are handled, what was handled before a
-/// fault, or that a run ends. After a run that ends well the memory of the shards and of their journals is not freed, and with workers
-/// that of jobs and receipts never is, once the script was run: a run is the last thing that a process does.
+/// fault, or that a run ends. Once a script was run to its end, the memory of shards, journals, jobs and receipts is not freed: a run is the
+/// last thing that a process does.
 pub fn serve_script<R: Threads + Wait + Sync, A: Read, B: Read, W: Write, E: Write>(
     rt: &R,
     alloc: Global,
@@ -84,7 +85,7 @@ fn serve<R: Threads + Wait + Sync, A: Read, B: Read, W: Write>(
         return Err(Fault::CommandLine);
     }
     let loaded = load(alloc, records)?;
-    let script = read_script(alloc, script)?;
+    let script = read_script(rt, alloc, usize::from(options.workers), script)?;
     run_loaded(rt, alloc, options, loaded, &script, out)
 }
 
@@ -114,8 +115,13 @@ fn load_text(alloc: Global, text: &[u8]) -> Result<Loaded, Fault>
     }
 }
 
-/// The script, each line of which has one of the forms.
-fn read_script<R: Read>(alloc: Global, reader: &mut R) -> Result<Script, Fault>
+/// The script, each line of which has one of the forms, as so many threads check.
+fn read_script<T: Threads + Sync, R: Read>(
+    rt: &T,
+    alloc: Global,
+    threads: usize,
+    reader: &mut R,
+) -> Result<Script, Fault>
     ensures checked { IfOk result IsChecked }
     ensures whole { IfOk result (λ script. IfSome (R.remaining reader.old)
         (λ all. script.text.items ≡ all)) }
@@ -123,7 +129,7 @@ fn read_script<R: Read>(alloc: Global, reader: &mut R) -> Result<Script, Fault>
         (λ all. StopsScript all fault)) }
 {
     match read_all(alloc, reader) {
-        Ok(text) => check_script(text),
+        Ok(text) => check_script(rt, threads, text),
         Err(InputFault::Unreadable) => Err(Fault::UnreadableScript),
         Err(InputFault::Memory) => Err(Fault::Memory),
     }
@@ -178,7 +184,7 @@ fn run_and_list<R: Threads + Wait + Sync, W: Write>(
 {
     let mut register = Register::new(alloc, loaded, options.workers, options.list)?;
     run(rt, alloc, &mut register, script, out)?;
-    let shards = register.into_shards()?;
+    let shards = register.into_shards(rt)?;
     let text = closing_lines(alloc, options, &shards)?;
     let printed = print(&text, out);
     // The process ends next, and gives back all of its memory at once. To free each block of the journals takes a sixth of a run.

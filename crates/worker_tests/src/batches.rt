@@ -32,16 +32,16 @@ fn update_beside_a_route<R: Threads + Wait + Sync + Abort>(
         (true, ROUTE_ANSWER.as_slice())
     );
     let (shards, mut jobs, mut receipts) = register.close()?;
-    let whole = reconcile(&shards, &jobs, &receipts);
+    let whole = reconcile(rt, workers, &shards, &jobs, &receipts);
     if receipts.len() != 4 {
         return Err(Fail::from("receipts"));
     }
     receipts.swap(0, 1);
-    let exchanged = reconcile(&shards, &jobs, &receipts);
+    let exchanged = reconcile(rt, workers, &shards, &jobs, &receipts);
     receipts.truncate(3);
-    let without_receipt = reconcile(&shards, &jobs, &receipts);
+    let without_receipt = reconcile(rt, workers, &shards, &jobs, &receipts);
     jobs.truncate(3);
-    let without_job = reconcile(&shards, &jobs, &receipts);
+    let without_job = reconcile(rt, workers, &shards, &jobs, &receipts);
     assert_eq!(rt;
         (whole, exchanged, without_receipt, without_job),
         (Ok(()), Ok(()), Err(Unaccounted(4)), Err(Unaccounted(0)))
@@ -69,7 +69,7 @@ fn sixteen_at_once(rt: HostRuntime) -> Result<(), Fail> {
     register.take(&rt, &gate, 16, events)?;
     let (shards, jobs, receipts) = register.close()?;
     assert_eq!(rt;
-        (gate.in_time(), reconcile(&shards, &jobs, &receipts)),
+        (gate.in_time(), reconcile(&rt, 2, &shards, &jobs, &receipts)),
         (16, Ok(()))
     );
     Ok(())
@@ -87,7 +87,7 @@ fn one_at_a_time_in_a_shard(rt: HostRuntime) -> Result<(), Fail> {
     register.take(&rt, &gate, 4, events)?;
     let (shards, jobs, receipts) = register.close()?;
     assert_eq!(rt;
-        (gate.counts(), reconcile(&shards, &jobs, &receipts)),
+        (gate.counts(), reconcile(&rt, 2, &shards, &jobs, &receipts)),
         ((64, 0), Ok(()))
     );
     Ok(())
@@ -110,7 +110,7 @@ fn a_hundred_batches(rt: HostRuntime) -> Result<(), Fail> {
         register.take(&rt, &Open, 16, events)?;
     }
     let (mut shards, jobs, receipts) = register.close()?;
-    let whole = reconcile(&shards, &jobs, &receipts);
+    let whole = reconcile(&rt, 2, &shards, &jobs, &receipts);
     for shard in shards.iter_mut() {
         let _epoch = shard.cut()?;
     }
@@ -119,7 +119,7 @@ fn a_hundred_batches(rt: HostRuntime) -> Result<(), Fail> {
     next.take(&rt, &Open, 3, vec![in alloc; clock(3, 7)?, clock(3, 8)?]?)?;
     let (shards, jobs, receipts) = next.close()?;
     assert_eq!(rt;
-        (whole, reconcile(&shards, &jobs, &receipts)),
+        (whole, reconcile(&rt, 2, &shards, &jobs, &receipts)),
         (Ok(()), Ok(()))
     );
     Ok(())
@@ -140,8 +140,39 @@ fn all_lots_are_held(rt: HostRuntime) -> Result<(), Fail> {
     register.take(&rt, &Open, 1, events)?;
     let (shards, jobs, receipts) = register.close()?;
     assert_eq!(rt;
-        (receipts.len(), reconcile(&shards, &jobs, &receipts)),
+        (receipts.len(), reconcile(&rt, 2, &shards, &jobs, &receipts)),
         (67_200, Ok(()))
     );
+    Ok(())
+}
+
+/// Jobs and receipts that several threads compare: all are found to account for the journals, and one job alone not to, in whichever half
+/// it is.
+#[test]
+fn halves_of_jobs(rt: HostRuntime) -> Result<(), Fail> {
+    let alloc = rt.alloc();
+    for wrong in [0, 2_047, 2_048, 4_095] {
+        let mut register = Register::new(alloc)?;
+        let mut events = Vec::new(alloc);
+        for now in 0..256 {
+            for shard in 0..16 {
+                events.push(clock(shard, now)?)?;
+            }
+        }
+        register.take(&rt, &Open, 4, events)?;
+        let (shards, mut jobs, receipts) = register.close()?;
+        for threads in [1, 2, 5, 16] {
+            assert_eq!(rt; reconcile(&rt, threads, &shards, &jobs, &receipts), Ok(()));
+        }
+        let Some(job) = jobs.get_mut(wrong) else {
+            return Err(Fail::from("jobs"));
+        };
+        job.event = clock(3, 1_000)?;
+        let number = job.number.get();
+        for threads in [1, 5] {
+            let found = reconcile(&rt, threads, &shards, &jobs, &receipts);
+            assert_eq!(rt; found, Err(Unaccounted(number)));
+        }
+    }
     Ok(())
 }

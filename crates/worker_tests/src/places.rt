@@ -28,7 +28,10 @@ fn another_shard_behind_a_lock(rt: HostRuntime) -> Result<(), Fail> {
     register.take(&rt, &Open, 1, vec![in alloc; clock(3, 1)?]?)?;
     let (shards, jobs, receipts) = register.close()?;
     assert_eq!(rt;
-        (refusal_of(&receipts), reconcile(&shards, &jobs, &receipts)),
+        (
+            refusal_of(&receipts),
+            reconcile(&rt, 2, &shards, &jobs, &receipts)
+        ),
         (Some(Refusal::NotMine), Err(Unaccounted(1)))
     );
     Ok(())
@@ -83,10 +86,10 @@ fn shards_with_entries(rt: HostRuntime) -> Result<(), Fail> {
     register.take(&rt, &Open, 2, vec![in alloc; route]?)?;
     assert_eq!(rt; register.sent_last(), ROUTE_ANSWER.as_slice());
     let (shards, jobs, receipts) = register.close()?;
-    let whole = reconcile(&shards, &jobs, &receipts);
+    let whole = reconcile(&rt, 2, &shards, &jobs, &receipts);
     let (jobs, receipts) = from_place(2, jobs, receipts);
     assert_eq!(rt;
-        (whole, reconcile(&shards, &jobs, &receipts)),
+        (whole, reconcile(&rt, 2, &shards, &jobs, &receipts)),
         (Ok(()), Err(Unaccounted(0)))
     );
     Ok(())

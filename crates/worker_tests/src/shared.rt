@@ -15,7 +15,7 @@ use workers::{SharedFault, SharedRegister};
 /// How many dialogues a shard may have open (profile).
 const MAX_OPEN: usize = 4_096;
 
-/// Has workers handle a part.
+/// Has workers handle a part, and appends what each event sends.
 fn take<R: Threads + Wait + Sync>(
     register: &mut SharedRegister,
     rt: &R,
@@ -29,7 +29,16 @@ fn take<R: Threads + Wait + Sync>(
     if part.len() > 65_536 {
         return Err(Fail::from("part"));
     }
-    Ok(register.run_part(rt, workers, part, sent))
+    let count = part.len();
+    let taken = register.run_part(rt, workers, part);
+    if taken.is_ok() {
+        for receipt in register.last_receipts(count) {
+            if let Ok(placed) = &receipt.answer {
+                sent.push(placed.outs.try_share()?)?;
+            }
+        }
+    }
+    Ok(taken)
 }
 
 /// How many frames were sent.
@@ -87,7 +96,7 @@ fn parts_go_on<R: Threads + Wait + Sync + Abort>(
         (true, done.saturating_add(1))
     );
     assert_eq!(rt; last(&sent), ROUTE_ANSWER.as_slice());
-    let shards = register.close()?;
+    let (shards, _, _) = register.close(rt, workers)?;
     let mut entries: usize = 0;
     for shard in &shards {
         entries = entries.saturating_add(shard.entries().len());

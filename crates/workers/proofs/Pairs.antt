@@ -1,7 +1,7 @@
 -- Jobs and receipts in pairs account for their numbers.
-use Rattle.std.proofs.Common.{◌≡◌, ℕ, zero, suc, ◌+◌, ◌<◌, eqb, cond, Bool, true, false, true≢false, List, [], ◌∷◌, ◌++◌, length, map, filter, take, get_or, sym, refl, ap, ap₂, ◌∙◌, subst, arith}
+use Rattle.std.proofs.Common.{◌≡◌, ℕ, zero, suc, ◌+◌, ◌<◌, eqb, cond, Bool, true, false, true≢false, List, [], ◌∷◌, ◌++◌, length, map, filter, take, drop, get_or, sym, refl, ap, ap₂, ◌∙◌, subst, arith}
 use Rattle.std.specs.Prelude.{All}
-use Rattle.std.proofs.lemmas.List.{take_more}
+use Rattle.std.proofs.lemmas.List.{take-append-drop, take_more}
 use Rattle.std.proofs.lemmas.List.Elements.{All-append}
 use Rattle.frames.specs.Octets.{RawEntry}
 use Rattle.frames.specs.Account.{Job, Receipt, Account, Reconciles}
@@ -42,12 +42,22 @@ counted_at (n ∷ ns) zero d low = let a = count-cons n n ns in let b = one_at-s
 counted_at (n ∷ ns) (suc k) d low = let a = count-cons (get_or ns k d) n ns in let b = counted_at ns k d (omega arith) in omega arith
 
 module _ (journals : List (List RawEntry)) where
-  pairs_push : (jobs : List Job) (receipts : List Receipt) (j : Job) (r : Receipt) → ArePairs journals jobs receipts → IsPair journals j r
-      → ArePairs journals (jobs ++ j ∷ []) (receipts ++ r ∷ [])
-  pairs_push [] [] j r h one = (one, tt)
-  pairs_push [] (y ∷ receipts) j r h one = absurd h
-  pairs_push (x ∷ jobs) [] j r h one = absurd h
-  pairs_push (x ∷ jobs) (y ∷ receipts) j r h one = (h.0, pairs_push jobs receipts j r h.1 one)
+  -- some pairs, and more of them
+  pub pairs_join : (jobs more : List Job) (receipts others : List Receipt) → ArePairs journals jobs receipts → ArePairs journals more others
+      → ArePairs journals (jobs ++ more) (receipts ++ others)
+  pairs_join [] more [] others h k = k
+  pairs_join [] more (y ∷ receipts) others h k = absurd h
+  pairs_join (x ∷ jobs) more [] others h k = absurd h
+  pairs_join (x ∷ jobs) more (y ∷ receipts) others h k = (h.0, pairs_join jobs more receipts others h.1 k)
+
+  -- the pairs of both halves
+  pub pairs_of_halves : (jobs first more : List Job) (receipts theirs others : List Receipt) (n m : ℕ) → first ≡ take n jobs → more ≡ drop n jobs
+      → theirs ≡ take m receipts → others ≡ drop m receipts → ArePairs journals first theirs → ArePairs journals more others
+      → ArePairs journals jobs receipts
+  pairs_of_halves jobs first more receipts theirs others n m first_is more_is theirs_is others_is h k =
+      let whole : first ++ more ≡ jobs = ap₂ ◌++◌ first_is more_is ∙ take-append-drop n jobs in
+      let all : theirs ++ others ≡ receipts = ap₂ ◌++◌ theirs_is others_is ∙ take-append-drop m receipts in
+      subst (λ (p : List Job × List Receipt). ArePairs journals p.0 p.1) (λ i. (whole i, all i)) (pairs_join first more theirs others h k)
 
   -- one more pair
   pub pairs_more : (jobs : List Job) (receipts : List Receipt) (i : ℕ) (j : Job) (r : Receipt) → i < length jobs → i < length receipts → j ≡ get_or jobs i j
@@ -56,7 +66,7 @@ module _ (journals : List (List RawEntry)) where
   pairs_more jobs receipts i j r low too job_is receipt_is h one =
       let a : take (i + 1) jobs ≡ take i jobs ++ j ∷ [] = take_more jobs i j low ∙ ap (λ x. take i jobs ++ x ∷ []) (sym job_is) in
       let b : take (i + 1) receipts ≡ take i receipts ++ r ∷ [] = take_more receipts i r too ∙ ap (λ x. take i receipts ++ x ∷ []) (sym receipt_is) in
-      subst (λ (p : List Job × List Receipt). ArePairs journals p.0 p.1) (λ i. (sym a i, sym b i)) (pairs_push (take i jobs) (take i receipts) j r h one)
+      subst (λ (p : List Job × List Receipt). ArePairs journals p.0 p.1) (λ i. (sym a i, sym b i)) (pairs_join (take i jobs) (j ∷ []) (take i receipts) (r ∷ []) h (one, tt))
 
   pairs_put : (a b : Bool) (j : Job) (r : Receipt) (jobs : List Job) (receipts : List Receipt) → b ≡ a → IsPair journals j r → ArePairs journals jobs receipts
       → ArePairs journals (cond a (j ∷ jobs) jobs) (cond b (r ∷ receipts) receipts)

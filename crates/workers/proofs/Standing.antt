@@ -1,6 +1,6 @@
 -- What a shared register has handled, when its journals are cut, when jobs are added, and at the end.
 use Rattle.std.proofs.Common.{◌≡◌, ℕ, ◌+◌, ◌<◌, ◌≤◌, List, [], ◌∷◌, ◌++◌, length, map, take, drop, set, get_or, append_assoc, add-one, arith, sym, refl, ap, ap₂, ◌∙◌, subst}
-use Rattle.std.specs.Prelude.{All, IfOk, Option, Some, None, Result, Ok, Err, option_map, slice_get}
+use Rattle.std.specs.Prelude.{All, Option, Some, None, option_map, slice_get}
 use Rattle.std.proofs.Math.Path.{fun_ext}
 use Rattle.std.proofs.Math.Seq.{drop-cons}
 use Rattle.std.proofs.lemmas.List.{append-nil, drop-set-lt, drop_all, length-map, map-append, take_all, take_more_set}
@@ -20,7 +20,7 @@ use Rattle.wholenode.specs.Keeping.{AreShards}
 use Rattle.wholenode.specs.Nodes.{base_at, bases, state_at, whole, whole_base}
 use Rattle.wholenode.proofs.OpeningLemmas.{begins_with}
 use Rattle.workers.specs.Offices.{AreBases, AreOpeningBases, bases_of}
-use Rattle.workers.specs.Shared.{AreSettled, GoesOn, HandsOut, IsRunInSomeOrder, SharedState, StandsBehind, events_of_jobs, jobs_of_receipts, numbers_of_jobs, sent_at, sent_for, shared_state, state_or_nothing, whole_of}
+use Rattle.workers.specs.Shared.{AreLast, AreSettled, GoesOn, HandsOut, IsRunInSomeOrder, SharedState, StandsBehind, events_of_jobs, jobs_of_receipts, numbers_of_jobs, sent_at, sent_for, shared_state, state_or_nothing, whole_of}
 use Rattle.workers.proofs.Offices.{bases_of_shards}
 use Rattle.workers.proofs.Orders.{joined, no_run, run_of_jobs}
 
@@ -208,28 +208,25 @@ cut_goes before office now jobs no_jobs receipts no_receipts shards cut was sett
     (subst (λ (s : SharedState). AreSettled s.bases s.jobs s.receipts shards) (sym was) settled) is keeps
     (λ i. shared_state (bases i) (none i) (nothing i))
 
-pub closes : {V F : Type 0} (items : V → List Log) (s : SharedState) (office : List ShardState) (jobs : List Job) (receipts : List Receipt)
-    (answer : Result V F)
-    → s ≡ shared_state office jobs receipts → IfOk answer (λ v. AreSettled office jobs receipts (items v))
-    → IfOk answer (λ v. (begin : State) (events : List RawEvent) (sent : List (List RawOut)) → StandsBehind begin events sent s
-    → HandsOut begin events sent (items v))
-closes items s office jobs receipts (Ok v) was settled = hands_out s (items v)
-    (subst (λ (t : SharedState). AreSettled t.bases t.jobs t.receipts (items v)) (sym was) settled)
-closes items s office jobs receipts (Err fault) was settled = tt
+pub closes : (s : SharedState) (office : List ShardState) (jobs : List Job) (receipts : List Receipt) (shards : List Log)
+    → s ≡ shared_state office jobs receipts → AreSettled office jobs receipts shards
+    → (begin : State) (events : List RawEvent) (sent : List (List RawOut)) → StandsBehind begin events sent s → HandsOut begin events sent shards
+closes s office jobs receipts shards was settled = hands_out s shards
+    (subst (λ (t : SharedState). AreSettled t.bases t.jobs t.receipts shards) (sym was) settled)
 
 -- What a part does, once there is room.
-pub part_handled : (a b c after : SharedState) (jobs : List Job) (receipts : List Receipt) (raws : List RawEvent) (before now : List (List RawOut)) → GoesOn a [] [] b
+pub part_handled : (a b c after : SharedState) (jobs : List Job) (receipts : List Receipt) (raws : List RawEvent) → GoesOn a [] [] b
     → c ≡ b
     → events_of_jobs jobs ≡ raws
-    → jobs_of_receipts receipts ≡ numbers_of_jobs jobs → now ≡ before ++ sent_for receipts
+    → jobs_of_receipts receipts ≡ numbers_of_jobs jobs
     → after ≡ shared_state c.bases (c.jobs ++ jobs) (c.receipts ++ receipts)
-    → (outs : List (List RawOut)) × GoesOn a raws outs after × (now ≡ before ++ outs)
-part_handled a b c after jobs receipts raws before now room same events pairs sent kept = (
-  sent_for receipts,
+    → (last : List Receipt) × GoesOn a raws (sent_for last) after × AreLast last after
+part_handled a b c after jobs receipts raws room same events pairs kept = (
+  receipts,
   subst (λ (es : List RawEvent). GoesOn a es (sent_for receipts) after) events
       (goes_on_after a b after (events_of_jobs jobs) (sent_for receipts) room
       (subst (λ (s : SharedState). GoesOn s (events_of_jobs jobs) (sent_for receipts) after) same (goes_on_by c jobs receipts after pairs kept))),
-  sent,
+  (c.receipts, ap (λ (s : SharedState). s.receipts) kept),
 )
 
 -- one more shard is cut

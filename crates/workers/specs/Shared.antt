@@ -56,6 +56,10 @@ sent_at (Some place) = place.outs
 abbrev pub sent_for : List Receipt → List (List RawOut)
 sent_for receipts = map (λ r. sent_at r.place) receipts
 
+-- these are the last receipts
+abbrev pub AreLast : List Receipt → SharedState → Type 0
+AreLast last s = (earlier : List Receipt) × (s.receipts ≡ earlier ++ last)
+
 -- ---- runs in another order than that of the events
 
 -- the event and the frames of an entry

@@ -15,6 +15,7 @@ use crate::placed::Placed;
 use crate::receipt::Receipt;
 use crate::same::{same_event, same_outs};
 use shardlog::{Entry, Shard};
+use std::thread::Threads;
 use thiserror::Error;
 
 /// The least number that is not accounted for, or 0 if only an entry is left over.
@@ -196,17 +197,23 @@ fn has_stray(shards: &[Shard], receipts: &[Receipt]) -> bool
 
 /// Whether jobs and receipts account for the journals: `Ok` exactly if each number of a job or a receipt is accounted for and no
 /// entry is left over. Otherwise it names the least number that is not accounted for, or 0 if only an entry is left over. Does
-/// not allocate.
+/// not allocate. So many threads compare the usual batch, at most one for each 1,024 jobs, the caller's among them.
 ///
 /// Limitation: if jobs and receipts are pairwise in ascending order, as `run_batch` returns them, and account for the journals,
 /// the time is linear in them; otherwise, for example if a receipt is a refusal, it is jobs times receipts. With more than 1,024
 /// receipts it takes 128 kilobytes of the stack.
-pub fn reconcile(shards: &[Shard], jobs: &[Job], receipts: &[Receipt]) -> Result<(), Unaccounted>
+pub fn reconcile<R: Threads + Sync>(
+    rt: &R,
+    threads: usize,
+    shards: &[Shard],
+    jobs: &[Job],
+    receipts: &[Receipt],
+) -> Result<(), Unaccounted>
     ensures ok { IsOk result ↔ Reconciles (journal_list shards.now) jobs.now receipts.now }
     ensures err { IfErr result (λ fault. Unaccounts
         (journal_list shards.now) jobs.now receipts.now fault.0) }
 {
-    if are_in_order(shards, jobs, receipts) {
+    if are_in_order(rt, threads, shards, jobs, receipts) {
         return Ok(());
     }
     if let Some(number) = least_fault(shards, jobs, receipts) {

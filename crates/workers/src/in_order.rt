@@ -1,6 +1,7 @@
 //! The usual batch: jobs and receipts are pairwise in ascending order. Three passes check it, and one over the marks of the entries.
 
 ghost use Rattle.std.specs.Prelude.{◌≡◌, ◌+◌, ◌<◌, ℕ, IsTrue, cond};
+ghost use Rattle.std.specs.Thread.{IsSync};
 ghost use Rattle.frames.specs.Account.{Reconciles, names_place};
 ghost use Rattle.workers.specs.Journals.{journal_list};
 ghost use Rattle.workers.specs.Marks.{AreMarked, HasAllMarks, HasNoMarks, mark_at};
@@ -14,9 +15,13 @@ use crate::receipt::Receipt;
 use crate::same::{same_event, same_outs};
 use machine::numbers::MAX_ENTRIES;
 use shardlog::Shard;
+use std::thread::{self, Threads};
 
 /// How many positions a small table has: so few receipts name no later one, if each names another entry.
 const FEW: usize = 1_024;
+
+/// The least number of pairs of which another thread compares a half: that takes longer than to start the thread.
+const PAIRS_OF_A_START: usize = 2_048;
 
 /// Whether the receipt is for the job, and its entry has the job's event and the receipt's frames.
 fn is_pair(shards: &[Shard], job: &Job, receipt: &Receipt) -> bool
@@ -50,6 +55,38 @@ fn are_pairs(shards: &[Shard], jobs: &[Job], receipts: &[Receipt]) -> bool
         }
     }
     true
+}
+
+/// The same, by so many threads: each half of the pairs by a half of them.
+#[cycle(halves)]
+fn are_pairs_by<R: Threads + Sync>(
+    rt: &R,
+    threads: usize,
+    shards: &[Shard],
+    jobs: &[Job],
+    receipts: &[Receipt],
+) -> bool
+    ensures { IsTrue result → ArePairs (journal_list shards.now) jobs.now receipts.now }
+{
+    if threads < 2 || jobs.len() < PAIRS_OF_A_START || jobs.len() != receipts.len() {
+        return are_pairs(shards, jobs, receipts);
+    }
+    let (jobs, more) = jobs.split_at(jobs.len() / 2);
+    let (receipts, others) = receipts.split_at(receipts.len() / 2);
+    let (first, second) = thread::join(
+        rt,
+        || -> bool
+            requires { IsSync R.row }
+            ensures { IsTrue result
+                → ArePairs (journal_list shards.entry.now) jobs.entry.now receipts.entry.now }
+        { are_pairs_by(rt, threads / 2, shards, jobs, receipts) },
+        || -> bool
+            requires { IsSync R.row }
+            ensures { IsTrue result
+                → ArePairs (journal_list shards.entry.now) more.entry.now others.entry.now }
+        { are_pairs_by(rt, threads - threads / 2, shards, more, others) },
+    );
+    first && second
 }
 
 /// Marks the place that a receipt names. False if it names none, or one that is marked already or beyond the table.
@@ -132,8 +169,16 @@ fn by_full_table(shards: &[Shard], receipts: &[Receipt]) -> bool
 
 /// Whether jobs and receipts are pairwise equal in number, strictly ascending, and account for the journals. If not, they may
 /// still account for them in another order.
-pub(crate) fn are_in_order(shards: &[Shard], jobs: &[Job], receipts: &[Receipt]) -> bool
+pub(crate) fn are_in_order<R: Threads + Sync>(
+    rt: &R,
+    threads: usize,
+    shards: &[Shard],
+    jobs: &[Job],
+    receipts: &[Receipt],
+) -> bool
     ensures { IsTrue result → Reconciles (journal_list shards.now) jobs.now receipts.now }
 {
-    numbers_rise(jobs) && are_pairs(shards, jobs, receipts) && are_named_once(shards, receipts)
+    numbers_rise(jobs)
+        && are_pairs_by(rt, threads, shards, jobs, receipts)
+        && are_named_once(shards, receipts)
 }

@@ -1,5 +1,7 @@
 //! The locked shards.
 
+ghost use Rattle.std.specs.Prelude.{◌≡◌};
+
 use crate::apply::apply;
 use crate::gate::Gate;
 use crate::job::{Job, JobNumber};
@@ -149,7 +151,7 @@ impl Office {
     }
 
     /// Reads the jobs of a lot in a worker's arena, and finds the shard of each.
-    pub(crate) fn read_lot<'a>(
+    pub(crate) fn read_tasks<'a>(
         &self,
         alloc: Global,
         bump: &mut Bump,
@@ -162,6 +164,27 @@ impl Office {
             tasks.push(Task::new(alloc, bump, self.bases[0].directory(), job))?;
         }
         Ok(tasks)
+    }
+
+    /// Handles the tasks of each shard whose lock is free: so a worker that finds one taken goes on with the other shards, and waits for it only
+    /// when nothing else is left.
+    pub(crate) fn handle_free<G: Gate>(&self, tasks: &mut [Task], gate: &G)
+        ensures { tasks.new ≡ tasks.old }
+    {
+        'tasks: for place in 0..tasks.len() {
+            if let Some(number) = tasks[place].waits_for() {
+                self.try_enter(number, tasks, gate);
+            }
+        }
+    }
+
+    /// Handles the tasks that are for this shard, if its lock is free.
+    fn try_enter<G: Gate>(&self, number: ShardNumber, tasks: &mut [Task], gate: &G)
+        ensures { tasks.new ≡ tasks.old }
+    {
+        if let Some(mut guard) = self.locks[usize::from(number.number())].try_lock() {
+            handle_from(&mut guard, number, tasks, 0, gate);
+        }
     }
 
     /// Makes the receipt of the task at this place of a lot. If it has no answer yet, its event is handled in its shard, and with it the
@@ -209,9 +232,22 @@ impl Office {
         let shard = &mut *guard;
         gate.inside(job.get());
         let answer = apply(shard, number, &mut event);
-        'tasks: for other in from..tasks.len() {
-            tasks[other].handle_in(shard, number, gate);
-        }
+        handle_from(shard, number, tasks, from, gate);
         answer
+    }
+}
+
+/// Handles the tasks from a place on that are for a locked shard.
+fn handle_from<G: Gate>(
+    shard: &mut Shard,
+    number: ShardNumber,
+    tasks: &mut [Task],
+    from: usize,
+    gate: &G,
+)
+    ensures { tasks.new ≡ tasks.old }
+{
+    'tasks: for place in from..tasks.len() {
+        tasks[place].handle_in(shard, number, gate);
     }
 }

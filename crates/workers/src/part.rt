@@ -1,9 +1,9 @@
 //! A part of a batch: its events under numbers, and what is sent for them.
 
-ghost use Rattle.std.specs.Prelude.{◌≡◌, ◌++◌, map, max, fold, Contains, IfOk, IfSome, OnOk, None};
+ghost use Rattle.std.specs.Prelude.{◌≡◌, map, max, fold, Contains, IfOk, IfSome, None};
 ghost use Rattle.frames.specs.Account.{Receipt};
 ghost use Rattle.hlrcore.specs.Events.{raw_event};
-ghost use Rattle.workers.specs.Shared.{CountsFrom, end_at, events_of_jobs, numbers_of_jobs, sent_at, sent_for};
+ghost use Rattle.workers.specs.Shared.{CountsFrom, end_at, events_of_jobs, numbers_of_jobs};
 ghost use Rattle.workers.specs.SharedFaults.{fault_in};
 
 use crate::job::{Job, JobNumber};
@@ -11,9 +11,9 @@ use crate::placed::Placed;
 use crate::receipt::Receipt;
 use crate::refusal::Refusal;
 use crate::shared_fault::SharedFault;
-use hlrcore::{OutList, RawEvent};
+use hlrcore::RawEvent;
 use machine::numbers::MAX_ENTRIES;
-use std::alloc::{AllocError, Global};
+use std::alloc::Global;
 
 /// The events as jobs, numbered from `first` on.
 pub(crate) fn number_jobs(
@@ -59,26 +59,6 @@ pub(crate) fn first_fault(receipts: &[Receipt]) -> Option<SharedFault>
         }
     }
     None
-}
-
-/// The frames sent for a job, shared with its receipt: none if it was refused.
-fn outs_of(receipt: &Receipt) -> Result<OutList, AllocError>
-    ensures { IfOk result (λ outs. outs ≡ sent_at receipt.now.place) }
-{
-    match &receipt.answer {
-        Ok(placed) => placed.outs.try_share(),
-        Err(_) => Ok(OutList::none()),
-    }
-}
-
-/// Appends the frames sent for jobs, one list for each receipt, in the order of the receipts. Both share them.
-pub(crate) fn copy_sent(receipts: &[Receipt], sent: &mut Vec<OutList>) -> Result<(), AllocError>
-    ensures { OnOk result (sent.new.items ≡ sent.old.items ++ sent_for receipts.now) }
-{
-    for receipt in receipts {
-        sent.push(outs_of(receipt)?)?;
-    }
-    Ok(())
 }
 
 /// The position after the entry of a receipt, if it has an entry at a position below the limit of a journal; else 0.

@@ -10,9 +10,13 @@ use crate::office::Office;
 use crate::receipt::Receipt;
 use crate::shared_fault::SharedFault;
 use shardlog::Shard;
+use std::thread::Threads;
 
-/// Takes the shards out of their locks, if jobs and receipts account for their journals. On error the shards are dropped.
-pub(crate) fn settle(
+/// Takes the shards out of their locks, if jobs and receipts account for their journals, which so many threads find out. On error the shards
+/// are dropped.
+pub(crate) fn settle<R: Threads + Sync>(
+    rt: &R,
+    threads: usize,
     office: Office,
     jobs: &[Job],
     receipts: &[Receipt],
@@ -21,7 +25,7 @@ pub(crate) fn settle(
     ensures sixteen { IfOk result (λ shards. vec_len shards ≡ 16) }
 {
     let shards = office.into_shards()?;
-    reconcile(&shards, jobs, receipts)?;
+    reconcile(rt, threads, &shards, jobs, receipts)?;
     Ok(shards)
 }
 

@@ -5,11 +5,11 @@ use crate::gate::OpenGate;
 use crate::job::Job;
 use crate::lot::paying_crew;
 use crate::office::Office;
-use crate::part::{copy_sent, first_fault, longest_with, number_jobs};
+use crate::part::{first_fault, longest_with, number_jobs};
 use crate::receipt::Receipt;
 use crate::settle::{cut_all, settle};
 use crate::shared_fault::SharedFault;
-use hlrcore::{OutList, RawEvent};
+use hlrcore::RawEvent;
 use machine::numbers::MAX_ENTRIES;
 use records::Loaded;
 use shardlog::Shard;
@@ -54,7 +54,8 @@ impl SharedRegister {
     ghost use Rattle.machine.specs.Opening.{opening};
     ghost use Rattle.machine.specs.State.{State};
     ghost use Rattle.hlrcore.specs.Shards.{directory_of, records_of};
-    ghost use Rattle.workers.specs.Shared.{GoesOn, HandsOut, StandsBehind, events_of_jobs, jobs_of_receipts, numbers_of_jobs, shared_state};
+    ghost use Rattle.frames.specs.Account as account;
+    ghost use Rattle.workers.specs.Shared.{AreLast, GoesOn, HandsOut, StandsBehind, events_of_jobs, jobs_of_receipts, numbers_of_jobs, sent_for, shared_state};
 
     /// The register of a records file: its records, no open dialogue, and no job. On error the loaded value is dropped.
     pub fn new(alloc: Global, loaded: Loaded) -> Result<SharedRegister, AllocError>
@@ -74,7 +75,7 @@ impl SharedRegister {
     }
 
     /// Has 1 to 16 workers handle a part of a batch: at most one for each 32 events, since it takes as long to start a thread, and at least one.
-    /// What it sends is appended to `sent`, a list for each event, in the order of the part.
+    /// `last_receipts` has what it sends.
     ///
     /// If by the receipts some journal has no room for that many more entries, all journals are cut first, once jobs and receipts
     /// account for them. The epochs are dropped.
@@ -86,54 +87,81 @@ impl SharedRegister {
         rt: &R,
         workers: usize,
         part: Vec<RawEvent>,
-        sent: &mut Vec<OutList>,
     ) -> Result<(), SharedFault>
         requires workers { (1 ≤ workers) × (workers ≤ 16) }
         requires few { length part.items ≤ MAX_ENTRIES }
-        ensures handles { OnOk result ((outs : List (List octets.RawOut))
-            × GoesOn self.old (map raw_event part.items) outs self.new
-            × (sent.new.items ≡ sent.old.items ++ outs)) }
+        ensures handles { OnOk result ((receipts : List account.Receipt)
+            × GoesOn self.old (map raw_event part.items) (sent_for receipts) self.new
+            × AreLast receipts self.new) }
     {
-        self.make_room(part.len())?;
+        self.make_room(rt, workers, part.len())?;
         let jobs = self.number(part)?;
         let receipts = self.handle(rt, workers, &jobs)?;
-        copy_sent(&receipts, sent)?;
         self.keep(jobs, receipts)?;
         Ok(())
     }
 
-    /// Takes the shards out of their locks, if jobs and receipts since the last cut account for their journals. On error the shards
-    /// are dropped. The register, which still has the jobs and receipts, must not be used after that.
-    pub fn close(&mut self) -> Result<Vec<Shard>, SharedFault>
-        ensures hands_out { IfOk result (λ shards. (begin : State) (events : List octets.RawEvent)
-            (sent : List (List octets.RawOut)) → StandsBehind begin events sent self.old
-            → HandsOut begin events sent shards.items) }
+    /// The receipts of the last so many events, in their order, of those since the last cut.
+    pub fn last_receipts(&self, count: usize) -> &[Receipt]
+        ensures { (last : List account.Receipt) → AreLast last self.now → length last ≡ count
+            → result.now ≡ last }
     {
-        let Some(office) = self.office.take() else {
+        let from = self.receipts.len().saturating_sub(count);
+        &self.receipts[from..]
+    }
+
+    /// Takes the shards out of their locks, if jobs and receipts since the last cut account for their journals, as so many threads find out.
+    /// The jobs and the receipts are returned too. On error all is dropped.
+    pub fn close<R: Threads + Sync>(
+        self,
+        rt: &R,
+        threads: usize,
+    ) -> Result<(Vec<Shard>, Vec<Job>, Vec<Receipt>), SharedFault>
+        ensures hands_out { IfOk result (λ closed. (begin : State) (events : List octets.RawEvent)
+            (sent : List (List octets.RawOut)) → StandsBehind begin events sent self
+            → HandsOut begin events sent closed.0.items) }
+        ensures account { IfOk result (λ closed. (closed.1.items ≡ self.jobs)
+            × (closed.2.items ≡ self.receipts)) }
+    {
+        let SharedRegister {
+            alloc: _,
+            office,
+            jobs,
+            receipts,
+            next: _,
+            longest: _,
+        } = self;
+        let Some(office) = office else {
             return Err(SharedFault::Unaccounted(0));
         };
-        settle(office, &self.jobs, &self.receipts)
+        let shards = settle(rt, threads, office, &jobs, &receipts)?;
+        Ok((shards, jobs, receipts))
     }
 
     /// Cuts all journals, if one of them has no room for `count` more entries.
-    fn make_room(&mut self, count: usize) -> Result<(), SharedFault>
+    fn make_room<R: Threads + Sync>(
+        &mut self,
+        rt: &R,
+        threads: usize,
+        count: usize,
+    ) -> Result<(), SharedFault>
         requires { count ≤ MAX_ENTRIES }
         ensures { OnOk result (GoesOn self.old [] [] self.new) }
     {
         if self.longest > MAX_ENTRIES - count {
-            return self.cut();
+            return self.cut(rt, threads);
         }
         Ok(())
     }
 
     /// Cuts all journals, if jobs and receipts account for them.
-    fn cut(&mut self) -> Result<(), SharedFault>
+    fn cut<R: Threads + Sync>(&mut self, rt: &R, threads: usize) -> Result<(), SharedFault>
         ensures { OnOk result (GoesOn self.old [] [] self.new) }
     {
         let Some(office) = self.office.take() else {
             return Err(SharedFault::Unaccounted(0));
         };
-        let mut shards = settle(office, &self.jobs, &self.receipts)?;
+        let mut shards = settle(rt, threads, office, &self.jobs, &self.receipts)?;
         cut_all(&mut shards);
         self.office = Some(Office::from_shards(self.alloc, shards)?);
         self.jobs.clear();

@@ -83,6 +83,14 @@ impl<'a> Task<'a> {
         }
     }
 
+    /// The shard that the event is for, if it is read and not handled yet.
+    pub(crate) fn waits_for(&self) -> Option<ShardNumber> {
+        match &self.stage {
+            Stage::Read(number, _) => Some(*number),
+            Stage::Answered(_) => None,
+        }
+    }
+
     /// The number of the job.
     pub(crate) fn number(&self) -> JobNumber
         ensures { result ≡ self.now.number }

@@ -25,8 +25,8 @@ pub struct Served {
 }
 
 /// A worker: takes lots of the jobs of a batch from a channel until it takes `Stop`. For a lot it reserves memory for the receipts, and reads
-/// the events in its own arena; then it locks each shard that some of them are for once, and handles these there, in their order. The
-/// receipts are, in order, for the jobs that its pass took. If memory for a lot runs out, they are for the jobs before it; it then goes on
+/// the events in its own arena; then it locks each shard that some of them are for once, and handles these there, in their order: first the
+/// shards whose locks are free, and then, waiting for them, those that others held. The receipts are, in order, for the jobs that its pass took. If memory for a lot runs out, they are for the jobs before it; it then goes on
 /// taking lots without touching a shard.
 ///
 /// Limitation: no contract says what a lock held, so none says that a receipt has its entry; `reconcile` finds out. Progress is
@@ -94,7 +94,8 @@ pub(crate) fn serve_alone<R: Wait, G: Gate>(
 }
 
 /// Handles the jobs of a lot, and appends their receipts, in the order of the jobs. All events are read first, while the code that reads
-/// them is near; then each shard that some are for is locked once. If there is no memory for the receipts, no job is handled.
+/// them is near; then each shard that some are for is locked once, a free one before one that another worker holds. If there is no memory for
+/// the receipts, no job is handled.
 fn answer_lot<R: Wait, G: Gate>(
     rt: &R,
     alloc: Global,
@@ -109,7 +110,8 @@ fn answer_lot<R: Wait, G: Gate>(
     ensures err { OnErr result (receipts.new.items ≡ receipts.old.items) }
 {
     receipts.reserve(jobs.len())?;
-    let mut tasks = office.read_lot(alloc, bump, jobs)?;
+    let mut tasks = office.read_tasks(alloc, bump, jobs)?;
+    office.handle_free(&mut tasks, gate);
     for place in 0..jobs.len() {
         let receipt = office.answer(rt, &mut tasks, place, gate);
         let job = receipt.job;

@@ -7,7 +7,7 @@ use Rattle.workers.proofs.Standing.{cut_goes}
 use Rattle.workers.proofs.shared.SharedRegister.cut.Goals as goal
 
 pub returns : goal.returns
-returns c =
+returns g c =
     let shards = c.in_ok-shards.shards in let now = c.cut_all.new.shards in
     let was : c.args.self.now ≡ shared_state c.in-Some.office c.deref.result.now c.deref-2.result.now = search rules in
     let cut : now ≡ map cut_log shards.items = search rules in

@@ -1,6 +1,6 @@
 use Rattle.std.proofs.Common.{◌≡◌, ◌++◌, [], map, rules}
 use Rattle.hlrcore.specs.Events.{raw_event}
-use Rattle.workers.specs.Shared.{GoesOn, jobs_of_receipts, numbers_of_jobs, sent_for, shared_state}
+use Rattle.workers.specs.Shared.{GoesOn, jobs_of_receipts, numbers_of_jobs, shared_state}
 use Rattle.workers.proofs.Standing.{part_handled}
 use Rattle.workers.proofs.shared.SharedRegister.run_part.Goals as goal
 
@@ -10,10 +10,9 @@ returns g c =
     let same : c.number.new.self ≡ c.make_room.new.self = search rules in
     let room : GoesOn c.args.self.now [] [] c.make_room.new.self = c.in_ok-make_room.ensures in
     let pairs : jobs_of_receipts receipts ≡ numbers_of_jobs jobs = search rules in
-    let sent : c.copy_sent.new.sent.items ≡ c.args.sent.now.items ++ sent_for receipts = search rules in
     let kept : c.keep.new.self ≡ shared_state c.number.new.self.bases (c.number.new.self.jobs ++ jobs)
     (c.number.new.self.receipts ++ receipts) = c.in_ok-keep.ensures in
     record {
       handles = part_handled c.args.self.now c.make_room.new.self c.number.new.self c.keep.new.self jobs receipts (map raw_event c.args.part.items)
-          c.args.sent.now.items c.copy_sent.new.sent.items room same c.in_ok-jobs.ensures.events pairs sent kept;
+          room same c.in_ok-jobs.ensures.events pairs kept;
     }
