@@ -177,6 +177,7 @@ class Check:
     def __init__(self, crate, edits, functions, kept, log=None):
         said, status, self.seconds = checked(crate, edits, functions, kept)
         if log:
+            log.parent.mkdir(parents=True, exist_ok=True)
             log.write_text(said)
         self.crate, self.lines, self.fault = crate.name, said.splitlines() or ["nothing"], None
         texts = {path for changed in edits.values() for path in changed}

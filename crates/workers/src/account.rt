@@ -196,8 +196,9 @@ fn has_stray(shards: &[Shard], receipts: &[Receipt]) -> bool
 }
 
 /// Whether jobs and receipts account for the journals: `Ok` exactly if each number of a job or a receipt is accounted for and no
-/// entry is left over. Otherwise it names the least number that is not accounted for, or 0 if only an entry is left over. Does
-/// not allocate. So many threads compare the usual batch, at most one for each 1,024 jobs, the caller's among them.
+/// entry is left over. Otherwise it names the least number that is not accounted for, or 0 if only an entry is left over. So many
+/// threads, the caller's among them, compare the usual batch, at most one for each 1,024 jobs; if one cannot be started, the caller does its
+/// part. Besides what the threads take it does not allocate.
 ///
 /// Limitation: if jobs and receipts are pairwise in ascending order, as `run_batch` returns them, and account for the journals,
 /// the time is linear in them; otherwise, for example if a receipt is a refusal, it is jobs times receipts. With more than 1,024
