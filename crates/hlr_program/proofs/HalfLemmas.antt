@@ -1,5 +1,5 @@
 -- A script that is checked by halves.
-use Rattle.std.proofs.Common.{◌≡◌, ℕ, zero, suc, ◌+◌, ◌<◌, arith, false, List, [], ◌∷◌, ◌++◌, add-one, length, take, drop, get_or, refl, sym, ap, ap₂, subst, ◌∙◌, inl, inr}
+use Rattle.std.proofs.Common.{◌≡◌, ℕ, zero, suc, ◌+◌, ◌<◌, arith, List, [], ◌∷◌, ◌++◌, add-one, length, take, drop, get_or, refl, sym, ap, ap₂, subst, ◌∙◌, inl, inr}
 use Rattle.std.specs.Prelude.{◌==◌}
 use Rattle.std.specs.List.{AllByRecursion, onto_first}
 use Rattle.std.proofs.lemmas.Bool.{cases_Bool, eq-eqb}
@@ -8,7 +8,7 @@ use Rattle.std.proofs.lemmas.List.Splits.{slice_split-cons_yes, slice_split-cons
 use Rattle.texts.specs.Lines.{lines, parts, without_empty_last}
 use Rattle.texts.proofs.LinesLemmas.{lines_nil}
 use Rattle.texts.proofs.PartsLemmas.{parts_cons}
-use Rattle.hlr_program.specs.Batches.{HasIds, IsBad, IsFirst, IsGood}
+use Rattle.hlr_program.specs.Batches.{IsBad, IsFirst, IsGood}
 use Rattle.hlr_program.specs.Checked.{IsFirstBad, IsSeen}
 use Rattle.hlr_program.specs.declared.check.Seen.{Seen}
 
@@ -68,10 +68,6 @@ lines_whole text =
 -- ---- what both halves say
 
 module _ (Good Bad : List ℕ → Type 0) where
-  all_join : (xs ys : List (List ℕ)) → AllByRecursion Good xs → AllByRecursion Good ys → AllByRecursion Good (xs ++ ys)
-  all_join [] ys h k = k
-  all_join (x ∷ xs) ys h k = (h.0, all_join xs ys h.1 k)
-
   first_before : (xs ys : List (List ℕ)) (before n : ℕ) → IsFirst Good Bad xs before n → IsFirst Good Bad (xs ++ ys) before n
   first_before [] ys before n h = absurd h
   first_before (x ∷ xs) ys before n (inl here) = inl here
@@ -101,16 +97,6 @@ pub halves_of : (text front back : List ℕ) (n : ℕ) → lines text ≡ lines 
 halves_of text front back n cut front_is back_is = record {
   lines_are = cut ∙ ap₂ (λ (x y : List ℕ). lines x ++ lines y) (sym front_is) (sym back_is);
   long = ap length (sym (take-append-drop n text)) ∙ length-append (take n text) (drop n text) ∙ ap₂ ◌+◌ (ap length (sym front_is)) (ap length (sym back_is));
-}
-
-pub both_seen : (text front back : List ℕ) (a b seen : Seen) → AreHalves text front back → IsSeen front a → IsSeen back b → seen.lines ≡ a.lines + b.lines
-    → (seen.lettered ≡ false → (a.lettered ≡ false) × (b.lettered ≡ false)) → IsSeen text seen
-both_seen text front back a b seen halves h k count lettered = record {
-  good = subst (AllByRecursion IsGood) (sym halves.lines_are) (all_join IsGood IsBad (lines front) (lines back) h.good k.good);
-  plain = λ plain. subst (AllByRecursion (HasIds 0)) (sym halves.lines_are)
-      (all_join (HasIds 0) IsBad (lines front) (lines back) (h.plain (lettered plain).0) (k.plain (lettered plain).1));
-  count = count ∙ (let x = h.count in let y = k.count in omega (arith, x, y)) ∙ sym (ap length halves.lines_are ∙ length-append (lines front) (lines back));
-  within = let x = h.within in let y = k.within in let z = halves.long in omega (arith, x, y, z, count);
 }
 
 pub first_is_bad : (text front back : List ℕ) (n : ℕ) → AreHalves text front back → IsFirstBad front n → IsFirstBad text n

@@ -24,10 +24,10 @@ pub struct Served {
     pub refused: bool,
 }
 
-/// A worker: takes lots of the jobs of a batch from a channel until it takes `Stop`. For a lot it reserves memory for the receipts, and reads
-/// the events in its own arena; then it locks each shard that some of them are for once, and handles these there, in their order: first the
-/// shards whose locks are free, and then, waiting for them, those that others held. The receipts are, in order, for the jobs that its pass took. If memory for a lot runs out, they are for the jobs before it; it then goes on
-/// taking lots without touching a shard.
+/// A worker: takes lots of the jobs of a batch from a channel until it takes `Stop`. For a lot it reserves memory for the receipts, and reads the
+/// events in its own arena; then it locks each shard that some of them are for once, and handles these there, in their order: first the shards
+/// whose locks are free, and then, waiting for them, those that others held. The receipts are, in order, for the jobs that its pass took. If
+/// memory for a lot runs out, they are for the jobs before it; it then goes on taking lots without touching a shard.
 ///
 /// Limitation: no contract says what a lock held, so none says that a receipt has its entry; `reconcile` finds out. Progress is
 /// not claimed: a call that waits for a message or a lock may wait forever.
