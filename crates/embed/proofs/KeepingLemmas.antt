@@ -15,7 +15,7 @@ use Rattle.wholenode.specs.declared.fault.Cause.TheVariants.{Memory, JournalFull
 use Rattle.wholenode.specs.Handling.{Cuts, Runs, Takes}
 use Rattle.wholenode.specs.Nodes.{NodeState, node}
 use Rattle.wholenode.specs.Opening.{BeginsWith}
-use Rattle.wholenode.specs.Restoring.{Restores}
+use Rattle.restoring.specs.Restoring.{Restores}
 use Rattle.wholenode.specs.Ticking.{RefusesTicks}
 use Rattle.wholenode.proofs.OpeningLemmas.{logs_at}
 use Rattle.wholenode.proofs.Places.{set_or_not}

@@ -15,7 +15,7 @@ use Rattle.wholenode.specs.Handling.{Cuts, Takes, sent_of}
 use Rattle.wholenode.specs.Keeping.{NodeKeeps}
 use Rattle.wholenode.specs.Nodes.{NodeState}
 use Rattle.wholenode.specs.Opening.{BeginsWith}
-use Rattle.wholenode.specs.Restoring.{Restores}
+use Rattle.restoring.specs.Restoring.{Restores}
 use Rattle.wholenode.specs.Ticking.{TicksAll, clocks_from}
 use Rattle.embed.specs.Images.{GoesOnFrom}
 use Rattle.embed.specs.Journals.{CutsOff, ListsOpen, ListsShard}

@@ -28,7 +28,7 @@ use Rattle.images.specs.Texts.{IsImage}
 use Rattle.shardlog.specs.declared.keep.Keep.{Keep}
 use Rattle.shardlog.specs.Log.{Log, fresh}
 use Rattle.wholenode.specs.Nodes.{NodeState, state_at, states, whole}
-use Rattle.wholenode.specs.Restoring.{Restores}
+use Rattle.restoring.specs.Restoring.{Restores}
 use Rattle.embed.specs.Numbers.{AreNumbered}
 use Rattle.embed.proofs.LookupLemmas.{same_shard, state_record}
 use Rattle.embed.proofs.NumberLemmas.{loaded_numbered, number_at, seen_number}

@@ -17,7 +17,7 @@ use Rattle.shardlog.specs.Log.{Log}
 use Rattle.wholenode.specs.Keeping.{NodeKeeps}
 use Rattle.wholenode.specs.Nodes.{NodeState}
 use Rattle.wholenode.specs.Replaying.{AreAlike}
-use Rattle.wholenode.specs.Restoring.{Restores}
+use Rattle.restoring.specs.Restoring.{Restores}
 use Rattle.audit.specs.Saving.{Saves}
 use Rattle.embed.specs.Keeping.{KeepsNothing}
 use Rattle.embed.specs.Lookups.{record_of}

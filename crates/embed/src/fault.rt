@@ -3,9 +3,10 @@
 ghost use Rattle.std.specs.Prelude.{◌≡◌};
 
 use records::RecordsFault;
+use restoring::ImageFault;
 use std::alloc::AllocError;
 use thiserror::Error;
-use wholenode::{Cause, ImageFault};
+use wholenode::Cause;
 
 /// Why a text was not written into a caller's buffer.
 #[derive(Clone, Copy, Debug, PartialEq, Eq, Drop, Error)]

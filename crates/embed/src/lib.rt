@@ -22,4 +22,5 @@ pub use laws::{images_are_restored, logs_are_replayed, replays_agree};
 pub use log_line::{LogLine, read_log_line};
 pub use lookups::Counts;
 pub use register::Register;
-pub use wholenode::{ImageFault, Keep};
+pub use restoring::ImageFault;
+pub use wholenode::Keep;

@@ -12,7 +12,7 @@ ghost use Rattle.images.specs.Again.{IsReadAgain};
 ghost use Rattle.shardlog.specs.Log.{Log};
 ghost use Rattle.wholenode.specs.Handling.{Refuses};
 ghost use Rattle.wholenode.specs.Keeping.{NodeKeeps};
-ghost use Rattle.wholenode.specs.Restoring.{IsImageOver};
+ghost use Rattle.restoring.specs.Restoring.{IsImageOver};
 ghost use Rattle.wholenode.specs.Ticking.{RefusesTicks};
 ghost use Rattle.embed.specs.Counts.{IsCountOf};
 ghost use Rattle.embed.specs.Images.{AreListed, GoesOnFrom, IsImageOf, IsSaved};
@@ -129,7 +129,7 @@ impl Register {
         ensures fault { IfErr result (IsRestoreFault text.now image.now) }
     {
         let loaded = read_records(alloc, text)?;
-        let node = Node::restore(alloc, loaded, keep, image)?;
+        let node = restoring::restore(alloc, loaded, keep, image)?;
         Ok(Register {
             alloc,
             node,

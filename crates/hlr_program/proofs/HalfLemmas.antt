@@ -109,7 +109,7 @@ pub second_is_bad : (text front back : List ℕ) (a : Seen) (n number : ℕ) →
     → number ≡ a.lines + n → IsFirstBad text number
 second_is_bad text front back a n number halves h k is = record {
   first = subst (λ (ls : List (List ℕ)). IsFirst IsGood IsBad ls 0 number) (sym halves.lines_are)
-      (first_behind IsGood IsBad (lines front) (lines back) 0 number h.good
+      (first_behind IsGood IsBad (lines front) (lines back) 0 number h.forms.good
       (subst (λ (p : ℕ × ℕ). IsFirst IsGood IsBad (lines back) p.0 p.1) (λ i. (begins i, (sym is) i))
       (first_moved IsGood IsBad (lines back) a.lines 0 n k.first)));
   within = let x = h.within in let y = k.within in let z = halves.long in omega (arith, x, y, z, is);

@@ -1,8 +1,9 @@
 -- Events that are gathered, and a lot that one thread handles.
-use Rattle.std.proofs.Common.{◌≡◌, ℕ, ◌+◌, List, [], ◌∷◌, ◌++◌, map, length, refl, sym, ap, subst, ◌∙◌, arith}
+use Rattle.std.proofs.Common.{◌≡◌, ℕ, ◌+◌, ◌-◌, List, [], ◌∷◌, ◌++◌, drop, map, length, refl, sym, ap, subst, ◌∙◌, arith}
 use Rattle.std.specs.List.{flat_map}
 use Rattle.std.specs.Prelude.{Some}
 use Rattle.std.proofs.lemmas.List.{append-nil, length-map}
+use Rattle.std.proofs.lemmas.List.Prefix.{end_rest}
 use Rattle.frames.specs.Octets.{RawEvent, RawOut}
 use Rattle.hlrcore.specs.declared.event.Event.{Event}
 use Rattle.hlrcore.specs.Events.{raw_of}
@@ -13,7 +14,7 @@ use Rattle.wholenode.proofs.ReadLemmas.{read_alone}
 use Rattle.hlr_program.specs.declared.answers.Answers.{Answers}
 use Rattle.hlr_program.specs.declared.fault.Fault.{Fault}
 use Rattle.frames.specs.Account.{Receipt}
-use Rattle.workers.specs.Shared.{GoesOn, SharedState, sent_at, sent_for}
+use Rattle.workers.specs.Shared.{AreLast, GoesOn, SharedState, sent_at, sent_for}
 use Rattle.hlr_program.specs.declared.register.Register.TheVariants.{Alone, Shared}
 use Rattle.hlr_program.specs.Answered.{frames_for, so_far}
 use Rattle.hlr_program.specs.Gathered.{Gathered, with_part}
@@ -66,6 +67,12 @@ frames_of_sent (r ∷ receipts) = ap (λ (frames : List RawOut). sent_at r.place
 pub one_receipt_each : (before after : SharedState) (raws : List RawEvent) (receipts : List Receipt) (count : ℕ) → GoesOn before raws (sent_for receipts) after
     → count ≡ length raws → length receipts ≡ count
 one_receipt_each before after raws receipts count ran is = sym (length-map receipts (λ (r : Receipt). sent_at r.place)) ∙ ran.0 ∙ sym is
+
+-- the last so many receipts are those that were appended last
+pub last_are : (after : SharedState) (receipts : List Receipt) (count : ℕ) (found : List Receipt) → AreLast receipts after → length receipts ≡ count
+    → found ≡ drop (length after.receipts - count) after.receipts → found ≡ receipts
+last_are after receipts count found last long is =
+    is ∙ ap (λ (n : ℕ). drop (length after.receipts - n) after.receipts) (sym long) ∙ end_rest after.receipts receipts last.0 last.1
 
 -- workers handle a part, and what its receipts have is printed
 pub part_adds : (before : Gathered SharedState) (register after : SharedState) (raws none : List RawEvent) (receipts printed : List Receipt)

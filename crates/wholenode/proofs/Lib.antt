@@ -2,7 +2,7 @@ pub mod Places
 pub mod ReadLemmas
 pub mod WholeLemmas
 pub mod OpeningLemmas
-pub mod RestoringLemmas
+pub mod BaseLemmas
 pub mod RunLemmas
 pub mod CutLemmas
 pub mod NamedLemmas

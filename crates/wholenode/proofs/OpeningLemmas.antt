@@ -1,11 +1,8 @@
 -- The shards at the beginning.
 use Rattle.std.proofs.Common.{◌≡◌, ℕ, ◌+◌, ◌<◌, zero, suc, List, [], ◌∷◌, ◌++◌, length, length-append, refl, sym, ap, subst, ◌∙◌, append_assoc, arith, inl, inr, eq-eqb, Bool, true, false, cond, ◌==◌}
-use Rattle.std.specs.Prelude.{Some, None, map as each, slice_get, nat_lt}
-use Rattle.std.specs.List.{All}
+use Rattle.std.specs.Prelude.{Some, None, Ok, Err, IfOk, Result, map as each, slice_get, nat_lt}
 use Rattle.std.proofs.lemmas.Bool.{both_ways, ltb-true}
-use Rattle.std.proofs.lemmas.List.{length-map}
-use Rattle.std.proofs.lemmas.List.Elements.{All-get_or}
-use Rattle.std.proofs.lemmas.Option.{get_or_from_slice_get, same_Some, slice_get_within}
+use Rattle.std.proofs.lemmas.Option.{get_or_from_slice_get, same_Some}
 use Rattle.std.proofs.Math.Seq.{get_or-append_seam}
 use Rattle.machine.specs.Keys.{shard_of, shard_of_id}
 use Rattle.machine.specs.Opening.{opening}
@@ -17,10 +14,10 @@ use Rattle.records.specs.Maps.{DirectoryMap, RecordMap, part_of}
 use Rattle.records.specs.Parts.{AreParts}
 use Rattle.hlrcore.specs.Shards.{ShardState, directory_of, records_of, state_of}
 use Rattle.shardlog.specs.declared.keep.Keep.{Keep}
-use Rattle.shardlog.specs.Log.{Log, LogKeeps, fresh}
-use Rattle.wholenode.specs.Keeping.{AreShards}
-use Rattle.wholenode.specs.Nodes.{node, state_at, states}
-use Rattle.wholenode.specs.Opening.{AreBeginning, AreOpening, Begins, BeginsWith}
+use Rattle.shardlog.specs.Log.{Log, fresh}
+use Rattle.wholenode.specs.Keeping.{AreShards, AreStates, NodeKeeps}
+use Rattle.wholenode.specs.Nodes.{NodeState, state_at, states as states_of, whole}
+use Rattle.wholenode.specs.Opening.{AreBeginning, AreOpening, Begins, BeginsWith, IsNodeOf}
 use Rattle.wholenode.proofs.Places.{below_or_last, there}
 
 -- ---- one by one
@@ -87,9 +84,6 @@ logs_at keep [] (suc n) l e = absurd cc
 logs_at keep (s ∷ ss) zero l e = (s, refl, sym (same_Some (fresh keep s) l e))
 logs_at keep (s ∷ ss) (suc n) l e = logs_at keep ss n l e
 
-pub all_at : {X : Type 0} (P : X → Type 0) (xs : List X) → All P xs → (n : ℕ) (x : X) → slice_get xs n ≡ Some x → P x
-all_at P xs all n x e = subst P (get_or_from_slice_get xs n x x e) (All-get_or P xs n x (slice_get_within xs n x e) all)
-
 each_push : (keep : Keep) (ss : List ShardState) (s : ShardState) → each (fresh keep) ss ++ fresh keep s ∷ [] ≡ each (fresh keep) (ss ++ s ∷ [])
 each_push keep [] s = refl
 each_push keep (x ∷ ss) s = ap (λ z. fresh keep x ∷ z) (each_push keep ss s)
@@ -99,13 +93,11 @@ pub push_fresh : (keep : Keep) (ss : List ShardState) (s : ShardState) (shards a
 push_fresh keep ss s shards after l are is pushed =
     pushed ∙ ap (λ z. z ++ l ∷ []) are ∙ ap (λ z. each (fresh keep) ss ++ z ∷ []) is ∙ each_push keep ss s
 
-pub as_many : (keep : Keep) (states : List ShardState) (shards : List Log) → shards ≡ each (fresh keep) states → length shards ≡ length states
-as_many keep states shards are = ap length are ∙ length-map states (fresh keep)
-
-pub are_opening : (loaded : Subscribers) (keep : Keep) (start : ℕ) (states : List ShardState) (shards : List Log) → AreBeginning loaded start 16 states
-    → shards ≡ each (fresh keep) states → All LogKeeps shards → AreOpening loaded keep start 16 shards
-are_opening loaded keep start states shards begin are keeps = record {
-  length_is = as_many keep states shards are ∙ begin.length_is;
+pub are_opening : (loaded : Subscribers) (keep : Keep) (start : ℕ) (directory : DirectoryMap) (states : List ShardState) (shards : List Log)
+    → AreBeginning loaded start 16 states
+    → shards ≡ each (fresh keep) states → AreShards directory shards → AreOpening loaded keep start 16 shards
+are_opening loaded keep start directory states shards begin are keeps = record {
+  length_is = keeps.count;
   each = λ n l e.
       let P : List Log → Type 0 = λ z. slice_get z n ≡ Some l in
       let at = logs_at keep states n l (subst P are e) in
@@ -114,22 +106,21 @@ are_opening loaded keep start states shards begin are keeps = record {
         begins = at.2;
         opens_as = is.opens_as;
         part_is = is.part_is;
-        keeps = all_at LogKeeps shards keeps n l e;
+        keeps = (keeps.each n l e).keeps;
       };
 }
 
 -- ---- all of them
 
-pub open_shards : (loaded : Subscribers) (keep : Keep) (start : ℕ) (directory : DirectoryMap) (shards : List Log) → directory ≡ loaded.directory
-    → AreOpening loaded keep start 16 shards → AreShards directory shards
-open_shards loaded keep start directory shards same are = record {
+pub begin_states : (loaded : Subscribers) (start : ℕ) (directory : DirectoryMap) (states : List ShardState) → directory ≡ loaded.directory
+    → AreBeginning loaded start 16 states → AreStates directory states
+begin_states loaded start directory states same are = record {
   hlr = loaded.hlr;
   count = are.length_is;
-  each = λ n l e. let is = are.each n l e in record {
-    keeps = is.keeps;
-    shard_is = ap (λ (k : Log). k.state.shard) is.begins ∙ is.opens_as.shard_is;
-    directory_is = ap (λ (k : Log). k.state.directory) is.begins ∙ is.opens_as.directory_is ∙ sym same;
-    hlr_is = ap (λ (k : Log). k.state.hlr) is.begins ∙ is.opens_as.hlr_is;
+  each = λ n s e. let is = (are.each n s e).opens_as in record {
+    shard_is = is.shard_is;
+    directory_is = is.directory_is ∙ sym same;
+    hlr_is = is.hlr_is;
   };
 }
 
@@ -201,17 +192,31 @@ unfolding opening
 opening_zero loaded n = refl
 
 begins_as_part : (loaded : Subscribers) (keep : Keep) (start : ℕ) (shards : List Log) → AreOpening loaded keep start 16 shards → (n : ℕ) → n < 16
-    → states shards n ≡ part (opening (records_of loaded.records) (directory_of loaded.directory) loaded.hlr) n
+    → states_of shards n ≡ part (opening (records_of loaded.records) (directory_of loaded.directory) loaded.hlr) n
 begins_as_part loaded keep start shards are n lt =
     let found = there shards n (omega (arith, are.length_is, lt)) in
     let is = are.each n found.0 found.1 in
     ap state_at found.1 ∙ ap (λ (k : Log). state_of k.state) is.begins ∙ is.part_is loaded.records refl
 
-pub begins_with : (loaded : Subscribers) (keep : Keep) (start : ℕ) (directory : DirectoryMap) (shards : List Log) → directory ≡ loaded.directory
-    → AreOpening loaded keep start 16 shards
-    → BeginsWith loaded keep start (node directory shards)
-begins_with loaded keep start directory shards same are = record {
-  directory_is = same;
-  shards_are = are;
-  whole_is = union_fresh _ (states shards) (begins_as_part loaded keep start shards are) (opening_none loaded) (opening_zero loaded);
-}
+-- together they are that state
+pub whole_as_opened : (loaded : Subscribers) (keep : Keep) (start : ℕ) (shards : List Log) → AreOpening loaded keep start 16 shards
+    → whole shards ≡ opening (records_of loaded.records) (directory_of loaded.directory) loaded.hlr
+whole_as_opened loaded keep start shards are =
+    union_fresh _ (states_of shards) (begins_as_part loaded keep start shards are) (opening_none loaded) (opening_zero loaded)
+
+pub begins_with : (loaded : Subscribers) (keep : Keep) (start : ℕ) (directory : DirectoryMap) (states : List ShardState) (n : NodeState)
+    → directory ≡ loaded.directory → AreBeginning loaded start 16 states → IsNodeOf directory keep states n → NodeKeeps n
+    → BeginsWith loaded keep start n
+begins_with loaded keep start directory states n same begin is keeps =
+    let are = are_opening loaded keep start n.directory states n.shards begin is.shards_are keeps.shards in record {
+      directory_is = is.directory_is ∙ same;
+      shards_are = are;
+      whole_is = whole_as_opened loaded keep start n.shards are;
+    }
+
+pub begins_if : {E : Type 0} (loaded : Subscribers) (keep : Keep) (start : ℕ) (directory : DirectoryMap) (states : List ShardState)
+    (r : Result NodeState E) → directory ≡ loaded.directory → AreBeginning loaded start 16 states → IfOk r (IsNodeOf directory keep states)
+    → IfOk r NodeKeeps
+    → IfOk r (BeginsWith loaded keep start)
+begins_if loaded keep start directory states (Ok n) same begin is keeps = begins_with loaded keep start directory states n same begin is keeps
+begins_if loaded keep start directory states (Err e) same begin is keeps = is

@@ -8,7 +8,7 @@ use Rattle.machine.specs.Sound.{Sound}
 use Rattle.frames.specs.Octets.{RawEntry, RunOctets}
 use Rattle.frames.specs.OctetJournals.{AreHolders, MergesOctets}
 use Rattle.records.specs.Maps.{DirectoryMap}
-use Rattle.hlrcore.specs.Shards.{state_of}
+use Rattle.hlrcore.specs.Shards.{ShardState, state_of}
 use Rattle.shardlog.specs.Log.{Log, LogKeeps}
 use Rattle.wholenode.specs.Nodes.{NodeState, bases, journals, states, whole, whole_base}
 
@@ -24,6 +24,18 @@ pub record AreShards (directory : DirectoryMap) (shards : List Log) : Type 0 whe
   pub hlr : List ℕ
   pub count : length shards ≡ SHARDS
   pub each : (n : ℕ) (l : Log) → slice_get shards n ≡ Some l → IsShardAt n directory hlr l
+
+-- A state of the shard with this number, with this directory and this HLR number.
+pub record IsStateAt (n : ℕ) (directory : DirectoryMap) (hlr : List ℕ) (s : ShardState) : Type 0 where
+  pub shard_is : s.shard ≡ n
+  pub directory_is : s.directory ≡ directory
+  pub hlr_is : s.hlr ≡ hlr
+
+-- There are states of the sixteen shards, indexed by their numbers, with one directory and one HLR number.
+pub record AreStates (directory : DirectoryMap) (states : List ShardState) : Type 0 where
+  pub hlr : List ℕ
+  pub count : length states ≡ SHARDS
+  pub each : (n : ℕ) (s : ShardState) → slice_get states n ≡ Some s → IsStateAt n directory hlr s
 
 -- Exactly the serving register, or none, holds the subscriber, by the octets in the journal of the subscriber's shard.
 abbrev pub HoldsServing : NodeState → (imsi : List ℕ) → Type 0

@@ -2,7 +2,6 @@ pub mod Causes
 pub mod Nodes
 pub mod Keeping
 pub mod Opening
-pub mod Restoring
 pub mod Reading
 pub mod Handling
 pub mod Room

@@ -1,5 +1,5 @@
 -- The shards at the beginning.
-use Rattle.std.specs.Prelude.{◌≡◌, ℕ, List, length, Some, slice_get}
+use Rattle.std.specs.Prelude.{◌≡◌, ℕ, List, length, map as each, Some, slice_get}
 use Rattle.machine.specs.declared.numbers.TheConstants.{SHARDS}
 use Rattle.machine.specs.Opening.{opening}
 use Rattle.machine.specs.Parts.{part}
@@ -32,6 +32,11 @@ pub record AreBeginning (loaded : Subscribers) (start count : ℕ) (states : Lis
   pub length_is : length states ≡ count
   pub each : (n : ℕ) (s : ShardState) → slice_get states n ≡ Some s
       → Begins start n (part_of loaded.records n) loaded.directory loaded.hlr s
+
+-- The register has this directory, and these states, each with an empty journal.
+pub record IsNodeOf (directory : DirectoryMap) (keep : Keep) (states : List ShardState) (node : NodeState) : Type 0 where
+  pub directory_is : node.directory ≡ directory
+  pub shards_are : node.shards ≡ each (fresh keep) states
 
 -- The shard with this number, when the records are loaded.
 abbrev pub OpensWith : Subscribers → Keep → (start n : ℕ) → Log → Type 0

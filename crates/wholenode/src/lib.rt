@@ -9,8 +9,8 @@ mod opening;
 mod reading;
 
 pub use fault::{Cause, NodeFault};
-pub use images::ImageFault;
 pub use laws::{journals_merge, merges_are_runs, runs_are_replayed, runs_have_room};
 pub use node::Node;
+pub use opening::opening_states;
 pub use reading::read_lot;
 pub use shardlog::Keep;

@@ -1,23 +1,19 @@
 //! The sixteen shards of a register, in one thread.
 
-ghost use Rattle.std.specs.Prelude.{◌≡◌, ◌≢◌, ◌<◌, List, [], map, Err, IfOk, IfErr, OnErr, OnOk};
+ghost use Rattle.std.specs.Prelude.{◌≡◌, ◌≢◌, ◌<◌, [], map, Err, IfOk, IfErr, OnErr, OnOk};
+ghost use Rattle.std.specs.Arc.{arc_value};
 ghost use Rattle.frames.specs.Octets.{IsEvent, RawClock, RawExpire};
 ghost use Rattle.hlrcore.specs.Events.{event_of, raw_event, raw_of};
-ghost use Rattle.hlrcore.specs.Shards.{ShardState};
-ghost use Rattle.images.specs.Beginnings.{beginnings};
-ghost use Rattle.images.specs.Texts.{IsImageFault};
 ghost use Rattle.wholenode.specs.Nodes.{whole};
-ghost use Rattle.wholenode.specs.Opening.{BeginsWith};
-ghost use Rattle.wholenode.specs.Restoring.{IsImageOver, Restores};
+ghost use Rattle.wholenode.specs.Opening.{BeginsWith, IsNodeOf};
 ghost use Rattle.wholenode.specs.Handling.{Cuts, Drops, IsRun, Refuses, Runs, Stops, Takes, sent_of};
-ghost use Rattle.wholenode.specs.Keeping.{NodeKeeps};
+ghost use Rattle.wholenode.specs.Keeping.{AreStates, NodeKeeps};
 ghost use Rattle.wholenode.specs.Ticking.{RefusesTicks, TicksAll};
 
 use crate::fault::{Cause, NodeFault, refusal, unread};
 use crate::opening::{opening_states, with_journals};
 use bumpalo::Bump;
-use hlrcore::{Event, RawEvent, ShardNumber, addressee_of};
-use images::{ImageFault, read_image};
+use hlrcore::{Event, RawEvent, ShardNumber, State, addressee_of};
 use records::{Directory, Loaded};
 use shardlog::{Epoch, Handled, Keep, Shard, tick_all};
 use std::alloc::{AllocError, Global};
@@ -58,38 +54,22 @@ impl Node {
     {
         let directory = loaded.shared_directory()?;
         let states = opening_states(alloc, loaded, start)?;
-        let shards = with_journals(alloc, states, keep)?;
-        Ok(Node {
-            alloc,
-            directory,
-            shards,
-        })
+        Node::of_states(alloc, directory, states, keep)
     }
 
-    /// The register that goes on where an image was made: the records file is the one that was saved at the same moment, and the image
-    /// has the text of `images::write_shard` of each shard, in the order of their numbers. Clocks, open dialogues and local ids are as
-    /// they were then; the journals are empty, and get an entry of each event, or none. On error the loaded value is dropped.
-    ///
-    /// - `Line`: the first line of the image that does not have its form, or that cannot follow.
-    /// - `CutShort`: the image ends before all shards are whole.
-    /// - `Memory`: out of memory.
-    pub fn restore(
+    /// The register of these states, which are of the sixteen shards in order, and share this directory: with empty journals, which get an
+    /// entry of each event, or none. On error the states are dropped.
+    pub fn of_states(
         alloc: Global,
-        loaded: Loaded,
+        directory: Arc<Directory>,
+        states: Vec<State>,
         keep: Keep,
-        image: &[u8],
-    ) -> Result<Node, ImageFault>
-        ensures restores { IfOk result (Restores loaded keep image.now) }
-        // An image is read, unless memory runs out.
-        ensures only { (shards : List ShardState) → IsImageOver loaded image.now shards
-            → IfErr result (λ fault. fault ≡ ImageFault.Memory) }
-        ensures fault { IfErr result (IsImageFault image.now (beginnings loaded)) }
+    ) -> Result<Node, AllocError>
+        requires { AreStates (arc_value directory) states.items }
+        ensures is { IfOk result (IsNodeOf (arc_value directory) keep states.items) }
         ensures keeps { IfOk result NodeKeeps }
     {
-        let directory = loaded.shared_directory()?;
-        let begin = opening_states(alloc, loaded, 0)?;
-        let whole = read_image(alloc, begin, image)?;
-        let shards = with_journals(alloc, whole, keep)?;
+        let shards = with_journals(alloc, states, keep)?;
         Ok(Node {
             alloc,
             directory,

@@ -14,12 +14,9 @@ use shardlog::{Keep, Shard};
 use std::alloc::{AllocError, Global};
 use std::sync::Arc;
 
-/// The states of the shards when the records are loaded. No record is copied.
-pub(crate) fn opening_states(
-    alloc: Global,
-    loaded: Loaded,
-    start: u32,
-) -> Result<Vec<State>, AllocError>
+/// The states of the sixteen shards when the records are loaded, in order: no dialogue is open, and each clock is at 0. Local ids begin as
+/// those of the start with this number (`Node::new`). No record is copied. On error the loaded value is dropped.
+pub fn opening_states(alloc: Global, loaded: Loaded, start: u32) -> Result<Vec<State>, AllocError>
     ensures { IfOk result (λ states. AreBeginning loaded start 16 states.items) }
 {
     let directory = loaded.shared_directory()?;

@@ -2,15 +2,7 @@ pub mod Moves
 pub mod Batches
 pub mod Serving
 pub mod Gathering
-pub mod Rising
 pub mod Settling
-pub mod Places
-pub mod Onlys
-pub mod Accounts
-pub mod Leasts
-pub mod Strays
-pub mod Marking
-pub mod Pairs
 pub mod MergedRuns
 pub mod Offices
 pub mod Orders

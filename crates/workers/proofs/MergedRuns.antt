@@ -6,9 +6,9 @@ use Rattle.std.proofs.lemmas.Option.{slice_get-map}
 use Rattle.shardlog.specs.Log.{Log}
 use Rattle.wholenode.specs.Nodes.{journal_at, journals}
 use Rattle.wholenode.proofs.WholeLemmas.{journals_merge}
-use Rattle.workers.specs.Journals.{journal_list}
+use Rattle.receipts.specs.Journals.{journal_list}
 use Rattle.workers.specs.Merged.{MergesAreRunsOfJobs}
-use Rattle.workers.proofs.Places.{entries_of}
+use Rattle.receipts.proofs.Places.{entries_of}
 use Rattle.frames_laws.proofs.MergedJobs.{merged_jobs}
 
 there : {X : Type 0} (xs : List X) (n : ℕ) → n < length xs → (x : X) × (slice_get xs n ≡ Some x)

@@ -16,7 +16,7 @@ use Rattle.records.specs.Maps.{DirectoryMap}
 use Rattle.shardlog.specs.Log.{Log}
 use Rattle.wholenode.specs.Keeping.{AreShards}
 use Rattle.wholenode.specs.Nodes.{journals, whole, whole_base}
-use Rattle.workers.specs.Journals.{journal_list}
+use Rattle.receipts.specs.Journals.{journal_list}
 use Rattle.workers.specs.Shared.{IsRunInSomeOrder, event_and_frames, events_of_jobs, jobs_of_receipts, numbers_of_jobs, sent_at, sent_for}
 use Rattle.workers.proofs.MergedRuns.{merges_are_runs_of_jobs}
 

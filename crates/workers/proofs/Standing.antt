@@ -16,12 +16,12 @@ use Rattle.records.specs.Maps.{DirectoryMap}
 use Rattle.hlrcore.specs.Shards.{ShardState, directory_of, records_of, state_of}
 use Rattle.shardlog.specs.declared.keep.Keep.TheVariants.{Entries}
 use Rattle.shardlog.specs.Log.{Log, LogKeeps, cut_log}
-use Rattle.wholenode.specs.Keeping.{AreShards}
+use Rattle.wholenode.specs.Keeping.{AreShards, AreStates}
 use Rattle.wholenode.specs.Nodes.{base_at, bases, state_at, whole, whole_base}
-use Rattle.wholenode.proofs.OpeningLemmas.{begins_with}
-use Rattle.workers.specs.Offices.{AreBases, AreOpeningBases, bases_of}
+use Rattle.wholenode.proofs.OpeningLemmas.{whole_as_opened}
+use Rattle.workers.specs.Offices.{AreOpeningBases, bases_of}
 use Rattle.workers.specs.Shared.{AreLast, AreSettled, GoesOn, HandsOut, IsRunInSomeOrder, SharedState, StandsBehind, events_of_jobs, jobs_of_receipts, numbers_of_jobs, sent_at, sent_for, shared_state, state_or_nothing, whole_of}
-use Rattle.workers.proofs.Offices.{bases_of_shards}
+use Rattle.wholenode.proofs.BaseLemmas.{bases_of_shards}
 use Rattle.workers.proofs.Orders.{joined, no_run, run_of_jobs}
 
 -- ---- what bases and states are together
@@ -58,9 +58,9 @@ whole_opening loaded s are =
     let at : (n : ℕ) (l : Log) → slice_get are.shards n ≡ Some l → l.base ≡ l.state = λ n l e.
     let begins = (are.opening.each n l e).begins in ap base_of begins ∙ sym (ap state_in begins) in
     ap whole_of are.bases_are ∙ whole_of_bases are.shards ∙ ap union (fun_ext (λ n. same_at (slice_get are.shards n) (at n)))
-    ∙ (begins_with loaded Entries 0 loaded.directory are.shards refl are.opening).whole_is
+    ∙ whole_as_opened loaded Entries 0 are.shards are.opening
 
-pub stands_at_first : (loaded : Subscribers) (s : List ShardState) → AreOpeningBases loaded s → AreBases loaded.directory s
+pub stands_at_first : (loaded : Subscribers) (s : List ShardState) → AreOpeningBases loaded s → AreStates loaded.directory s
     → StandsBehind (opening (records_of loaded.records) (directory_of loaded.directory) loaded.hlr) [] [] (shared_state s [] [])
 stands_at_first loaded s are one = record {
   directory = loaded.directory;

@@ -1,5 +1,5 @@
 -- What one batch does: the jobs that were sent, and the receipts for them.
-use Rattle.std.specs.Prelude.{◌≡◌, ℕ, ◌+◌, Bool, true, false, List, [], ◌∷◌, ◌++◌, map, flat_map, replicate, count_by, ◌==◌, ◌≤◌}
+use Rattle.std.specs.Prelude.{◌≡◌, ℕ, ◌+◌, Bool, true, false, List, [], ◌∷◌, ◌++◌, map, flat_map, replicate}
 use Rattle.frames.specs.Account.{Job}
 use Rattle.workers.specs.declared.lot.Lot.{Lot}
 use Rattle.workers.specs.declared.rule.Work.{Work}
@@ -18,10 +18,6 @@ abbrev pub stops_in : List Work → ℕ
 stops_in [] = 0
 stops_in (Do _ ∷ ws) = stops_in ws
 stops_in (Stop ∷ ws) = 1 + stops_in ws
-
--- no number occurs twice
-abbrev pub AreApart : List ℕ → Type 0
-AreApart ns = (n : ℕ) → count_by (λ m. m == n) ns ≤ 1
 
 -- the jobs of the lots, in order
 abbrev pub jobs_in : List Job → List Lot → List Job

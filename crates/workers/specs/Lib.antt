@@ -1,15 +1,7 @@
-pub mod Jobs
-pub mod Receipts
 pub mod Answered
-pub mod Refusals
 pub mod Hands
 pub mod Lots
 pub mod Batch
-pub mod Journals
-pub mod Only
-pub mod Least
-pub mod Pairs
-pub mod Marks
 pub mod Offices
 pub mod Merged
 pub mod Shared

@@ -8,7 +8,7 @@ use Rattle.records.specs.Maps.{DirectoryMap}
 use Rattle.shardlog.specs.Log.{Log}
 use Rattle.wholenode.specs.Keeping.{AreShards}
 use Rattle.wholenode.specs.Nodes.{journals, whole, whole_base}
-use Rattle.workers.specs.Journals.{journal_list}
+use Rattle.receipts.specs.Journals.{journal_list}
 
 -- If jobs and receipts account for the journals of sixteen shards, every merge of these is such a run, from the union of the
 -- bases to the union of the states.

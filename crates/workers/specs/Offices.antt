@@ -1,8 +1,7 @@
 -- The states in which the journals of an office's shards begin.
-use Rattle.std.specs.Prelude.{◌≡◌, ◌≢◌, ◌<◌, ℕ, List, length, map, take, Some, slice_get}
+use Rattle.std.specs.Prelude.{◌≡◌, ◌≢◌, ◌<◌, ℕ, List, length, map, take, slice_get}
 use Rattle.machine.specs.declared.numbers.TheConstants.{SHARDS}
 use Rattle.records.specs.Loaded.{Subscribers}
-use Rattle.records.specs.Maps.{DirectoryMap}
 use Rattle.hlrcore.specs.Shards.{ShardState}
 use Rattle.shardlog.specs.declared.keep.Keep.TheVariants.{Entries}
 use Rattle.shardlog.specs.Log.{Log}
@@ -17,18 +16,6 @@ pub record AreOpeningBases (loaded : Subscribers) (bases : List ShardState) : Ty
   pub shards : List Log
   pub opening : AreOpening loaded Entries 0 SHARDS shards
   pub bases_are : bases ≡ bases_of shards
-
--- A base of the shard with this number, with this directory and this HLR number.
-pub record IsBaseAt (n : ℕ) (directory : DirectoryMap) (hlr : List ℕ) (base : ShardState) : Type 0 where
-  pub shard_is : base.shard ≡ n
-  pub directory_is : base.directory ≡ directory
-  pub hlr_is : base.hlr ≡ hlr
-
--- There are sixteen bases, indexed by their shards' numbers, with one directory and one HLR number.
-pub record AreBases (directory : DirectoryMap) (bases : List ShardState) : Type 0 where
-  pub hlr : List ℕ
-  pub count : length bases ≡ SHARDS
-  pub each : (n : ℕ) (base : ShardState) → slice_get bases n ≡ Some base → IsBaseAt n directory hlr base
 
 -- The shards before place n have these bases, and the shard at n has another.
 pub record IsFirstSwapped (shards : List Log) (bases : List ShardState) (n : ℕ) : Type 0 where

@@ -11,11 +11,11 @@ use Rattle.frames.specs.OctetJournals.{MergesOctets}
 use Rattle.records.specs.Maps.{DirectoryMap}
 use Rattle.hlrcore.specs.Shards.{ShardState, shard_state_code, state_of}
 use Rattle.shardlog.specs.Log.{Log}
-use Rattle.wholenode.specs.Keeping.{AreShards}
+use Rattle.wholenode.specs.Keeping.{AreShards, AreStates}
 use Rattle.wholenode.specs.Nodes.{journals, nothing, whole, whole_base}
-use Rattle.workers.specs.Jobs.{job_code, receipt_code}
-use Rattle.workers.specs.Journals.{journal_list}
-use Rattle.workers.specs.Offices.{AreBases, bases_of}
+use Rattle.receipts.specs.Jobs.{job_code, receipt_code}
+use Rattle.receipts.specs.Journals.{journal_list}
+use Rattle.workers.specs.Offices.{bases_of}
 
 -- The bases of the shards, and what was done since: a receipt for each job, in the order of the jobs.
 pub record SharedState : Type 0 where
@@ -88,7 +88,7 @@ whole_of bases = union (λ n. state_or_nothing (slice_get bases n))
 -- others are those of its jobs, and their frames those of its receipts.
 pub record StandsBehind (begin : State) (events : List RawEvent) (sent : List (List RawOut)) (s : SharedState) : Type 0 where
   pub directory : DirectoryMap
-  pub are_bases : AreBases directory s.bases
+  pub are_bases : AreStates directory s.bases
   pub before_cut : List RawEvent
   pub sent_before_cut : List (List RawOut)
   pub events_are : events ≡ before_cut ++ events_of_jobs s.jobs
@@ -124,7 +124,7 @@ pub record HandsOut (begin : State) (events : List RawEvent) (sent : List (List 
 pub record AreSettled (bases : List ShardState) (jobs : List Job) (receipts : List Receipt) (shards : List Log) : Type 0 where
   pub same : bases_of shards ≡ bases
   pub account : Reconciles (journal_list shards) jobs receipts
-  pub one_register : (directory : DirectoryMap) → AreBases directory bases → AreShards directory shards
+  pub one_register : (directory : DirectoryMap) → AreStates directory bases → AreShards directory shards
 
 -- ---- numbers
 

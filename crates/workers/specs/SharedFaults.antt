@@ -2,9 +2,9 @@
 use Rattle.std.specs.Prelude.{Option, Some, None, Ok, Err, Result}
 use Rattle.workers.specs.declared.office.PlaceFault.{PlaceFault}
 use Rattle.workers.specs.declared.office.PlaceFault.TheVariants as place
-use Rattle.workers.specs.declared.placed.Placed.{Placed}
-use Rattle.workers.specs.declared.refusal.Refusal.{Refusal}
-use Rattle.workers.specs.declared.refusal.Refusal.TheVariants as refusal
+use Rattle.receipts.specs.declared.placed.Placed.{Placed}
+use Rattle.receipts.specs.declared.refusal.Refusal.{Refusal}
+use Rattle.receipts.specs.declared.refusal.Refusal.TheVariants as refusal
 use Rattle.workers.specs.declared.shared_fault.SharedFault.{SharedFault}
 use Rattle.workers.specs.declared.shared_fault.SharedFault.TheVariants.{Memory, NoRoom, Unaccounted}
 

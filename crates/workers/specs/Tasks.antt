@@ -5,7 +5,7 @@ use Rattle.hlrcore.specs.Events.{raw_of}
 use Rattle.workers.specs.declared.task.Stage.{Stage}
 use Rattle.workers.specs.declared.task.Stage.TheVariants.{Answered, Read}
 use Rattle.workers.specs.Answered.{IsAnswered}
-use Rattle.workers.specs.Receipts.{place_of}
+use Rattle.receipts.specs.Receipts.{place_of}
 
 -- It is this event that was read; an answer with a place is that of a shard that handled this event.
 abbrev pub IsOf : RawEvent → Stage → Type 0

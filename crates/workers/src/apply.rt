@@ -4,12 +4,11 @@ ghost use Rattle.std.specs.Prelude.{◌≡◌, IfOk, IfSome, OnErr};
 ghost use Rattle.frames.specs.Octets.{IsEvent};
 ghost use Rattle.hlrcore.specs.Events.{event_of, raw_event, raw_of};
 ghost use Rattle.workers.specs.Answered.{IsAnswered};
-ghost use Rattle.workers.specs.Receipts.{IsPlaced, place_of};
+ghost use Rattle.receipts.specs.Receipts.{IsPlaced, place_of};
 
-use crate::placed::Placed;
-use crate::refusal::Refusal;
 use bumpalo::Bump;
 use hlrcore::{Event, RawEvent, ShardNumber, addressee_of};
+use receipts::{Placed, Refusal};
 use shardlog::Shard;
 use std::alloc::Global;
 

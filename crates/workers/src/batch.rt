@@ -7,16 +7,16 @@ ghost use Rattle.crossbeam_channel.specs.Ends.{sends_on, receives_on};
 ghost use Rattle.workers.specs.declared.rule.Work.TheVariants.{Do, Stop};
 ghost use Rattle.workers.specs.declared.lot.Lot.{Lot};
 ghost use Rattle.workers.specs.Hands.{hand, IsBatch};
-ghost use Rattle.workers.specs.Batch.{jobs_in, stops_in, HasTaken, HasGathered, AreApart};
+ghost use Rattle.receipts.specs.Numbers.{AreApart};
+ghost use Rattle.workers.specs.Batch.{jobs_in, stops_in, HasTaken, HasGathered};
 
 use crate::gate::Gate;
-use crate::job::Job;
 use crate::lot::{Lot, crew_size, lot_size, messages};
 use crate::office::Office;
-use crate::receipt::Receipt;
 use crate::rule::{Hires, Receiver, Seat, Sender, Sends, Totals, Work};
 use crate::worker::{Served, serve, serve_alone};
 use crossbeam_channel::bounded_with;
+use receipts::{Job, Receipt};
 use std::alloc::{AllocError, Global};
 use std::sync::Wait;
 use std::thread::{self, Promise, Scope, Threads};
@@ -197,21 +197,6 @@ fn gather(
         Ok(()) => (seat, Ok(all)),
         Err(refused) => (seat, Err(refused)),
     }
-}
-
-/// Whether the jobs' numbers are strictly ascending, so that none occurs twice.
-pub fn numbers_rise(jobs: &[Job]) -> bool
-    ensures rising { IsTrue result ↔ IsStrictlyIncreasing (map (λ j. j.number) jobs.now) }
-    ensures apart { IsTrue result → AreApart (map (λ j. j.number) jobs.now) }
-{
-    for next in 1..jobs.len() {
-        let before = &jobs[next - 1];
-        let after = &jobs[next];
-        if before.number.get() >= after.number.get() {
-            return false;
-        }
-    }
-    true
 }
 
 /// Has 1 to 16 workers handle the jobs, but no more than there are jobs. One of them is the caller's thread, and a thread is started for

@@ -3,7 +3,7 @@
 ghost use Rattle.std.specs.Prelude.{◌≡◌, ◌+◌, ◌*◌, ◌/◌, ◌<◌, ◌≤◌, max, min};
 ghost use Rattle.workers.specs.Lots.{lot_size};
 
-use crate::job::Job;
+use receipts::Job;
 
 /// The most jobs of a lot: with so many, the way through the channel and the locks of the shards cost little beside the jobs.
 pub(crate) const MAX_LOT: usize = 64;

@@ -4,14 +4,11 @@ ghost use Rattle.std.specs.Prelude.{◌≡◌};
 
 use crate::apply::apply;
 use crate::gate::Gate;
-use crate::job::{Job, JobNumber};
-use crate::placed::Placed;
-use crate::receipt::Receipt;
-use crate::refusal::Refusal;
 use crate::swapped::first_swapped;
 use crate::task::{Stage, Task};
 use bumpalo::Bump;
 use hlrcore::{Event, ShardNumber, State};
+use receipts::{Job, JobNumber, Placed, Receipt, Refusal};
 use records::Loaded;
 use shardlog::Shard;
 use std::alloc::{AllocError, AllocFailed, Global};
@@ -82,15 +79,15 @@ impl Office {
     ghost use Rattle.records.specs.Maps.{DirectoryMap};
     ghost use Rattle.hlrcore.specs.Events.{raw_of};
     ghost use Rattle.shardlog.specs.Log.{LogKeeps};
-    ghost use Rattle.wholenode.specs.Keeping.{AreShards};
+    ghost use Rattle.wholenode.specs.Keeping.{AreShards, AreStates};
     ghost use Rattle.workers.specs.Answered.{IsAnswered};
-    ghost use Rattle.workers.specs.Offices.{AreBases, AreOpeningBases, bases_of};
-    ghost use Rattle.workers.specs.Receipts.{place_of};
+    ghost use Rattle.workers.specs.Offices.{AreOpeningBases, bases_of};
+    ghost use Rattle.receipts.specs.Receipts.{place_of};
 
     /// The register of a records file: its records, no open dialogue, and empty journals. On error the loaded value is dropped.
     pub fn new(alloc: Global, loaded: Loaded) -> Result<Office, AllocError>
         ensures begins { IfOk result (AreOpeningBases loaded) }
-        ensures one_register { IfOk result (AreBases loaded.directory) }
+        ensures one_register { IfOk result (AreStates loaded.directory) }
     {
         let node = Node::new(alloc, loaded, Keep::Entries, 0)?;
         Office::from_shards(alloc, node.into_shards())
@@ -105,7 +102,7 @@ impl Office {
         ensures bases { IfOk result (λ office. office ≡ bases_of shards.items) }
         ensures one_register { IfOk result
             (λ office. (directory : DirectoryMap) → AreShards directory shards.items
-            → AreBases directory office) }
+            → AreStates directory office) }
     {
         let mut locks = Vec::with_capacity(alloc, 16)?;
         let mut bases = Vec::with_capacity(alloc, 16)?;
@@ -131,7 +128,7 @@ impl Office {
         ensures keeps { IfOk result (λ shards. All LogKeeps shards.items) }
         // If the bases are those of one register, the shards are its sixteen shards, and the laws of their merged journals apply.
         ensures one_register { IfOk result
-            (λ shards. (directory : DirectoryMap) → AreBases directory self
+            (λ shards. (directory : DirectoryMap) → AreStates directory self
             → AreShards directory shards.items) }
         ensures place { (n : _) → result ≡ Err (PlaceFault.Swapped n) → n < 16 }
     {

@@ -6,13 +6,10 @@ ghost use Rattle.hlrcore.specs.Events.{raw_event};
 ghost use Rattle.workers.specs.Shared.{CountsFrom, end_at, events_of_jobs, numbers_of_jobs};
 ghost use Rattle.workers.specs.SharedFaults.{fault_in};
 
-use crate::job::{Job, JobNumber};
-use crate::placed::Placed;
-use crate::receipt::Receipt;
-use crate::refusal::Refusal;
 use crate::shared_fault::SharedFault;
 use hlrcore::RawEvent;
 use machine::numbers::MAX_ENTRIES;
+use receipts::{Job, JobNumber, Placed, Receipt, Refusal};
 use std::alloc::Global;
 
 /// The events as jobs, numbered from `first` on.

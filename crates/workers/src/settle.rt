@@ -4,11 +4,9 @@ ghost use Rattle.std.specs.Prelude.{◌≡◌, map, vec_len, All, IfOk};
 ghost use Rattle.shardlog.specs.Log.{LogKeeps, cut_log};
 ghost use Rattle.workers.specs.Shared.{AreSettled};
 
-use crate::account::reconcile;
-use crate::job::Job;
 use crate::office::Office;
-use crate::receipt::Receipt;
 use crate::shared_fault::SharedFault;
+use receipts::{Job, Receipt, reconcile};
 use shardlog::Shard;
 use std::thread::Threads;
 

@@ -2,15 +2,14 @@
 
 use crate::batch::run_batch;
 use crate::gate::OpenGate;
-use crate::job::Job;
 use crate::lot::paying_crew;
 use crate::office::Office;
 use crate::part::{first_fault, longest_with, number_jobs};
-use crate::receipt::Receipt;
 use crate::settle::{cut_all, settle};
 use crate::shared_fault::SharedFault;
 use hlrcore::RawEvent;
 use machine::numbers::MAX_ENTRIES;
+use receipts::{Job, Receipt};
 use records::Loaded;
 use shardlog::Shard;
 use std::alloc::{AllocError, Global};
@@ -46,7 +45,7 @@ impl Model for SharedRegister {
 }
 
 impl SharedRegister {
-    ghost use Rattle.std.specs.Prelude.{◌≡◌, ◌≤◌, ◌++◌, [], List, length, map, IfOk, OnOk};
+    ghost use Rattle.std.specs.Prelude.{◌≡◌, ◌≤◌, ◌-◌, ◌++◌, [], List, drop, length, map, IfOk, OnOk};
     ghost use Rattle.std.specs.List.Sorted.{IsStrictlyIncreasing};
     ghost use Rattle.frames.specs.Octets as octets;
     ghost use Rattle.hlrcore.specs.Events.{raw_event};
@@ -101,10 +100,9 @@ impl SharedRegister {
         Ok(())
     }
 
-    /// The receipts of the last so many events, in their order, of those since the last cut.
+    /// The receipts of the last so many events since the last cut, in their order; those of all, if they are fewer.
     pub fn last_receipts(&self, count: usize) -> &[Receipt]
-        ensures { (last : List account.Receipt) → AreLast last self.now → length last ≡ count
-            → result.now ≡ last }
+        ensures { result.now ≡ drop (length self.now.receipts - count) self.now.receipts }
     {
         let from = self.receipts.len().saturating_sub(count);
         &self.receipts[from..]

@@ -1,7 +1,7 @@
 //! Why a register that workers share cannot go on.
 
-use crate::account::Unaccounted;
 use crate::office::PlaceFault;
+use receipts::Unaccounted;
 use std::alloc::{AllocError, AllocFailed};
 use thiserror::Error;
 

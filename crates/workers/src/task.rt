@@ -2,12 +2,9 @@
 
 use crate::apply::{apply, read};
 use crate::gate::Gate;
-use crate::job::{Job, JobNumber};
-use crate::placed::Placed;
-use crate::receipt::Receipt;
-use crate::refusal::Refusal;
 use bumpalo::Bump;
 use hlrcore::{Event, ShardNumber, route};
+use receipts::{Job, JobNumber, Placed, Receipt, Refusal};
 use records::Directory;
 use shardlog::Shard;
 use std::alloc::Global;
@@ -32,7 +29,7 @@ pub(crate) struct Task<'a> {
 
 impl<'a> Model for Task<'a> {
     ghost use Rattle.frames.specs.Account as account;
-    ghost use Rattle.workers.specs.Jobs.{job_code};
+    ghost use Rattle.receipts.specs.Jobs.{job_code};
     ghost use Rattle.workers.specs.Tasks.{IsOf};
 
     ghost Value = { account.Job };
@@ -47,7 +44,7 @@ impl<'a> Model for Task<'a> {
 impl<'a> Task<'a> {
     ghost use Rattle.std.specs.Prelude.{◌≡◌, IfSome};
     ghost use Rattle.workers.specs.Answered.{IsAnswered};
-    ghost use Rattle.workers.specs.Receipts.{place_of};
+    ghost use Rattle.receipts.specs.Receipts.{place_of};
     ghost use Rattle.workers.specs.Tasks.{IsOf};
 
     /// Reads the event of a job in a worker's arena, and finds its shard. If it cannot be read, that is the answer.

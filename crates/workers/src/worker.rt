@@ -7,12 +7,11 @@ ghost use Rattle.workers.specs.Hands.{hand};
 ghost use Rattle.workers.specs.Batch.{HasTaken};
 
 use crate::gate::Gate;
-use crate::job::Job;
 use crate::lot::{Lot, MAX_LOT};
 use crate::office::Office;
-use crate::receipt::Receipt;
 use crate::rule::{Receiver, Seat, Takes, Work};
 use bumpalo::Bump;
+use receipts::{Job, Receipt};
 use std::alloc::{AllocError, Global};
 use std::sync::Wait;
 

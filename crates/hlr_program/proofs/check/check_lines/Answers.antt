@@ -50,8 +50,10 @@ returns-clause-seen c =
     let count = c.lines.invariant.count in
     let within = c.lines.invariant.within in
     record {
-      good = ends IsGood IsBad (lines c.args.text.now) 0 (lines c.lines.left.rest.now) c.lines.left.before c.lines.invariant.good nothing;
-      plain = λ plain. c.lines.invariant.plain plain (subst (AllByRecursion (HasIds 0)) (sym nothing) tt);
+      forms = record {
+        good = ends IsGood IsBad (lines c.args.text.now) 0 (lines c.lines.left.rest.now) c.lines.left.before c.lines.invariant.good nothing;
+        plain = λ plain. c.lines.invariant.plain plain (subst (AllByRecursion (HasIds 0)) (sym nothing) tt);
+      };
       count = omega (arith, count, all);
       within = omega (arith, within);
     }

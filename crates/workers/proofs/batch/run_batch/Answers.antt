@@ -2,7 +2,7 @@ use Rattle.std.proofs.Common.{rules}
 use Rattle.std.specs.List.Sorted.{IsNonDecreasingBy}
 use Rattle.std.proofs.lemmas.List.Sorted.{IsPermutation-map, IsPermutation-trans, IsNonDecreasingBy-from_sort_by_key}
 use Rattle.frames.specs.Account.{Receipt}
-use Rattle.workers.proofs.Rising.{rising, rising_keys, apart_moved}
+use Rattle.receipts.proofs.Rising.{rising, rising_keys, apart_moved}
 use Rattle.workers.proofs.batch.run_batch.Goals as goal
 
 pub returns-clause-one_each : goal.returns-clause-one_each

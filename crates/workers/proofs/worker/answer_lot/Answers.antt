@@ -2,7 +2,7 @@ use Rattle.std.proofs.Common.{◌≡◌, ◌∷◌, [], ap, arith, get_or, lengt
 use Rattle.std.proofs.lemmas.List.{map-append, with_items_is}
 use Rattle.frames.specs.Account.{Job}
 use Rattle.frames.specs.Octets.{RawExpire}
-use Rattle.workers.specs.Jobs.{job_of}
+use Rattle.receipts.specs.Jobs.{job_of}
 use Rattle.workers.proofs.Alone.{receipt_more}
 use Rattle.workers.proofs.worker.answer_lot.Goals as goal
 

@@ -1,7 +1,7 @@
 use Rattle.std.proofs.Common.{◌≡◌, rules, subst, sym}
 use Rattle.std.specs.Prelude.{Err, IfErr, Result}
 use Rattle.records.specs.Loaded.{Subscribers}
-use Rattle.wholenode.specs.Restoring.{IsImageOver, Restores}
+use Rattle.restoring.specs.Restoring.{IsImageOver, Restores}
 use Rattle.images.specs.Beginnings.{beginnings}
 use Rattle.images.specs.Texts.{IsImageFault}
 use Rattle.embed.specs.declared.fault.RestoreFault.{RestoreFault}

@@ -6,7 +6,7 @@ use Rattle.workers.specs.Shared.{GoesOn, sent_for}
 use Rattle.hlr_program.specs.declared.register.Register.TheVariants.{Shared}
 use Rattle.hlr_program.specs.Gathering.{progress}
 use Rattle.hlr_program.proofs.GatherLemmas.{adds_none}
-use Rattle.hlr_program.proofs.LotLemmas.{one_receipt_each, part_adds}
+use Rattle.hlr_program.proofs.LotLemmas.{last_are, one_receipt_each, part_adds}
 use Rattle.hlr_program.proofs.crew.Crew.run.Goals as goal
 
 pub returns-then-is_empty-clause-adds : goal.returns-then-is_empty-clause-adds
@@ -25,5 +25,6 @@ returns-clause-adds g c =
     let count : c.len-count.result ≡ length raws = long ∙ sym (length-map c.self.inside.part.items raw_event) in
     part_adds c.args.self.now register after raws (map raw_event c.replace-part.new.dest.items) receipts c.last_receipts.result.now c.args.answers.now
     c.push_receipts.new.self c.self.view_is ran none
-    (c.last_receipts.ensures receipts c.in_ok-run_part.ensures.handles.2 (one_receipt_each register after raws receipts c.len-count.result ran count))
+    (last_are after receipts c.len-count.result c.last_receipts.result.now c.in_ok-run_part.ensures.handles.2
+    (one_receipt_each register after raws receipts c.len-count.result ran count) c.last_receipts.ensures)
     c.in_ok-push_receipts.ensures

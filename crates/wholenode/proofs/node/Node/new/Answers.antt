@@ -1,16 +1,9 @@
-use Rattle.wholenode.proofs.OpeningLemmas.{are_opening, begins_with, open_shards}
-use Rattle.wholenode.proofs.WholeLemmas.{node_keeps}
+use Rattle.wholenode.proofs.OpeningLemmas.{begin_states, begins_if}
 use Rattle.wholenode.proofs.node.Node.new.Goals as goal
 
-pub invariant_of-result : goal.invariant_of-result
-invariant_of-result c =
-    open_shards c.args.loaded c.args.keep c.args.start _ _ c.in_ok-directory.ensures
-    (are_opening c.args.loaded c.args.keep c.args.start _ _ c.in_ok-states.ensures c.in_ok-shards.ensures.shards c.in_ok-shards.ensures.keeps)
+pub of_states-requires : goal.of_states-requires
+of_states-requires c = begin_states c.args.loaded c.args.start _ _ c.in_ok-directory.ensures c.in_ok-states.ensures
 
 pub returns-clause-begins : goal.returns-clause-begins
-returns-clause-begins c =
-    begins_with c.args.loaded c.args.keep c.args.start _ _ c.in_ok-directory.ensures
-    (are_opening c.args.loaded c.args.keep c.args.start _ _ c.in_ok-states.ensures c.in_ok-shards.ensures.shards c.in_ok-shards.ensures.keeps)
-
-pub returns-clause-keeps : goal.returns-clause-keeps
-returns-clause-keeps c = node_keeps _ _ (invariant_of-result c)
+returns-clause-begins c = begins_if c.args.loaded c.args.keep c.args.start _ _ _ c.in_ok-directory.ensures c.in_ok-states.ensures
+    c.of_states.ensures.is c.of_states.ensures.keeps

@@ -2,7 +2,7 @@ use Rattle.std.proofs.Common.{◌≡◌, rules}
 use Rattle.std.specs.Prelude.{All}
 use Rattle.shardlog.specs.Log.{LogKeeps}
 use Rattle.workers.specs.Offices.{bases_of}
-use Rattle.workers.proofs.Offices.{shards_of_bases}
+use Rattle.wholenode.proofs.BaseLemmas.{shards_of_bases}
 use Rattle.workers.proofs.office.Office.into_shards.Goals as goal
 
 pub returns-in-None-2-clause-one_register : goal.returns-in-None-2-clause-one_register

@@ -1,5 +1,5 @@
 use Rattle.workers.specs.Shared.{jobs_of_receipts, numbers_of_jobs}
-use Rattle.workers.proofs.Rising.{apart_rising, same_moved}
+use Rattle.receipts.proofs.Rising.{apart_rising, same_moved}
 use Rattle.workers.proofs.shared.SharedRegister.handle.Goals as goal
 
 pub run_batch-requires-clause-distinct : goal.run_batch-requires-clause-distinct

@@ -1,0 +1,9 @@
+pub mod Jobs
+pub mod Receipts
+pub mod Refusals
+pub mod Journals
+pub mod Only
+pub mod Least
+pub mod Pairs
+pub mod Marks
+pub mod Numbers

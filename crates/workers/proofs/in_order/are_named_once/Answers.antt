@@ -1,5 +1,0 @@
-use Rattle.workers.proofs.Marking.{none_marked}
-use Rattle.workers.proofs.in_order.are_named_once.Goals as goal
-
-pub names_each_once-requires : goal.names_each_once-requires
-names_each_once-requires c = none_marked 1024

@@ -1,6 +1,0 @@
-use Rattle.std.proofs.Common.{take}
-use Rattle.workers.specs.Marks.{AreMarked}
-use Rattle.workers.proofs.in_order.mark_places.Given as goal
-
-abbrev pub invariant-loop-receipt : goal.invariant-loop-receipt
-invariant-loop-receipt l = AreMarked (take l.receipt-index l.receipts) l.words
