@@ -7,10 +7,10 @@
 mod buffer;
 mod code;
 mod handle;
+mod image;
 mod lookups;
 mod next;
 mod replay;
-mod restoring;
 
 ghost use Rattle.std.specs.Prelude.{◌≡◌, ◌≢◌, length, true, None, Some};
 ghost use Rattle.hlrcore.specs.Events.{raw_event};
@@ -27,6 +27,7 @@ use embed::{
 };
 pub use handle::Handle;
 use hlrcore::{RawEvent, ShardNumber};
+pub use image::{kunchrol_image, kunchrol_restore};
 pub use lookups::{
     kunchrol_counts, kunchrol_deadline, kunchrol_dialogues, kunchrol_record,
     kunchrol_record_of_number, kunchrol_subject,
@@ -34,7 +35,6 @@ pub use lookups::{
 use machine::numbers::MAX_CLOCK;
 use next::next_frame;
 pub use replay::{kunchrol_drop_frames, kunchrol_replay};
-pub use restoring::{kunchrol_image, kunchrol_restore};
 use std::alloc::Global;
 
 /// The release: 65,536 times its first number, 256 times its second, and its third. This is 0.1.0.

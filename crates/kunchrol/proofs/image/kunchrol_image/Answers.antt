@@ -2,7 +2,7 @@ use Rattle.std.proofs.Common.{◌≡◌, ◌<◌, ℕ, length, rules, subst, inr
 use Rattle.std.specs.Prelude.{Some}
 use Rattle.embed.specs.Images.{IsImageOf}
 use Rattle.kunchrol.specs.Refusals.{RefusesRoom}
-use Rattle.kunchrol.proofs.restoring.kunchrol_image.Goals as goal
+use Rattle.kunchrol.proofs.image.kunchrol_image.Goals as goal
 
 pub returns-clause-written : goal.returns-clause-written
 returns-clause-written c = λ is.

@@ -2,7 +2,7 @@ use Rattle.std.proofs.Common.{◌≡◌, rules, refl, subst, inl, inr}
 use Rattle.std.specs.Prelude.{None, Some}
 use Rattle.shardlog.specs.declared.keep.Keep.{Keep}
 use Rattle.embed.specs.Images.{GoesOnFrom}
-use Rattle.kunchrol.proofs.restoring.kunchrol_restore.Goals as goal
+use Rattle.kunchrol.proofs.image.kunchrol_restore.Goals as goal
 
 pub returns-in-Ok-new-clause-restored : goal.returns-in-Ok-new-clause-restored
 returns-in-Ok-new-clause-restored c = λ is.
