@@ -4,6 +4,7 @@ import os
 import pathlib
 import re
 import shutil
+import threading
 
 from prover import Check
 
@@ -68,6 +69,10 @@ def one_by_one(edits):
     return [[it] for it in edits]
 
 
+# How many edits share a run at most: more runs of a crate can go side by side then, and each takes seconds to start.
+MOST = 12
+
+
 class Trial:
     """The runs of one crate, each on a copy of what its checks kept, or else of what the first of these runs kept."""
 
@@ -76,34 +81,54 @@ class Trial:
 
     def __init__(self, crate, room, logs=None):
         self.crate, self.room, self.logs, self.runs, self.seconds = crate, room, logs, 0, 0
+        self.verdicts, self.counting = {}, threading.Lock()
         kept = f"{crate.folder}/out/incremental"
         self.start = kept if os.path.isdir(kept) else None
 
+    def number(self):
+        with self.counting:
+            self.runs += 1
+            return self.runs - 1
+
     def check(self, edits):
-        kept, log = f"{self.room}/{self.runs}", f"{self.crate.name}.{self.runs}"
-        if self.start:
-            shutil.copytree(self.start, kept)
+        """A run with these edits, which says what becomes of each. Several can go side by side."""
+        number, start = self.number(), self.start
+        kept, log = f"{self.room}/{number}", f"{self.crate.name}.{number}"
+        if start:
+            shutil.copytree(start, kept)
         else:
-            os.mkdir(kept)
+            os.makedirs(kept)
         texts = edits[0].together(edits)[0]
         said = Check(self.crate, {self.crate: texts}, set().union(*(it.functions for it in edits)), kept, self.logs and pathlib.Path(self.logs, log))
-        if self.start or said.fault:
+        if start or said.fault:
             shutil.rmtree(kept)
         else:
             self.start = kept
-        self.runs, self.seconds = self.runs + 1, self.seconds + said.seconds
-        return {it: self.verdict(it, said) for it in edits}
+        with self.counting:
+            self.seconds += said.seconds
+        self.verdicts.update({it: self.verdict(it, said) for it in edits})
 
     def verdict(self, edit, said):
         told = [said.refusal(it, edit.is_of_definitions) for it in sorted(edit.functions)]
         return next((it for it in told if not it[0]), told[0])
 
-    def tried(self, edits):
-        """What became of each. An edit whose function calls another edited one may tell nothing of itself until that one is left out."""
-        verdicts = {it: (False, it.fault) for it in edits if it.fault}
+    def rounds(self, edits):
+        """Which edits share a run: lists of runs that can go side by side, each list once those of the one before it have ended. The first run
+        is alone, since the others begin with what it kept. An edit whose function calls another edited one may tell nothing of itself until that
+        one is left out."""
+        self.verdicts.update({it: (False, it.fault) for it in edits if it.fault})
         left = [it for it in edits if not it.fault]
         for in_runs in self.ways:
-            for batch in in_runs(left):
-                verdicts.update(self.check(batch))
-            left = [it for it in left if not verdicts[it][0]]
-        return verdicts
+            runs = [batch[at : at + MOST] for batch in in_runs(left) for at in range(0, len(batch), MOST)]
+            if runs and not self.start:
+                yield [runs.pop(0)]
+            if runs:
+                yield runs
+            left = [it for it in left if not self.verdicts[it][0]]
+
+    def tried(self, edits):
+        """What became of each, once all runs have ended, one after the other."""
+        for runs in self.rounds(edits):
+            for batch in runs:
+                self.check(batch)
+        return self.verdicts

@@ -100,6 +100,33 @@ class Kept:
         return all(folders.values())
 
 
+class KeptSoFar(Kept):
+    """The same of these libraries, lowest first, while `rt ci` still proves: each is used from where it was put as soon as it is kept."""
+
+    def __init__(self, libraries):
+        super().__init__(libraries)
+        self.left, self.there = [*libraries], set()
+
+    def look(self):
+        """Takes those that are kept by now."""
+        for it in [it for it in self.left if self.there.issuperset(it.below())]:
+            if folder := self.taken(it):
+                it.rlib = f"{folder}/rlib/{it.name}.rlib"
+                self.left.remove(it)
+                self.there.add(it)
+
+    def has_all_below(self, crate):
+        return self.there.issuperset(crate.below())
+
+
+def is_running(process):
+    """Whether a process with this number is there, and has not ended."""
+    try:
+        return pathlib.Path(f"/proc/{process}/stat").read_text().rpartition(")")[2].split()[0] != "Z"
+    except OSError:
+        return False
+
+
 def are_kept_by_ci(crates):
     """Whether `rt ci` kept all these libraries, lowest first, which are then used from there."""
     held.append(Kept(crates))
