@@ -197,6 +197,10 @@ module _ (shard first : ℕ) (slots : List Slot) (free : List ℕ) (freed : Opti
   pub within_slots : slot_of id < length slots
   within_slots = within_at shard id slots (slot_of id) live
 
+  -- each slot is live or free
+  pub below_used : slot_of id < set.len (live_of shard slots) + length free
+  below_used = omega (arith, a.counted, within_slots)
+
   pub AreSlots-untaken : AreSlots shard first (back (generation_before (generation_of id))) (free ++ slot_of id ∷ []) freed room of_free
   AreSlots-untaken = with_slot slots_back
 

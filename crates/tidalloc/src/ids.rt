@@ -1,6 +1,6 @@
 //! The ids of a shard.
 
-ghost use Rattle.std.specs.Prelude.{◌≡◌, ◌<◌, ◌≤◌, ◌↔◌, ◌++◌, ◌∷◌, List, ℕ, true, Some, IfOk, IfSome, OnOk, OnErr, IsNone, IsFalse, IsTrue, Err, option_map, slice_get};
+ghost use Rattle.std.specs.Prelude.{◌≡◌, ◌+◌, ◌<◌, ◌≤◌, ◌↔◌, ◌++◌, ◌∷◌, List, ℕ, length, true, Some, IfOk, IfSome, OnOk, OnErr, IsNone, IsFalse, IsTrue, Err, option_map, slice_get};
 ghost use Rattle.std.specs.FinSet as set;
 ghost use Rattle.tidalloc.specs.LiveIds.{LiveIds, MayBeTaken, Takes, beginning_after, is_live, next_of, no_ids, given_back, id_at, slot_of, slot_if_live, next_use, HaveOwnSlots};
 ghost use Rattle.tidalloc.specs.Resumed.{AreTakenAgain, IsNextUnused, IsResumed, ascending, set_back, untaken, with_used};
@@ -294,10 +294,13 @@ impl Ids {
         }
     }
 
-    /// The slot of a live id, below `MAX_IDS`: its last twelve bits, in which no two live ids agree.
+    /// The slot of a live id, below `MAX_IDS`: its last twelve bits, in which no two live ids agree. It is below the number of slots that
+    /// were used, each of which is live or free.
     pub fn slot(&self, id: Tid) -> Option<usize>
         ensures slot { result ≡ slot_if_live self.now id }
         ensures small { IfSome result (λ slot. slot < 4096) }
+        ensures used { IfSome result (λ slot.
+            slot < set.len self.now.live + length self.now.supply.free) }
         ensures own { HaveOwnSlots self.now }
     {
         let _invariant = &self.slots;

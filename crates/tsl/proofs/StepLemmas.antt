@@ -1,13 +1,13 @@
 -- What stays and what changes when memory is reserved and when a transaction begins, becomes Active or closes.
-use Rattle.std.proofs.Common.{◌≡◌, ◌≢◌, ℕ, ◌+◌, ◌-◌, ◌<◌, ◌≤◌, Bool, true, false, cond, not, ◌&&◌, ◌||◌, List, length, Option, Some, None, refl, sym, ap, ◌∙◌, subst, arith, inl, inr, get_or, zero, suc, [], ◌∷◌}
+use Rattle.std.proofs.Common.{◌≡◌, ◌≢◌, ℕ, ◌+◌, ◌-◌, ◌<◌, ◌≤◌, Bool, true, false, cond, not, ◌&&◌, ◌||◌, List, length, Option, Some, None, refl, sym, ap, ◌∙◌, subst, arith, inl, inr, get_or, zero, suc, [], ◌∷◌, ◌++◌}
 use Rattle.std.specs.Option.{option_map, is_some, IfSome}
 use Rattle.std.specs.List.{slice_index_or}
 use Rattle.std.specs.Ordering.{eq_by_cmp}
 use Rattle.std.specs.FinMap as map
 use Rattle.std.specs.FinSet as set
 use Rattle.slab.specs.Slab.{Slab, get, slab_len, with_value, Updates}
-use Rattle.std.proofs.Math.ListN.{set, length-set}
-use Rattle.std.proofs.lemmas.List.{get_or-set_same, get_or-set_other}
+use Rattle.std.proofs.Math.ListN.{set, length-set, length-append}
+use Rattle.std.proofs.lemmas.List.{get_or-set_same, get_or-set_other, length-take-le}
 use Rattle.std.proofs.lemmas.Bool.{cases_eq}
 use Rattle.std.proofs.lemmas.List.Sums.{sum_by-set}
 use Rattle.hlr_types.specs.Orders.{octets_cmp}
@@ -17,19 +17,35 @@ use Rattle.tidalloc.specs.LiveIds.{LiveIds, is_live, slot_of, slot_if_live, give
 use Rattle.tsl.specs.declared.transactions.Entry.{Entry}
 use Rattle.tsl.specs.Transactions.{Begins, MayBegin, at, closed, with_transaction}
 use Rattle.tsl.specs.Table.{entry_at, open_of, IsOwn, AreEntries}
-use Rattle.tsl.proofs.ViewLemmas.{transaction_in, id_in, stored, at-open_of, not_open_if_not_live, slot_when_live}
+use Rattle.tsl.proofs.ViewLemmas.{transaction_in, id_in, stored, at-open_of, not_open_if_not_live, open_of-keys, open_of-slots, slot_when_live}
 
--- ---- room
-pub AreEntries-room : (ids : LiveIds) (keys : List ℕ) (slab : Slab Entry) (room in_slab room' : ℕ) → AreEntries ids keys slab room
-    → slab_len slab + room' ≤ in_slab → set.len ids.live + room' ≤ 4096 → AreEntries ids keys (record slab { capacity = in_slab }) room'
-AreEntries-room ids keys slab room in_slab room' a few_slab few = record {
-  all_slots = a.all_slots;
-  of_shard = a.of_shard;
-  own = a.own;
-  no_other = λ key e stands. record { live = (a.no_other key e stands).live; found = (a.no_other key e stands).found };
-  room_in_slab = few_slab;
-  few = few;
-}
+-- ---- memory is reserved
+-- past the last key every key counts as 0, so one more 0 changes none
+pub key-pushed : (keys : List ℕ) (n : ℕ) → get_or (keys ++ 0 ∷ []) n 0 ≡ get_or keys n 0
+key-pushed [] zero = refl
+key-pushed [] (suc n) = refl
+key-pushed (key ∷ keys) zero = refl
+key-pushed (key ∷ keys) (suc n) = key-pushed keys n
+
+-- one more can begin, if there is memory for its entry and one key more than live ids
+module _ (ids : LiveIds) (keys keys' : List ℕ) (slab slab' : Slab Entry) (room : ℕ) (same : (n : ℕ) → get_or keys' n 0 ≡ get_or keys n 0)
+    (slots : slab'.slots ≡ slab.slots) where
+  pub AreEntries-reserve : AreEntries ids keys slab room → length keys ≤ length keys' → set.len ids.live < length keys'
+      → slab_len slab' + 1 ≤ slab'.capacity → set.len ids.live < 4096 → AreEntries ids keys' slab' 1
+  AreEntries-reserve a longer more fits few = record {
+    used = omega (arith, a.used, longer);
+    room_in_keys = omega (arith, more);
+    of_shard = a.of_shard;
+    own = λ id live. ap (λ k. id_in (get slab' k)) (same (slot_of id)) ∙ ap (λ s. id_in (slice_index_or s (get_or keys (slot_of id) 0) None)) slots ∙ a.own id live;
+    no_other = λ key e stands.
+        let was = a.no_other key e (ap (λ s. slice_index_or s key None) (sym slots) ∙ stands) in
+        record { live = was.live; found = same (slot_of e.id) ∙ was.found };
+    room_in_slab = fits;
+    few = omega (arith, few);
+  }
+
+  pub reserves : open_of ids keys' slab' 1 ≡ record (open_of ids keys slab room) { room = 1 }
+  reserves = open_of-keys ids keys keys' slab' 1 same ∙ open_of-slots ids keys slab slab' 1 slots
 
 -- ---- an entry comes, at an id that is live now
 pub record Adds (ids ids' : LiveIds) (keys keys' : List ℕ) (slab slab' : Slab Entry) (key : ℕ) (entry : Entry) : Type 0 where
@@ -110,9 +126,24 @@ module _ (ids ids' : LiveIds) (keys keys' : List ℕ) (slab slab' : Slab Entry) 
       kept q other false live = refl
 
 -- ---- a transaction begins
+
+-- each slot that is used then has a key: it was used before, or there was room for it
+module _ (ids new : LiveIds) (keys : List ℕ) (slab : Slab Entry) (room : ℕ) (id : List ℕ)
+    (a : AreEntries ids keys slab room) (t : Takes ids id new) (some : 0 < room) where
+  one_more : set.len new.live ≡ set.len ids.live + 1
+  one_more =
+      ap (λ (v : LiveIds). set.len v.live) t.after ∙ set.len-insert octets_total ids.live id
+      ∙ ap (λ b. cond b (set.len ids.live) (set.len ids.live + 1)) t.may.not_live
+
+  pub used_then : set.len new.live + length new.supply.free ≤ length keys
+  used_then =
+      let free : length new.supply.free ≡ length ids.supply.free - 1 = ap (λ (v : LiveIds). length v.supply.free) t.after
+      ∙ length-take-le (length ids.supply.free - 1) ids.supply.free (omega arith) in
+      omega (arith, a.used, a.room_in_keys, one_more, free, some)
+
 module _ (ids new : LiveIds) (keys : List ℕ) (slab slab' : Slab Entry) (room slot key : ℕ) (entry : Entry)
     (a : AreEntries ids keys slab room) (t : Takes ids entry.id new) (own : HaveOwnSlots new)
-    (there : Some slot ≡ slot_if_live new entry.id) (small : slot < 4096)
+    (there : Some slot ≡ slot_if_live new entry.id) (below : slot < set.len new.live + length new.supply.free)
     (vacant : get slab key ≡ None) (u : Updates slab slab' key (Some entry)) (len : slab_len slab' ≡ slab_len slab + 1)
     (capacity : slab'.capacity ≡ slab.capacity) (some : 0 < room) where
   live-take : (q : List ℕ) → is_live new q ≡ (eq_by_cmp octets_cmp q entry.id || is_live ids q)
@@ -128,7 +159,7 @@ module _ (ids new : LiveIds) (keys : List ℕ) (slab slab' : Slab Entry) (room s
   adds = record {
     live = live-take;
     own_slots = own;
-    key_here = ap (λ n. get_or (set keys slot key) n 0) (sym slot_here) ∙ get_or-set_same keys slot key 0 (omega (arith, a.all_slots));
+    key_here = ap (λ n. get_or (set keys slot key) n 0) (sym slot_here) ∙ get_or-set_same keys slot key 0 (omega (arith, used_then ids new keys slab room entry.id a t some, below));
     key_there = λ n other. get_or-set_other keys slot n key 0 (λ e. other (e ∙ slot_here));
     here = u.changed;
     there = u.others;
@@ -138,7 +169,8 @@ module _ (ids new : LiveIds) (keys : List ℕ) (slab slab' : Slab Entry) (room s
 
   pub AreEntries-begin : AreEntries new (set keys slot key) slab' (room - 1)
   AreEntries-begin = record {
-    all_slots = length-set keys slot key ∙ a.all_slots;
+    used = omega (arith, used_then ids new keys slab room entry.id a t some, length-set keys slot key);
+    room_in_keys = omega (arith, a.room_in_keys, one_more ids new keys slab room entry.id a t some, length-set keys slot key);
     of_shard = λ q live. subst (λ n. IsIdOf n q) (sym (ap (λ (v : LiveIds). v.shard) t.after)) (elim (cases_octets q entry.id) [
       | inl e ↦ subst (IsIdOf ids.shard) (sym e) t.may.of_shard
       | inr other ↦ a.of_shard q (live_before ids new keys (set keys slot key) slab slab' room (room - 1) key entry adds a q other live)
@@ -146,11 +178,7 @@ module _ (ids new : LiveIds) (keys : List ℕ) (slab slab' : Slab Entry) (room s
     own = own-add ids new keys (set keys slot key) slab slab' room (room - 1) key entry adds a;
     no_other = no_other-add ids new keys (set keys slot key) slab slab' room (room - 1) key entry adds a;
     room_in_slab = omega (arith, a.room_in_slab, len, capacity);
-    few =
-        let more : set.len new.live ≡ set.len ids.live + 1 =
-        ap (λ (v : LiveIds). set.len v.live) t.after ∙ set.len-insert octets_total ids.live entry.id
-        ∙ ap (λ b. cond b (set.len ids.live) (set.len ids.live + 1)) t.may.not_live in
-        omega (arith, a.few, more);
+    few = omega (arith, a.few, one_more ids new keys slab room entry.id a t some);
   }
 
   pub begins : Begins (open_of ids keys slab room) entry.id (transaction_in entry) (open_of new (set keys slot key) slab' (room - 1))
@@ -189,9 +217,18 @@ module _ (ids : LiveIds) (keys : List ℕ) (slab slab' : Slab Entry) (room key :
       other cc in
       u.others (get_or keys (slot_of q) 0) key_apart
 
+  one_less : set.len (given_back ids id).live + 1 ≡ set.len ids.live
+  one_less =
+      let less : set.len (given_back ids id).live ≡ set.len ids.live - 1 = set.len-remove octets_total ids.live id
+      ∙ ap (λ b. cond b (set.len ids.live - 1) (set.len ids.live)) live in
+      let some : set.len ids.live ≢ 0 = λ none. let x : is_live ids id
+      ≡ false = ap (λ s. set.contains s id) (set.empty_of_len ids.live none) ∙ set.contains-empty octets_cmp id in cc in
+      omega (arith, less, some)
+
   pub AreEntries-close : AreEntries (given_back ids id) keys slab' (room + 1)
   AreEntries-close = record {
-    all_slots = a.all_slots;
+    used = omega (arith, a.used, one_less, length-append ids.supply.free (slot_of id ∷ []));
+    room_in_keys = omega (arith, a.room_in_keys, one_less);
     of_shard = λ q now. elim (cases_octets q id) [
       | inl e ↦ subst (IsIdOf ids.shard) (sym e) (a.of_shard id live)
       | inr other ↦ a.of_shard q (was_live q other now)
@@ -208,12 +245,7 @@ module _ (ids : LiveIds) (keys : List ℕ) (slab slab' : Slab Entry) (room key :
           record { live = live-give e.id ∙ ap (λ b. not b && is_live ids e.id) (ne_octets e.id id apart) ∙ was.live; found = was.found }
     ];
     room_in_slab = omega (arith, a.room_in_slab, len, capacity);
-    few =
-        let less : set.len (given_back ids id).live ≡ set.len ids.live - 1 = set.len-remove octets_total ids.live id
-        ∙ ap (λ b. cond b (set.len ids.live - 1) (set.len ids.live)) live in
-        let some : set.len ids.live ≢ 0 = λ none. let x : is_live ids id
-        ≡ false = ap (λ s. set.contains s id) (set.empty_of_len ids.live none) ∙ set.contains-empty octets_cmp id in cc in
-        omega (arith, a.few, less, some);
+    few = omega (arith, a.few, one_less);
   }
 
   pub closes : open_of (given_back ids id) keys slab' (room + 1) ≡ closed (open_of ids keys slab room) id
@@ -272,7 +304,8 @@ module _ (ids : LiveIds) (keys : List ℕ) (slab : Slab Entry) (room key : ℕ) 
 
   pub AreEntries-set : AreEntries ids keys (with_value slab key entry) room
   AreEntries-set = record {
-    all_slots = a.all_slots;
+    used = a.used;
+    room_in_keys = a.room_in_keys;
     of_shard = a.of_shard;
     own = λ q live_q. elim (cases_octets q entry.id) [
       | inl e ↦ ap (λ p. id_in (entry_at keys (with_value slab key entry) p)) e ∙ ap id_in entry_of_it ∙ ap Some (sym e)

@@ -171,10 +171,10 @@ index_is (x ∷ xs) zero n h e = e
 index_is (x ∷ xs) (suc i) n h e = index_is xs i n (omega arith) e
 
 module _ (ids : LiveIds) (keys : List ℕ) (slab : Slab Entry) (room : ℕ) (a : AreEntries ids keys slab room) (id : List ℕ) (slot key : ℕ)
-    (there : Some slot ≡ slot_if_live ids id) (small : slot < 4096) (read : key ≡ get_or keys slot key) where
+    (there : Some slot ≡ slot_if_live ids id) (below : slot < set.len ids.live + length ids.supply.free) (read : key ≡ get_or keys slot key) where
   -- the key of the id's slot
   pub key_is : key ≡ get_or keys (slot_of id) 0
-  key_is = index_is keys slot key (omega (arith, a.all_slots)) read ∙ ap (λ n. get_or keys n 0) (slot_is ids id slot there)
+  key_is = index_is keys slot key (omega (arith, a.used, below)) read ∙ ap (λ n. get_or keys n 0) (slot_is ids id slot there)
 
   -- an entry is there
   pub has_key : is_some (get slab key) ≡ true
@@ -199,18 +199,20 @@ module _ (ids : LiveIds) (keys : List ℕ) (slab : Slab Entry) (room : ℕ) (a :
 none_live : (ids : LiveIds) → ids.live ≡ set.empty → (id : List ℕ) → is_live ids id ≡ false
 none_live ids none id = ap (λ (live : set.FinSet octets_cmp). set.contains live id) none ∙ set.contains-empty octets_cmp id
 
-pub AreEntries-none : (ids : LiveIds) (keys : List ℕ) (slab : Slab Entry) → ids.live ≡ set.empty → length keys ≡ 4096 → slab.slots ≡ []
+pub AreEntries-none : (ids : LiveIds) (keys : List ℕ) (slab : Slab Entry) → ids.live ≡ set.empty → length keys ≡ length ids.supply.free → slab.slots ≡ []
     → AreEntries ids keys slab 0
-AreEntries-none ids keys slab none all empty =
+AreEntries-none ids keys slab none as_many empty =
     let dead : (id : List ℕ) → is_live ids id ≡ true → ⊥ = λ id live. let not_live = none_live ids none id in cc in
+    let no_live : set.len ids.live ≡ 0 = ap set.len none ∙ set.len-empty octets_cmp in
     record {
-      all_slots = all;
+      used = omega (arith, no_live, as_many);
+      room_in_keys = omega (arith, no_live);
       of_shard = λ id live. absurd (dead id live);
       own = λ id live. absurd (dead id live);
       no_other = λ key e stands. let none : get slab key ≡ None = ap (λ s. slice_index_or s key None) empty in absurd
           (let x : Some e ≡ None = sym stands ∙ none in cc);
       room_in_slab = let n : slab_len slab ≡ 0 = ap (λ s. slab_len (record slab { slots = s })) empty in omega (arith, n);
-      few = let n : set.len ids.live ≡ 0 = ap set.len none ∙ set.len-empty octets_cmp in omega (arith, n);
+      few = omega (arith, no_live);
     }
 
 pub open_of-none : (ids : LiveIds) (keys : List ℕ) (slab : Slab Entry) → ids.live ≡ set.empty → open_of ids keys slab 0 ≡ none_with ids
@@ -246,10 +248,24 @@ open_of-slots ids keys slab slab' room e = λ i. open_of ids keys (record slab {
 pub AreEntries-slots : (ids : LiveIds) (keys : List ℕ) (slab slab' : Slab Entry) (room : ℕ) → slab'.slots ≡ slab.slots → slab_len slab' + room ≤ slab'.capacity
     → AreEntries ids keys slab room → AreEntries ids keys slab' room
 AreEntries-slots ids keys slab slab' room e fits a = record {
-  all_slots = a.all_slots;
+  used = a.used;
+  room_in_keys = a.room_in_keys;
   of_shard = a.of_shard;
   own = λ id live. ap (λ s. id_in (slice_index_or s (get_or keys (slot_of id) 0) None)) e ∙ a.own id live;
   no_other = λ key x stands. a.no_other key x (ap (λ s. slice_index_or s key None) (sym e) ∙ stands);
   room_in_slab = fits;
   few = a.few;
 }
+
+-- ---- more keys
+-- the same entries at the keys, the same transactions
+transactions_of-keys : (keys keys' : List ℕ) (slab : Slab Entry) → ((n : ℕ) → get_or keys' n 0 ≡ get_or keys n 0)
+    → (ids : List (List ℕ)) → transactions_of keys' slab ids ≡ transactions_of keys slab ids
+transactions_of-keys keys keys' slab same [] = refl
+transactions_of-keys keys keys' slab same (id ∷ ids) =
+    λ i. with_entry id (get slab (same (slot_of id) i)) (transactions_of-keys keys keys' slab same ids i)
+
+pub open_of-keys : (ids : LiveIds) (keys keys' : List ℕ) (slab : Slab Entry) (room : ℕ) → ((n : ℕ) → get_or keys' n 0 ≡ get_or keys n 0)
+    → open_of ids keys' slab room ≡ open_of ids keys slab room
+open_of-keys ids keys keys' slab room same =
+    λ i. record (open_of ids keys slab room) { open_ones = map.from_entries (transactions_of-keys keys keys' slab same (set.items ids.live) i) }

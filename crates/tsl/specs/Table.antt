@@ -38,9 +38,11 @@ pub record IsOwn (ids : LiveIds) (keys : List ℕ) (key : ℕ) (e : Entry) : Typ
   pub live : is_live ids e.id ≡ true
   pub found : slice_index keys (slot_of e.id) ≡ key
 
--- Each slot has a key; that of a live id leads to its own entry, and there are no other entries.
+-- Each slot that was used, live or free again, has a key, and there are as many keys as transactions that are open or can begin without
+-- allocating. The key of a live id's slot leads to the id's own entry, and there are no other entries.
 pub record AreEntries (ids : LiveIds) (keys : List ℕ) (slab : Slab Entry) (room : ℕ) : Type 0 where
-  pub all_slots : length keys ≡ 4096
+  pub used : set.len ids.live + length ids.supply.free ≤ length keys
+  pub room_in_keys : set.len ids.live + room ≤ length keys
   pub of_shard : (id : List ℕ) → is_live ids id ≡ true → IsIdOf ids.shard id
   pub own : (id : List ℕ) → is_live ids id ≡ true → option_map (λ (e : Entry). e.id) (entry_at keys slab id) ≡ Some id
   pub no_other : (key : ℕ) (e : Entry) → get slab key ≡ Some e → IsOwn ids keys key e

@@ -48,7 +48,7 @@ struct Entry {
 #[derive(Drop)]
 pub struct Transactions {
     ids: Ids,
-    /// The key of each entry, indexed by the slot of its id.
+    /// The key of each entry, indexed by the slot of its id: as many as slots were used, or one more.
     keys: Vec<usize>,
     entries: Slab<Entry>,
     /// How many can begin without allocating.
@@ -92,9 +92,10 @@ impl Transactions {
         requires { ids.live ≡ set.empty }
         ensures { IfOk result (λ t. t ≡ none_with ids) }
     {
+        let slots = ids.free_slots().len();
         Ok(Transactions {
             ids,
-            keys: vec![in alloc; 0; Self::MAX_TRANSACTIONS]?,
+            keys: vec![in alloc; 0; slots]?,
             entries: Slab::new(alloc),
             room: 0,
         })
@@ -142,6 +143,10 @@ impl Transactions {
             return Err(TslFault::NoRoom);
         }
         self.entries.reserve(1)?;
+        if self.keys.len() == self.ids.live_count() {
+            self.keys.reserve(1)?;
+            self.keys.push_reserved(0);
+        }
         self.room = 1;
         Ok(())
     }

@@ -21,7 +21,7 @@ invariant_of-self c =
     (subst (λ (t : OpenTransactions). at t c.args.id ≢ None) (sym c.self.view_is) c.requires) in
     let there : Some c.unwrap-slot.result ≡ slot_if_live i.ids c.args.id = sym c.unwrap-slot.ensures ∙ c.slot.ensures.slot in
     let key = key_is i.ids i.keys.items i.entries i.room c.self.invariant c.args.id c.unwrap-slot.result c.index.result.now there
-    (rw c.unwrap-slot.ensures at c.slot.ensures.small) c.index.ensures in
+    (rw c.unwrap-slot.ensures at c.slot.ensures.used) c.index.ensures in
     rw c.give_back.ensures
     (AreEntries-close i.ids i.keys.items i.entries c.remove-entry.new.self i.room c.index.result.now c.args.id
     c.self.invariant live key c.remove-entry.ensures.updates c.remove-entry.ensures.len c.remove-entry.ensures.capacity)
@@ -32,7 +32,7 @@ returns-clause-was c =
     let there : Some c.unwrap-slot.result ≡ slot_if_live i.ids c.args.id = sym c.unwrap-slot.ensures ∙ c.slot.ensures.slot in
     ap (λ (t : OpenTransactions). at t c.args.id) (sym c.self.view_is)
     ∙ at-entry i.ids i.keys.items i.entries i.room c.self.invariant c.args.id c.unwrap-slot.result c.index.result.now there
-    (rw c.unwrap-slot.ensures at c.slot.ensures.small) c.index.ensures c.remove-entry.result c.remove-entry.ensures.value
+    (rw c.unwrap-slot.ensures at c.slot.ensures.used) c.index.ensures c.remove-entry.result c.remove-entry.ensures.value
 
 pub returns-clause-closed : goal.returns-clause-closed
 returns-clause-closed c =
@@ -41,7 +41,7 @@ returns-clause-closed c =
     (subst (λ (t : OpenTransactions). at t c.args.id ≢ None) (sym c.self.view_is) c.requires) in
     let there : Some c.unwrap-slot.result ≡ slot_if_live i.ids c.args.id = sym c.unwrap-slot.ensures ∙ c.slot.ensures.slot in
     let key = key_is i.ids i.keys.items i.entries i.room c.self.invariant c.args.id c.unwrap-slot.result c.index.result.now there
-    (rw c.unwrap-slot.ensures at c.slot.ensures.small) c.index.ensures in
+    (rw c.unwrap-slot.ensures at c.slot.ensures.used) c.index.ensures in
     ap (λ (v : LiveIds). open_of v i.keys.items c.remove-entry.new.self (i.room + 1)) c.give_back.ensures
     ∙ closes i.ids i.keys.items i.entries c.remove-entry.new.self i.room c.index.result.now c.args.id
     c.self.invariant live key c.remove-entry.ensures.updates c.remove-entry.ensures.len c.remove-entry.ensures.capacity

@@ -16,10 +16,10 @@ returns-clause-value c =
     let i = c.self.inside in
     sym (ap (λ (t : OpenTransactions). at t c.args.id) (sym c.self.view_is)
     ∙ at-entry i.ids i.keys.items i.entries i.room c.self.invariant c.args.id c.in_ok-slot.slot c.index.result.now
-    c.in_ok-slot.ensures.slot c.in_ok-slot.ensures.small c.index.ensures c.index-2.result.now c.index-2.ensures)
+    c.in_ok-slot.ensures.slot c.in_ok-slot.ensures.used c.index.ensures c.index-2.result.now c.index-2.ensures)
 
 pub returns-clause-id : goal.returns-clause-id
 returns-clause-id c =
     let i = c.self.inside in
     id-entry i.ids i.keys.items i.entries i.room c.self.invariant c.args.id c.in_ok-slot.slot c.index.result.now
-    c.in_ok-slot.ensures.slot c.in_ok-slot.ensures.small c.index.ensures c.index-2.result.now c.index-2.ensures
+    c.in_ok-slot.ensures.slot c.in_ok-slot.ensures.used c.index.ensures c.index-2.result.now c.index-2.ensures

@@ -22,7 +22,7 @@ invariant_of-self c =
     (subst (λ (t : OpenTransactions). at t c.args.id ≢ None) (sym c.self.view_is) c.requires) in
     let there : Some c.unwrap-slot.result ≡ slot_if_live i.ids c.args.id = sym c.unwrap-slot.ensures ∙ c.slot.ensures.slot in
     let key = key_is i.ids i.keys.items i.entries i.room c.self.invariant c.args.id c.unwrap-slot.result c.index.result.now there
-    (rw c.unwrap-slot.ensures at c.slot.ensures.small) c.index.ensures in
+    (rw c.unwrap-slot.ensures at c.slot.ensures.used) c.index.ensures in
     AreEntries-set i.ids i.keys.items i.entries i.room c.index.result.now entry c.index_mut.result.now c.self.invariant live key c.index_mut.ensures.value
 
 pub returns : goal.returns
@@ -33,6 +33,6 @@ returns c =
     (subst (λ (t : OpenTransactions). at t c.args.id ≢ None) (sym c.self.view_is) c.requires) in
     let there : Some c.unwrap-slot.result ≡ slot_if_live i.ids c.args.id = sym c.unwrap-slot.ensures ∙ c.slot.ensures.slot in
     let key = key_is i.ids i.keys.items i.entries i.room c.self.invariant c.args.id c.unwrap-slot.result c.index.result.now there
-    (rw c.unwrap-slot.ensures at c.slot.ensures.small) c.index.ensures in
+    (rw c.unwrap-slot.ensures at c.slot.ensures.used) c.index.ensures in
     sets i.ids i.keys.items i.entries i.room c.index.result.now entry c.index_mut.result.now c.self.invariant live key c.index_mut.ensures.value
     ∙ ap (λ (t : OpenTransactions). with_transaction t c.args.id (active c.args.peer c.args.remote)) c.self.view_is
