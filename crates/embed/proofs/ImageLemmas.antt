@@ -85,8 +85,8 @@ module _ (node : NodeState) (keeps : NodeKeeps node) (loaded : Subscribers) (has
 
     begins_as : BeginsAs l.state (beginning loaded n)
     begins_as = record {
-      shard = sym (keeps.shards.each n l at).shard_is;
-      directory = has.directory ∙ sym (keeps.shards.each n l at).directory_is;
+      shard = sym (keeps.shards.each n l at).state_is.shard_is;
+      directory = has.directory ∙ sym (keeps.shards.each n l at).state_is.directory_is;
       hlr = sym (has.hlr n l at);
       records = λ x.
           map.get-retain_keys loaded.records (λ y. shard_of y == n) x (λ y tie. ap (λ z. shard_of z == n) (sym (digits_exact x y tie)))

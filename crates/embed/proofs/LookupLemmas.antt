@@ -29,7 +29,7 @@ module _ (node : NodeState) (keeps : NodeKeeps node) (n : ℕ) (l : Log) (at : s
   agree = subst (AgreeOn n (whole node.shards)) (keeps.parts n l at) (part_agrees n (whole node.shards))
 
   own : l.state.shard ≡ n
-  own = (keeps.shards.each n l at).shard_is
+  own = (keeps.shards.each n l at).state_is.shard_is
 
   pub due_in : HasDue (whole node.shards) n → HasDue (state_of l.state) l.state.shard
   due_in due = subst (HasDue (state_of l.state)) (sym own) (due_alike n (whole node.shards) (state_of l.state) agree due)
@@ -172,4 +172,4 @@ pub by_number : (node : NodeState) (msisdn : List ℕ) (l : Log) (directory : Di
     → NodeKeeps node → slice_get node.shards 0 ≡ Some l → directory ≡ l.state.directory → o ≡ map.get directory msisdn → r ≡ record_if node o
     → r ≡ record_by_number node msisdn
 by_number node msisdn l directory o r keeps at is found record_is =
-    record_is ∙ ap (record_if node) (found ∙ ap (λ (d : DirectoryMap). map.get d msisdn) (is ∙ (keeps.shards.each 0 l at).directory_is))
+    record_is ∙ ap (record_if node) (found ∙ ap (λ (d : DirectoryMap). map.get d msisdn) (is ∙ (keeps.shards.each 0 l at).state_is.directory_is))

@@ -345,7 +345,7 @@ module _ (node : NodeState) (keeps : NodeKeeps node) (listed : (n : ℕ) (l : Lo
       has_again = record {
         directory = directory_again;
         records = record_again;
-        hlr = λ n m e. (keeps.shards.each n m e).hlr_is ∙ sym (keeps.shards.each 0 l at).hlr_is;
+        hlr = λ n m e. (keeps.shards.each n m e).state_is.hlr_is ∙ sym (keeps.shards.each 0 l at).state_is.hlr_is;
       }
 
     saved_as : (shards : List Log) (text : List ℕ) → node.shards ≡ shards → Saves shards text → IsSaved node text

@@ -14,7 +14,7 @@ pub record HasForms (text : List ℕ) (lettered : Bool) : Type 0 where
 abbrev pub IsChecked : Script → Type 0
 IsChecked script = HasForms script.text.items script.lettered
 
--- The lines are so many.
+-- The lines are so many, no more than the text has octets, and have the forms of a checked script.
 pub record IsSeen (text : List ℕ) (seen : Seen) : Type 0 where
   pub forms : HasForms text seen.lettered
   pub count : seen.lines ≡ length (lines text)

@@ -50,7 +50,7 @@ pub is_mine : (directory : DirectoryMap) (shards : List Log) (event : Event) (i 
     → i ≡ route (directory_of directory) event
     → slice_get shards i ≡ Some l → route (directory_of l.state.directory) event ≡ l.state.shard
 is_mine directory shards event i l are routed at =
-    ap (λ (d : DirectoryMap). route (directory_of d) event) (are.each i l at).directory_is ∙ sym routed ∙ sym (are.each i l at).shard_is
+    ap (λ (d : DirectoryMap). route (directory_of d) event) (are.each i l at).state_is.directory_is ∙ sym routed ∙ sym (are.each i l at).state_is.shard_is
 
 -- ---- whatever is answered
 

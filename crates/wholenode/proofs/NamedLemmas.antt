@@ -39,7 +39,7 @@ pub asked_its_own : {A : Type 0} (directory : DirectoryMap) (shards : List Log) 
     → IsNamed directory shards number place l → (why : ShardFault) → answer ≡ Err why
     → (answer ≡ Err shard.NotMine → (number ≡ l.state.shard → ⊥)) → why ≡ shard.NotMine → ⊥
 asked_its_own directory shards number place l answer is why answered not_mine e =
-    not_mine (answered ∙ ap (λ (f : ShardFault). Err f) e) (is.number_is ∙ sym (is.are.each place l is.stands).shard_is)
+    not_mine (answered ∙ ap (λ (f : ShardFault). Err f) e) (is.number_is ∙ sym (is.are.each place l is.stands).state_is.shard_is)
 
 pub named_refuses : {A : Type 0} (directory : DirectoryMap) (shards : List Log) (number place : ℕ) (l : Log) (answer : Result A ShardFault)
     → IsNamed directory shards number place l → (before : NodeState) (raw : RawEvent) (e : Event) (why : ShardFault) (cause : Cause)

@@ -79,7 +79,7 @@ module _ (directory : DirectoryMap) (now : ℕ) where
       → Takes (node directory (front ++ l ∷ rest)) (RawClock (length front) now) ticks.handled (node directory (front ++ m ∷ rest))
   takes_at front l m rest are ticks =
       let shards = front ++ l ∷ rest in
-      let own : l.state.shard ≡ length front = (are.each (length front) l (at_front front l rest)).shard_is in
+      let own : l.state.shard ≡ length front = (are.each (length front) l (at_front front l rest)).state_is.shard_is in
       let handles : Handles l (RawClock (length front) now) ticks.handled m =
       subst (λ (n : ℕ). Handles l (RawClock n now) ticks.handled m) own ticks.handles in
       subst (λ (ls : List Log). Takes (node directory shards) (RawClock (length front) now) ticks.handled (node directory ls))

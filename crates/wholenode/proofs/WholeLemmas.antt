@@ -60,12 +60,12 @@ module _ (directory : DirectoryMap) (shards : List Log) (are : AreShards directo
   pub directory_at : (n : ℕ) → n < 16 → (states shards n).directory ≡ directory_of directory
   directory_at n lt =
       let found = shard_at n lt in
-      ap (λ (o : Option Log). (state_at o).directory) found.1 ∙ directory_in found.0.state ∙ ap directory_of found.2.directory_is
+      ap (λ (o : Option Log). (state_at o).directory) found.1 ∙ directory_in found.0.state ∙ ap directory_of found.2.state_is.directory_is
 
   pub hlr_at : (n : ℕ) → n < 16 → (states shards n).hlr ≡ are.hlr
   hlr_at n lt =
       let found = shard_at n lt in
-      ap (λ (o : Option Log). (state_at o).hlr) found.1 ∙ hlr_in found.0.state ∙ found.2.hlr_is
+      ap (λ (o : Option Log). (state_at o).hlr) found.1 ∙ hlr_in found.0.state ∙ found.2.state_is.hlr_is
 
   pub one_directory : (n : ℕ) → n < 16 → (states shards n).directory ≡ (states shards 0).directory
   one_directory n lt = directory_at n lt ∙ sym (directory_at 0 (omega arith))
@@ -77,15 +77,15 @@ module _ (directory : DirectoryMap) (shards : List Log) (are : AreShards directo
   base_directory n lt =
       let found = shard_at n lt in
       ap (λ (o : Option Log). (base_at o).directory) found.1 ∙ directory_in found.0.base
-      ∙ ap directory_of (sym found.2.keeps.same.directory ∙ found.2.directory_is)
+      ∙ ap directory_of (sym found.2.keeps.same.directory ∙ found.2.state_is.directory_is)
 
   base_hlr : (n : ℕ) → n < 16 → (bases shards n).hlr ≡ are.hlr
   base_hlr n lt =
       let found = shard_at n lt in
-      ap (λ (o : Option Log). (base_at o).hlr) found.1 ∙ hlr_in found.0.base ∙ sym found.2.keeps.same.hlr ∙ found.2.hlr_is
+      ap (λ (o : Option Log). (base_at o).hlr) found.1 ∙ hlr_in found.0.base ∙ sym found.2.keeps.same.hlr ∙ found.2.state_is.hlr_is
 
   number_of_base : (n : ℕ) (l : Log) → IsShardAt n directory are.hlr l → l.base.shard ≡ n
-  number_of_base n l is = sym is.keeps.same.shard ∙ is.shard_is
+  number_of_base n l is = sym is.keeps.same.shard ∙ is.state_is.shard_is
 
   -- ---- together
 
@@ -194,9 +194,11 @@ replaced directory shards i l m are at is same = record {
   each = λ n k e. elim (set_or_not shards i n m k e) [
     | inl h ↦ subst (IsShardAt n directory are.hlr) h.1 (subst (λ (p : ℕ). IsShardAt p directory are.hlr m) (sym h.0) (record {
       keeps = is;
-      shard_is = same.shard ∙ (are.each i l at).shard_is;
-      directory_is = same.directory ∙ (are.each i l at).directory_is;
-      hlr_is = same.hlr ∙ (are.each i l at).hlr_is;
+      state_is = record {
+        shard_is = same.shard ∙ (are.each i l at).state_is.shard_is;
+        directory_is = same.directory ∙ (are.each i l at).state_is.directory_is;
+        hlr_is = same.hlr ∙ (are.each i l at).state_is.hlr_is;
+      };
     }))
     | inr h ↦ are.each n k h
   ];

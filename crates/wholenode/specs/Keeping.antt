@@ -12,24 +12,22 @@ use Rattle.hlrcore.specs.Shards.{ShardState, state_of}
 use Rattle.shardlog.specs.Log.{Log, LogKeeps}
 use Rattle.wholenode.specs.Nodes.{NodeState, bases, journals, states, whole, whole_base}
 
--- The shard with this number has the invariant of a shard with its journal, with this directory and this HLR number.
+-- A state of the shard with this number, with this directory and this HLR number.
+pub record IsStateAt (n : ℕ) (directory : DirectoryMap) (hlr : List ℕ) (s : ShardState) : Type 0 where
+  pub shard_is : s.shard ≡ n
+  pub directory_is : s.directory ≡ directory
+  pub hlr_is : s.hlr ≡ hlr
+
+-- A shard that has the invariant of a shard with its journal, in such a state.
 pub record IsShardAt (n : ℕ) (directory : DirectoryMap) (hlr : List ℕ) (l : Log) : Type 0 where
   pub keeps : LogKeeps l
-  pub shard_is : l.state.shard ≡ n
-  pub directory_is : l.state.directory ≡ directory
-  pub hlr_is : l.state.hlr ≡ hlr
+  pub state_is : IsStateAt n directory hlr l.state
 
 -- There are sixteen shards, indexed by their numbers, with one directory and one HLR number.
 pub record AreShards (directory : DirectoryMap) (shards : List Log) : Type 0 where
   pub hlr : List ℕ
   pub count : length shards ≡ SHARDS
   pub each : (n : ℕ) (l : Log) → slice_get shards n ≡ Some l → IsShardAt n directory hlr l
-
--- A state of the shard with this number, with this directory and this HLR number.
-pub record IsStateAt (n : ℕ) (directory : DirectoryMap) (hlr : List ℕ) (s : ShardState) : Type 0 where
-  pub shard_is : s.shard ≡ n
-  pub directory_is : s.directory ≡ directory
-  pub hlr_is : s.hlr ≡ hlr
 
 -- There are states of the sixteen shards, indexed by their numbers, with one directory and one HLR number.
 pub record AreStates (directory : DirectoryMap) (states : List ShardState) : Type 0 where

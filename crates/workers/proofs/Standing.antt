@@ -16,23 +16,20 @@ use Rattle.records.specs.Maps.{DirectoryMap}
 use Rattle.hlrcore.specs.Shards.{ShardState, directory_of, records_of, state_of}
 use Rattle.shardlog.specs.declared.keep.Keep.TheVariants.{Entries}
 use Rattle.shardlog.specs.Log.{Log, LogKeeps, cut_log}
-use Rattle.wholenode.specs.Keeping.{AreShards, AreStates}
+use Rattle.wholenode.specs.Keeping.{AreShards, AreStates, IsStateAt}
 use Rattle.wholenode.specs.Nodes.{base_at, bases, state_at, whole, whole_base}
 use Rattle.wholenode.proofs.OpeningLemmas.{whole_as_opened}
 use Rattle.workers.specs.Offices.{AreOpeningBases, bases_of}
 use Rattle.workers.specs.Shared.{AreLast, AreSettled, GoesOn, HandsOut, IsRunInSomeOrder, SharedState, StandsBehind, events_of_jobs, jobs_of_receipts, numbers_of_jobs, sent_at, sent_for, shared_state, state_or_nothing, whole_of}
-use Rattle.wholenode.proofs.BaseLemmas.{bases_of_shards}
+use Rattle.wholenode.proofs.BaseLemmas.{bases_of_shards, log_base}
 use Rattle.workers.proofs.Orders.{joined, no_run, run_of_jobs}
 
 -- ---- what bases and states are together
 
-abbrev base_of : Log → ShardState
-base_of l = l.base
-
 abbrev state_in : Log → ShardState
 state_in l = l.state
 
-base_in : (o : Option Log) → state_or_nothing (option_map base_of o) ≡ base_at o
+base_in : (o : Option Log) → state_or_nothing (option_map log_base o) ≡ base_at o
 base_in None = refl
 base_in (Some l) = refl
 
@@ -41,7 +38,7 @@ state_there None = refl
 state_there (Some l) = refl
 
 whole_of_bases : (shards : List Log) → whole_of (bases_of shards) ≡ whole_base shards
-whole_of_bases shards = ap union (fun_ext (λ n. ap state_or_nothing (slice_get-map base_of shards n) ∙ base_in (slice_get shards n)))
+whole_of_bases shards = ap union (fun_ext (λ n. ap state_or_nothing (slice_get-map log_base shards n) ∙ base_in (slice_get shards n)))
 
 whole_of_states : (shards : List Log) → whole_of (map state_in shards) ≡ whole shards
 whole_of_states shards = ap union (fun_ext (λ n. ap state_or_nothing (slice_get-map state_in shards n) ∙ state_there (slice_get shards n)))
@@ -56,7 +53,7 @@ whole_opening : (loaded : Subscribers) (s : List ShardState) → AreOpeningBases
     → whole_of s ≡ opening (records_of loaded.records) (directory_of loaded.directory) loaded.hlr
 whole_opening loaded s are =
     let at : (n : ℕ) (l : Log) → slice_get are.shards n ≡ Some l → l.base ≡ l.state = λ n l e.
-    let begins = (are.opening.each n l e).begins in ap base_of begins ∙ sym (ap state_in begins) in
+    let begins = (are.opening.each n l e).begins in ap log_base begins ∙ sym (ap state_in begins) in
     ap whole_of are.bases_are ∙ whole_of_bases are.shards ∙ ap union (fun_ext (λ n. same_at (slice_get are.shards n) (at n)))
     ∙ whole_as_opened loaded Entries 0 are.shards are.opening
 
@@ -145,9 +142,7 @@ cut_shards directory shards are keeps = record {
       let same : l.state ≡ found.0.state = sym (ap state_in found.2) in
       record {
         keeps = subst LogKeeps (get_or_from_slice_get (map cut_log shards) n l l e) (keeps n l (slice_get_within (map cut_log shards) n l e));
-        shard_is = ap (λ (s : ShardState). s.shard) same ∙ was.shard_is;
-        directory_is = ap (λ (s : ShardState). s.directory) same ∙ was.directory_is;
-        hlr_is = ap (λ (s : ShardState). s.hlr) same ∙ was.hlr_is;
+        state_is = subst (IsStateAt n directory are.hlr) (sym same) was.state_is;
       };
 }
 

@@ -22,7 +22,7 @@ handle-requires c =
     let at = slice_get_read c.self.inside.shards.items 16 c.from-place.result c.index_mut-shard.result.now
     (sym c.self.invariant.count) small c.index_mut-shard.ensures.value in
     subst (λ (d : DirectoryMap). IsAddressee (directory_of d) (event_of c.args.event.now) c.addressee_of-found.result)
-    (c.deref.ensures ∙ sym (c.self.invariant.each c.from-place.result c.index_mut-shard.result.now at).directory_is)
+    (c.deref.ensures ∙ sym (c.self.invariant.each c.from-place.result c.index_mut-shard.result.now at).state_is.directory_is)
     c.addressee_of-found.ensures.found
 
 pub refusal-requires : goal.refusal-requires
