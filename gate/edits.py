@@ -69,10 +69,6 @@ def one_by_one(edits):
     return [[it] for it in edits]
 
 
-# How many edits share a run at most: more runs of a crate can go side by side then, and each takes seconds to start.
-MOST = 12
-
-
 class Trial:
     """The runs of one crate, each on a copy of what its checks kept, or else of what the first of these runs kept."""
 
@@ -119,7 +115,7 @@ class Trial:
         self.verdicts.update({it: (False, it.fault) for it in edits if it.fault})
         left = [it for it in edits if not it.fault]
         for in_runs in self.ways:
-            runs = [batch[at : at + MOST] for batch in in_runs(left) for at in range(0, len(batch), MOST)]
+            runs = [*in_runs(left)]
             if runs and not self.start:
                 yield [runs.pop(0)]
             if runs:
