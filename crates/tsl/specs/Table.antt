@@ -38,8 +38,8 @@ pub record IsOwn (ids : LiveIds) (keys : List ℕ) (key : ℕ) (e : Entry) : Typ
   pub live : is_live ids e.id ≡ true
   pub found : slice_index keys (slot_of e.id) ≡ key
 
--- Each slot that was used, live or free again, has a key, and there are as many keys as transactions that are open or can begin without
--- allocating. The key of a live id's slot leads to the id's own entry, and there are no other entries.
+-- Each slot that was used, live or free again, has a key, and there are at least as many keys as transactions that are open or can begin
+-- without allocating. The key of a live id's slot leads to the id's own entry, and there are no other entries.
 pub record AreEntries (ids : LiveIds) (keys : List ℕ) (slab : Slab Entry) (room : ℕ) : Type 0 where
   pub used : set.len ids.live + length ids.supply.free ≤ length keys
   pub room_in_keys : set.len ids.live + room ≤ length keys
