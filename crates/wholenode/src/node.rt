@@ -4,10 +4,10 @@ ghost use Rattle.std.specs.Prelude.{◌≡◌, ◌≢◌, ◌<◌, [], map, Err,
 ghost use Rattle.std.specs.Arc.{arc_value};
 ghost use Rattle.frames.specs.Octets.{IsEvent, RawClock, RawExpire};
 ghost use Rattle.hlrcore.specs.Events.{event_of, raw_event, raw_of};
-ghost use Rattle.wholenode.specs.Nodes.{whole};
 ghost use Rattle.wholenode.specs.Opening.{BeginsWith, IsNodeOf};
 ghost use Rattle.wholenode.specs.Handling.{Cuts, Drops, IsRun, Refuses, Runs, Stops, Takes, sent_of};
-ghost use Rattle.wholenode.specs.Keeping.{AreStates, NodeKeeps};
+ghost use Rattle.wholenode.specs.Keeping.{AreShards, AreStates, NodeKeeps};
+ghost use Rattle.wholenode.specs.Nodes.{node, whole};
 ghost use Rattle.wholenode.specs.Ticking.{RefusesTicks, TicksAll};
 
 use crate::fault::{Cause, NodeFault, refusal, unread};
@@ -70,11 +70,21 @@ impl Node {
         ensures keeps { IfOk result NodeKeeps }
     {
         let shards = with_journals(alloc, states, keep)?;
-        Ok(Node {
+        Ok(Node::of_parts(alloc, directory, shards))
+    }
+
+    /// The register of these shards, with the journals that they have. They are the sixteen in order, and share this directory, as
+    /// `into_parts` returns them.
+    pub fn of_parts(alloc: Global, directory: Arc<Directory>, shards: Vec<Shard>) -> Node
+        requires { AreShards (arc_value directory) shards.items }
+        ensures is { result ≡ node (arc_value directory) shards.items }
+        ensures keeps { NodeKeeps result }
+    {
+        Node {
             alloc,
             directory,
             shards,
-        })
+        }
     }
 
     /// The shards, indexed by their numbers.
@@ -85,17 +95,28 @@ impl Node {
         &self.shards
     }
 
-    /// The shards, indexed by their numbers. Consumes the register, so that each shard can be moved, for example behind a lock.
+    /// The shards, indexed by their numbers. Consumes the register.
     pub fn into_shards(self) -> Vec<Shard>
         ensures shards { result.items ≡ self.shards }
         ensures keeps { NodeKeeps self }
     {
+        let (_, shards) = self.into_parts();
+        shards
+    }
+
+    /// The directory that the shards share, and the shards, indexed by their numbers. Consumes the register, so that each shard can be
+    /// moved, for example behind a lock; `of_parts` makes it again.
+    pub fn into_parts(self) -> (Arc<Directory>, Vec<Shard>)
+        ensures directory { arc_value result.0 ≡ self.directory }
+        ensures shards { result.1.items ≡ self.shards }
+        ensures keeps { NodeKeeps self }
+    {
         let Node {
             alloc: _,
-            directory: _,
+            directory,
             shards,
         } = self;
-        shards
+        (directory, shards)
     }
 
     /// Handles events in order, each in its own shard, and returns for each its position in that shard's journal and what is sent.

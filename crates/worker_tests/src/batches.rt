@@ -8,7 +8,7 @@ use std::process::Abort;
 use std::sync::Wait;
 use std::test::Fail;
 use std::thread::Threads;
-use workers::{Office, Unaccounted, reconcile};
+use workers::{Unaccounted, reconcile};
 
 /// An update in shard 1 is held inside while a route is handled in shard 2. Then the update is done, and its subscriber has the new
 /// route. Jobs and receipts account for the journals, in whatever order the receipts are. Without its receipt the last job is
@@ -109,24 +109,19 @@ fn a_hundred_batches(rt: HostRuntime) -> Result<(), Fail> {
         }
         register.take(&rt, &Open, 16, events)?;
     }
-    let (mut shards, jobs, receipts) = register.close()?;
-    let whole = reconcile(&rt, 2, &shards, &jobs, &receipts);
-    for shard in shards.iter_mut() {
-        let _epoch = shard.cut()?;
-    }
-    assert_eq!(rt; (receipts.len(), shards.len()), (8_000, 16));
-    let mut next = Register::of_office(alloc, Office::from_shards(alloc, shards)?);
-    next.take(&rt, &Open, 3, vec![in alloc; clock(3, 7)?, clock(3, 8)?]?)?;
-    let (shards, jobs, receipts) = next.close()?;
+    let whole = register.account(&rt);
     assert_eq!(rt;
-        (whole, reconcile(&rt, 2, &shards, &jobs, &receipts)),
-        (Ok(()), Ok(()))
+        (register.receipts.len(), register.shards().len()),
+        (8_000, 16)
     );
+    register.cut()?;
+    register.take(&rt, &Open, 3, vec![in alloc; clock(3, 7)?, clock(3, 8)?]?)?;
+    assert_eq!(rt; (whole, register.account(&rt)), (Ok(()), Ok(())));
     Ok(())
 }
 
-/// One worker and more than 65,536 jobs. The thread that sends them takes none before it has sent the last, so the channel has to hold all. Each
-/// job has its receipt.
+/// More than 65,536 jobs. The thread that sends them takes none before it has sent the last, so the channel has to hold all. Each
+/// job has its receipt, with one worker, who has no channel, too.
 #[test]
 fn all_lots_are_held(rt: HostRuntime) -> Result<(), Fail> {
     let alloc = rt.alloc();

@@ -1,6 +1,7 @@
 //! Inputs of the tests: events, and a register that workers share.
 
 use crate::samples::RECORDS;
+use bumpalo::Bump;
 use hlr_types::{Digits, Peer};
 use hlrcore::{RawEvent, ShardNumber};
 use records::read_records;
@@ -9,7 +10,10 @@ use std::alloc::Global;
 use std::sync::Wait;
 use std::test::Fail;
 use std::thread::Threads;
-use workers::{Gate, Job, JobNumber, Office, Receipt, numbers_rise, run_batch};
+use wholenode::{Keep, Node};
+use workers::{
+    BatchDone, Gate, Job, JobNumber, Receipt, Unaccounted, numbers_rise, reconcile, run_batch,
+};
 
 /// A frame from this address.
 pub(crate) fn frame(alloc: Global, from: &[u8], octets: &[u8]) -> Result<RawEvent, Fail> {
@@ -28,26 +32,28 @@ pub(crate) fn clock(shard: u8, now: u64) -> Result<RawEvent, Fail> {
 pub(crate) fn run<R: Threads + Wait + Sync, G: Gate + Sync>(
     rt: &R,
     alloc: Global,
-    office: &Office,
+    bump: &mut Bump,
+    node: Node,
     jobs: &[Job],
     gate: &G,
     workers: usize,
-) -> Result<Vec<Receipt>, &'static str> {
+) -> Result<BatchDone, &'static str> {
     if workers == 0 || workers > 16 {
         return Err("workers");
     }
     if !numbers_rise(jobs) {
         return Err("numbers");
     }
-    let receipts = run_batch(rt, alloc, office, jobs, gate, workers);
-    receipts.ok().ok_or("memory")
+    let done = run_batch(rt, alloc, bump, node, jobs, gate, workers);
+    done.ok().ok_or("swapped")
 }
 
-/// A register behind locks, with the jobs so far and their receipts.
+/// A register that workers share, with the jobs so far and their receipts.
 #[derive(Drop)]
 pub(crate) struct Register {
     alloc: Global,
-    office: Office,
+    bump: Bump,
+    node: Option<Node>,
     next: u64,
     pub(crate) jobs: Vec<Job>,
     pub(crate) receipts: Vec<Receipt>,
@@ -55,28 +61,16 @@ pub(crate) struct Register {
 
 impl Register {
     pub(crate) fn new(alloc: Global) -> Result<Register, Fail> {
-        let office = Office::new(alloc, read_records(alloc, RECORDS)?)?;
-        Ok(Register::of_office(alloc, office))
-    }
-
-    pub(crate) fn of_office(alloc: Global, office: Office) -> Register {
-        Register::going_on(alloc, office, Vec::new(alloc), Vec::new(alloc))
-    }
-
-    /// A register whose shards have the entries of these jobs, which have the first numbers.
-    pub(crate) fn going_on(
-        alloc: Global,
-        office: Office,
-        jobs: Vec<Job>,
-        receipts: Vec<Receipt>,
-    ) -> Register {
-        Register {
+        let loaded = read_records(alloc, RECORDS)?;
+        let node = Node::new(alloc, loaded, Keep::Entries, 0)?;
+        Ok(Register {
             alloc,
-            office,
-            next: (jobs.len() as u64).saturating_add(1),
-            jobs,
-            receipts,
-        }
+            bump: Bump::new(alloc),
+            node: Some(node),
+            next: 1,
+            jobs: Vec::new(alloc),
+            receipts: Vec::new(alloc),
+        })
     }
 
     /// The number of the next job.
@@ -99,7 +93,10 @@ impl Register {
             let number = self.number()?;
             jobs.push(Job { number, event })?;
         }
-        let mut receipts = run(rt, self.alloc, &self.office, &jobs, gate, workers)?;
+        let node = self.node.take().ok_or("no register")?;
+        let done = run(rt, self.alloc, &mut self.bump, node, &jobs, gate, workers)?;
+        self.node = Some(done.node);
+        let mut receipts = done.receipts?;
         self.receipts.append(&mut receipts)?;
         self.jobs.append(&mut jobs)?;
         Ok(())
@@ -119,8 +116,34 @@ impl Register {
         }
     }
 
+    /// The shards.
+    pub(crate) fn shards(&self) -> &[Shard] {
+        match &self.node {
+            Some(node) => node.shards(),
+            None => &[],
+        }
+    }
+
+    /// Whether jobs and receipts account for the journals.
+    pub(crate) fn account<R: Threads + Sync>(&self, rt: &R) -> Result<(), Unaccounted> {
+        reconcile(rt, 2, self.shards(), &self.jobs, &self.receipts)
+    }
+
+    /// Cuts the journals, and forgets the jobs and the receipts.
+    pub(crate) fn cut(&mut self) -> Result<(), Fail> {
+        if let Some(node) = &mut self.node {
+            for shard in 0..16 {
+                let _epoch = node.cut(shard)?;
+            }
+        }
+        self.jobs.clear();
+        self.receipts.clear();
+        Ok(())
+    }
+
     /// The shards, the jobs and the receipts.
     pub(crate) fn close(self) -> Result<(Vec<Shard>, Vec<Job>, Vec<Receipt>), Fail> {
-        Ok((self.office.into_shards()?, self.jobs, self.receipts))
+        let node = self.node.ok_or("no register")?;
+        Ok((node.into_shards(), self.jobs, self.receipts))
     }
 }

@@ -1,4 +1,4 @@
-//! Shards that are put behind locks: behind another shard's, and with entries and a state that they led to.
+//! Shards that are put behind locks with entries, and a state that these led to; and a job that was refused.
 
 use crate::gates::Open;
 use crate::given::{Register, clock, frame};
@@ -7,32 +7,22 @@ use hlrcore::State;
 use shardlog::Shard;
 use std::alloc::Global;
 use std::test::Fail;
-use workers::{Job, Office, Receipt, Refusal, Unaccounted, reconcile};
+use workers::{Job, Receipt, Refusal, Unaccounted, reconcile};
 
-/// Why a job was refused.
-fn refusal_of(receipts: &[Receipt]) -> Option<Refusal> {
-    match &receipts.first()?.answer {
-        Ok(_) => None,
-        Err(refusal) => Some(*refusal),
-    }
-}
-
-/// A shard behind another's lock handles no job, and the job is found.
+/// A job that was refused is found.
 #[test]
-fn another_shard_behind_a_lock(rt: HostRuntime) -> Result<(), Fail> {
+fn refused_job(rt: HostRuntime) -> Result<(), Fail> {
     let alloc = rt.alloc();
-    let (mut shards, _, _) = Register::new(alloc)?.close()?;
-    assert_eq!(rt; shards.len(), 16);
-    shards.swap(3, 4);
-    let mut register = Register::of_office(alloc, Office::from_shards(alloc, shards)?);
+    let mut register = Register::new(alloc)?;
     register.take(&rt, &Open, 1, vec![in alloc; clock(3, 1)?]?)?;
-    let (shards, jobs, receipts) = register.close()?;
+    let (shards, jobs, mut receipts) = register.close()?;
+    let whole = reconcile(&rt, 2, &shards, &jobs, &receipts);
+    if let Some(receipt) = receipts.first_mut() {
+        receipt.answer = Err(Refusal::NotMine);
+    }
     assert_eq!(rt;
-        (
-            refusal_of(&receipts),
-            reconcile(&rt, 2, &shards, &jobs, &receipts)
-        ),
-        (Some(Refusal::NotMine), Err(Unaccounted(1)))
+        (whole, reconcile(&rt, 2, &shards, &jobs, &receipts)),
+        (Ok(()), Err(Unaccounted(1)))
     );
     Ok(())
 }
@@ -65,25 +55,22 @@ fn from_place(place: usize, jobs: Vec<Job>, receipts: Vec<Receipt>) -> (Vec<Job>
     (jobs, receipts)
 }
 
-/// Shards with entries, one of them with an open update, are put behind locks. They come back with their entries and states. Put there
-/// once more, the update completes, and the route is the new one. Jobs and receipts account for the journals, but not the later ones alone.
+/// Shards with entries, one of them with an open update, are put behind locks once more. Those for which there is no job come back with their entries and
+/// states. The update completes, and the route is the new one. Jobs and receipts account for the journals, but not the later ones alone.
 #[test]
 fn shards_with_entries(rt: HostRuntime) -> Result<(), Fail> {
     let alloc = rt.alloc();
     let mut register = Register::new(alloc)?;
     let update = frame(alloc, b"447700900012", &UPDATE)?;
     register.take(&rt, &Open, 2, vec![in alloc; update, clock(3, 7)?]?)?;
-    let (shards, jobs, receipts) = register.close()?;
-    let before = states_and_counts(alloc, &shards)?;
-    assert_eq!(rt; shards.len(), 16);
-    let shards = Office::from_shards(alloc, shards)?.into_shards()?;
-    assert_eq!(rt; (shards.len(), are_same(&shards, &before)?), (16, 16));
-    let office = Office::from_shards(alloc, shards)?;
-    let mut register = Register::going_on(alloc, office, jobs, receipts);
+    let before = states_and_counts(alloc, register.shards())?;
+    register.take(&rt, &Open, 2, vec![in alloc; clock(5, 7)?, clock(6, 7)?]?)?;
+    let shards = register.shards();
+    assert_eq!(rt; (shards.len(), are_same(shards, &before)?), (16, 14));
     let taken = frame(alloc, b"447700900012", &DATA_TAKEN)?;
-    register.take(&rt, &Open, 2, vec![in alloc; taken]?)?;
+    register.take(&rt, &Open, 2, vec![in alloc; taken, clock(4, 7)?]?)?;
     let route = frame(alloc, b"447700909999", &ROUTE)?;
-    register.take(&rt, &Open, 2, vec![in alloc; route]?)?;
+    register.take(&rt, &Open, 2, vec![in alloc; clock(4, 8)?, route]?)?;
     assert_eq!(rt; register.sent_last(), ROUTE_ANSWER.as_slice());
     let (shards, jobs, receipts) = register.close()?;
     let whole = reconcile(&rt, 2, &shards, &jobs, &receipts);

@@ -4,7 +4,7 @@ pub mod Serving
 pub mod Gathering
 pub mod Settling
 pub mod MergedRuns
-pub mod Offices
+pub mod GoingLemmas
 pub mod Orders
 pub mod Standing
 pub mod Stops

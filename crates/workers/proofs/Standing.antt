@@ -16,10 +16,10 @@ use Rattle.records.specs.Maps.{DirectoryMap}
 use Rattle.hlrcore.specs.Shards.{ShardState, directory_of, records_of, state_of}
 use Rattle.shardlog.specs.declared.keep.Keep.TheVariants.{Entries}
 use Rattle.shardlog.specs.Log.{Log, LogKeeps, cut_log}
-use Rattle.wholenode.specs.Keeping.{AreShards, AreStates, IsStateAt}
-use Rattle.wholenode.specs.Nodes.{base_at, bases, state_at, whole, whole_base}
-use Rattle.wholenode.proofs.OpeningLemmas.{whole_as_opened}
-use Rattle.workers.specs.Offices.{AreOpeningBases, bases_of}
+use Rattle.wholenode.specs.Keeping.{AreShards, AreStates, IsStateAt, NodeKeeps}
+use Rattle.wholenode.specs.Nodes.{NodeState, base_at, bases, state_at, whole, whole_base}
+use Rattle.wholenode.specs.Opening.{BeginsWith}
+use Rattle.workers.specs.Going.{bases_of}
 use Rattle.workers.specs.Shared.{AreLast, AreSettled, GoesOn, HandsOut, IsRunInSomeOrder, SharedState, StandsBehind, events_of_jobs, jobs_of_receipts, numbers_of_jobs, sent_at, sent_for, shared_state, state_or_nothing, whole_of}
 use Rattle.wholenode.proofs.BaseLemmas.{bases_of_shards, log_base}
 use Rattle.workers.proofs.Orders.{joined, no_run, run_of_jobs}
@@ -49,25 +49,25 @@ same_at : (o : Option Log) → ((l : Log) → o ≡ Some l → l.base ≡ l.stat
 same_at None same = refl
 same_at (Some l) same = ap (λ (s : ShardState). state_of s) (same l refl)
 
-whole_opening : (loaded : Subscribers) (s : List ShardState) → AreOpeningBases loaded s
-    → whole_of s ≡ opening (records_of loaded.records) (directory_of loaded.directory) loaded.hlr
-whole_opening loaded s are =
-    let at : (n : ℕ) (l : Log) → slice_get are.shards n ≡ Some l → l.base ≡ l.state = λ n l e.
-    let begins = (are.opening.each n l e).begins in ap log_base begins ∙ sym (ap state_in begins) in
-    ap whole_of are.bases_are ∙ whole_of_bases are.shards ∙ ap union (fun_ext (λ n. same_at (slice_get are.shards n) (at n)))
-    ∙ whole_as_opened loaded Entries 0 are.shards are.opening
+whole_opening : (loaded : Subscribers) (node : NodeState) → BeginsWith loaded Entries 0 node
+    → whole_of (bases_of node.shards) ≡ opening (records_of loaded.records) (directory_of loaded.directory) loaded.hlr
+whole_opening loaded node begins =
+    let at : (n : ℕ) (l : Log) → slice_get node.shards n ≡ Some l → l.base ≡ l.state = λ n l e.
+    let first = (begins.shards_are.each n l e).begins in ap log_base first ∙ sym (ap state_in first) in
+    whole_of_bases node.shards ∙ ap union (fun_ext (λ n. same_at (slice_get node.shards n) (at n))) ∙ begins.whole_is
 
-pub stands_at_first : (loaded : Subscribers) (s : List ShardState) → AreOpeningBases loaded s → AreStates loaded.directory s
-    → StandsBehind (opening (records_of loaded.records) (directory_of loaded.directory) loaded.hlr) [] [] (shared_state s [] [])
-stands_at_first loaded s are one = record {
-  directory = loaded.directory;
-  are_bases = one;
+pub stands_at_first : (loaded : Subscribers) (node : NodeState) → BeginsWith loaded Entries 0 node → NodeKeeps node
+    → StandsBehind (opening (records_of loaded.records) (directory_of loaded.directory) loaded.hlr) [] [] (shared_state (bases_of node.shards) [] [])
+stands_at_first loaded node begins keeps = record {
+  directory = node.directory;
+  are_bases = bases_of_shards node.directory node.shards keeps.shards;
   before_cut = [];
   sent_before_cut = [];
   events_are = refl;
   sent_are = refl;
   pairs = refl;
-  to_cut = no_run (opening (records_of loaded.records) (directory_of loaded.directory) loaded.hlr) (whole_of s) (whole_opening loaded s are);
+  to_cut = no_run (opening (records_of loaded.records) (directory_of loaded.directory) loaded.hlr) (whole_of (bases_of node.shards))
+      (whole_opening loaded node begins);
 }
 
 -- ---- jobs are added
@@ -94,7 +94,7 @@ goes_on_by before jobs receipts after pairs is = (
   }),
 )
 
--- ---- the shards are taken out of their locks
+-- ---- jobs and receipts account for the journals
 
 -- All events up to here are such a run to the states of the shards.
 settled_run : (begin : State) (events : List RawEvent) (sent : List (List RawOut)) (s : SharedState) (shards : List Log) → StandsBehind begin events sent s
@@ -131,7 +131,7 @@ mapped f xs n y e = from (slice_get xs n) (sym (slice_get-map f xs n) ∙ e) ref
     from None is at = absurd (cc is)
     from (Some x) is at = (x, at, cc)
 
-cut_shards : (directory : DirectoryMap) (shards : List Log) → AreShards directory shards → All LogKeeps (map cut_log shards)
+pub cut_shards : (directory : DirectoryMap) (shards : List Log) → AreShards directory shards → All LogKeeps (map cut_log shards)
     → AreShards directory (map cut_log shards)
 cut_shards directory shards are keeps = record {
   hlr = are.hlr;

@@ -2,7 +2,7 @@ pub mod Answered
 pub mod Hands
 pub mod Lots
 pub mod Batch
-pub mod Offices
+pub mod Going
 pub mod Merged
 pub mod Shared
 pub mod SharedFaults

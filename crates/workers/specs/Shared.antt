@@ -12,10 +12,10 @@ use Rattle.records.specs.Maps.{DirectoryMap}
 use Rattle.hlrcore.specs.Shards.{ShardState, shard_state_code, state_of}
 use Rattle.shardlog.specs.Log.{Log}
 use Rattle.wholenode.specs.Keeping.{AreShards, AreStates}
-use Rattle.wholenode.specs.Nodes.{journals, nothing, whole, whole_base}
+use Rattle.wholenode.specs.Nodes.{NodeState, journals, nothing, whole, whole_base}
 use Rattle.receipts.specs.Jobs.{job_code, receipt_code}
 use Rattle.receipts.specs.Journals.{journal_list}
-use Rattle.workers.specs.Offices.{bases_of}
+use Rattle.workers.specs.Going.{bases_of}
 
 -- The bases of the shards, and what was done since: a receipt for each job, in the order of the jobs.
 pub record SharedState : Type 0 where
@@ -31,10 +31,10 @@ shared_state_code =
     code_by (List ShardState × (List Job × List Receipt)) (coded× (coded_list shard_state_code) (coded× (coded_list job_code) (coded_list receipt_code)))
     (λ s. (s.bases, (s.jobs, s.receipts))) (λ p. shared_state p.0 p.1.0 p.1.1) (λ _. refl)
 
--- the bases of an office, none if there is no office
-abbrev pub bases_in : Option (List ShardState) → List ShardState
+-- the bases of a register's shards, none if there is no register
+abbrev pub bases_in : Option NodeState → List ShardState
 bases_in None = []
-bases_in (Some bases) = bases
+bases_in (Some node) = bases_of node.shards
 
 -- the numbers of jobs, and the jobs that receipts are for
 abbrev pub numbers_of_jobs : List Job → List ℕ
@@ -118,7 +118,7 @@ pub record HandsOut (begin : State) (events : List RawEvent) (sent : List (List 
   pub from_cut : IsRunInSomeOrder (whole_base shards) kept sent_kept (whole shards)
   pub merges : MergesOctets (journals shards) from_cut.entries
 
--- ---- the shards of an office, once jobs and receipts account for their journals
+-- ---- the shards, once jobs and receipts account for their journals
 
 -- Shards that began with these bases, whose journals the jobs and receipts account for.
 pub record AreSettled (bases : List ShardState) (jobs : List Job) (receipts : List Receipt) (shards : List Log) : Type 0 where

@@ -1,16 +1,10 @@
 -- Why a register that workers share cannot go on.
 use Rattle.std.specs.Prelude.{Option, Some, None, Ok, Err, Result}
-use Rattle.workers.specs.declared.office.PlaceFault.{PlaceFault}
-use Rattle.workers.specs.declared.office.PlaceFault.TheVariants as place
 use Rattle.receipts.specs.declared.placed.Placed.{Placed}
 use Rattle.receipts.specs.declared.refusal.Refusal.{Refusal}
 use Rattle.receipts.specs.declared.refusal.Refusal.TheVariants as refusal
 use Rattle.workers.specs.declared.shared_fault.SharedFault.{SharedFault}
-use Rattle.workers.specs.declared.shared_fault.SharedFault.TheVariants.{Memory, NoRoom, Unaccounted}
-
-abbrev pub misplaced : PlaceFault → SharedFault
-misplaced place.Memory = Memory
-misplaced (place.Swapped n) = Unaccounted 0
+use Rattle.workers.specs.declared.shared_fault.SharedFault.TheVariants.{Memory, NoRoom}
 
 -- A refusal for lack of memory or of room stops a part. The others are found when the journals are accounted for.
 abbrev pub stopped_by : Refusal → Option SharedFault

@@ -1,13 +1,17 @@
-//! A job in its shard, once the event is read and the shard is locked.
+//! A job in its shard, once the event is read.
 
-ghost use Rattle.std.specs.Prelude.{◌≡◌, IfOk, IfSome, OnErr};
+ghost use Rattle.std.specs.Prelude.{◌≡◌, ◌<◌, IfOk, IfSome, OnErr};
 ghost use Rattle.frames.specs.Octets.{IsEvent};
+ghost use Rattle.hlrcore.specs.Addressees.{IsAddressee};
 ghost use Rattle.hlrcore.specs.Events.{event_of, raw_event, raw_of};
+ghost use Rattle.hlrcore.specs.Shards.{directory_of};
+ghost use Rattle.shardlog.specs.Log.{LogKeeps};
 ghost use Rattle.workers.specs.Answered.{IsAnswered};
+ghost use Rattle.workers.specs.Going.{HasGoneOn};
 ghost use Rattle.receipts.specs.Receipts.{IsPlaced, place_of};
 
 use bumpalo::Bump;
-use hlrcore::{Event, RawEvent, ShardNumber, addressee_of};
+use hlrcore::{Addressee, Event, RawEvent, ShardNumber};
 use receipts::{Placed, Refusal};
 use shardlog::Shard;
 use std::alloc::Global;
@@ -26,18 +30,22 @@ pub(crate) fn read(alloc: Global, bump: &mut Bump, raw: &RawEvent) -> Result<Eve
     }
 }
 
-/// Handles an event in its locked shard. Its entry takes its octets, and the receipt says where the entry stands.
+/// Handles an event, of which it is known whom it is for, in its shard. Its entry takes its octets, and the receipt says where the entry stands.
 pub(crate) fn apply(
     shard: &mut Shard,
-    number: ShardNumber,
     event: &mut Event,
+    found: Addressee,
 ) -> Result<Placed, Refusal>
-    ensures ok { IfOk result (λ placed. IsPlaced number shard.old
+    requires { IsAddressee (directory_of shard.old.state.directory) (event_of event.old) found }
+    ensures ok { IfOk result (λ placed. IsPlaced shard.old.state.shard shard.old
         (raw_of event.old) placed shard.new) }
     ensures answered { IfSome (place_of result) (IsAnswered (raw_of event.old)) }
+    ensures gone_on { HasGoneOn shard.old shard.new }
+    ensures keeps { LogKeeps shard.new }
     ensures err { OnErr result (shard.new ≡ shard.old) }
 {
-    let found = addressee_of(shard.state().directory(), event);
+    shard.state().law_sound();
+    let number = ShardNumber::new(shard.state().number()).unwrap();
     let handled = shard.handle(event, found)?;
     Ok(Placed {
         shard: number,

@@ -1,6 +1,6 @@
 //! A batch of jobs that workers share.
 
-ghost use Rattle.std.specs.Prelude.{◌≡◌, ◌+◌, ◌-◌, ◌<◌, ◌≤◌, ◌++◌, ◌∷◌, [], List, map, replicate, true, false, IfOk, IsOkAnd, IsTrue, ◌↔◌};
+ghost use Rattle.std.specs.Prelude.{◌≡◌, ◌+◌, ◌-◌, ◌<◌, ◌≤◌, ◌++◌, ◌∷◌, [], List, map, replicate, true, false, IfOk, IsOkAnd, IfErr};
 ghost use Rattle.std.specs.List.Sorted.{IsPermutation, IsStrictlyIncreasing};
 ghost use Rattle.crossbeam_channel.specs.Claims.{view, IsSeatAt};
 ghost use Rattle.crossbeam_channel.specs.Ends.{sends_on, receives_on};
@@ -9,17 +9,25 @@ ghost use Rattle.workers.specs.declared.lot.Lot.{Lot};
 ghost use Rattle.workers.specs.Hands.{hand, IsBatch};
 ghost use Rattle.receipts.specs.Numbers.{AreApart};
 ghost use Rattle.workers.specs.Batch.{jobs_in, stops_in, HasTaken, HasGathered};
+ghost use Rattle.workers.specs.Going.{HaveGoneOn};
+ghost use Rattle.wholenode.specs.Keeping.{NodeKeeps};
 
+use crate::caller::serve_alone;
 use crate::gate::Gate;
+use crate::locked::Naming;
+use crate::locks::Locks;
 use crate::lot::{Lot, crew_size, lot_size, messages};
-use crate::office::Office;
 use crate::rule::{Hires, Receiver, Seat, Sender, Sends, Totals, Work};
-use crate::worker::{Served, serve, serve_alone};
+use crate::swapped::Swapped;
+use crate::worker::{Served, serve};
+use bumpalo::Bump;
 use crossbeam_channel::bounded_with;
 use receipts::{Job, Receipt};
 use std::alloc::{AllocError, Global};
+use std::marker::Brand;
 use std::sync::Wait;
 use std::thread::{self, Promise, Scope, Threads};
+use wholenode::Node;
 
 /// Sends one message. A reported disconnect proves nothing, so it tries again.
 fn put<R: Wait>(rt: &R, channel: &Sender, mut seat: Seat, work: Work) -> Seat
@@ -84,12 +92,12 @@ impl<'a> Promise<Served> for Serving<'a> {
 }
 
 /// Sends the jobs, and one `Stop` for each of the `workers`, and then serves as one of them.
-fn lead<R: Wait, G: Gate>(
+fn lead<R: Wait, G: Gate, J: Naming>(
     rt: &R,
     alloc: Global,
     to: &Sender,
     from: &Receiver,
-    office: &Office,
+    locks: &Locks<J>,
     gate: &G,
     jobs: &[Job],
     workers: usize,
@@ -110,18 +118,18 @@ fn lead<R: Wait, G: Gate>(
     let seat = put_jobs(rt, to, seat, jobs, most);
     let mut seat = put_stops(rt, to, seat, workers);
     let own = to.another::<Hires>(&mut seat);
-    let served = serve(rt, alloc, from, own, office, jobs, gate);
+    let served = serve(rt, alloc, from, own, locks, jobs, gate);
     gather(to, seat, Ok(Vec::new(alloc)), served)
 }
 
 /// Starts `left` more workers, each in a thread of its own, leads the batch, and joins those `left`.
-fn team<'s, E, R: Threads + Wait + Sync, G: Gate + Sync>(
+fn team<'s, E, R: Threads + Wait + Sync, G: Gate + Sync, J: Naming + Send + Sync>(
     scope: &Scope<'s, E>,
     rt: &'s R,
     alloc: Global,
     to: &Sender,
     from: &'s Receiver,
-    office: &'s Office,
+    locks: &'s Locks<J>,
     gate: &'s G,
     jobs: &'s [Job],
     workers: usize,
@@ -141,11 +149,11 @@ fn team<'s, E, R: Threads + Wait + Sync, G: Gate + Sync>(
         ≡ workers - (left + 1) + stops_in (view result.0).taken }
 {
     if left == 0 {
-        return lead(rt, alloc, to, from, office, gate, jobs, workers, seat);
+        return lead(rt, alloc, to, from, locks, gate, jobs, workers, seat);
     }
     let theirs = to.another::<Hires>(&mut seat);
     let Ok(worker) = scope.spawn_with(Serving(from, jobs), move || {
-        serve(rt, alloc, from, theirs, office, jobs, gate)
+        serve(rt, alloc, from, theirs, locks, jobs, gate)
     }) else {
         let seat = put_stops(rt, to, seat, workers - left - 1);
         return (seat, Err(AllocError));
@@ -156,7 +164,7 @@ fn team<'s, E, R: Threads + Wait + Sync, G: Gate + Sync>(
         alloc,
         to,
         from,
-        office,
+        locks,
         gate,
         jobs,
         workers,
@@ -199,38 +207,125 @@ fn gather(
     }
 }
 
-/// Has 1 to 16 workers handle the jobs, but no more than there are jobs. One of them is the caller's thread, and a thread is started for
-/// each other; one worker alone takes lots of them, in order, with no channel. There is one receipt for each job, by ascending number. If a
-/// worker could not be started, or there is no memory for the channel or the receipts, it returns an error after all started workers have
-/// stopped: some jobs may then have been handled without a receipt.
+/// A register after a batch, and the receipts of its jobs.
+#[derive(Drop)]
+pub struct BatchDone {
+    pub node: Node,
+    pub receipts: Result<Vec<Receipt>, AllocError>,
+}
+
+/// Has 1 to 16 workers handle the jobs, but no more than there are jobs. The caller's thread is one of them, and a thread is started for
+/// each other. Meanwhile each shard is behind a lock of its own; one worker alone takes the jobs in their order, in this arena, with no lock. There is one
+/// receipt for each job, by ascending number. If a worker could not be started, or there is no memory for the locks, the channel or the
+/// receipts, there are none; all started workers have stopped then, and some jobs may have been handled. The register is returned either way,
+/// each shard as it has gone on.
+///
+/// `Swapped` if a lock held another shard at the end than at the beginning; the register is gone then. It can be only with several workers.
 ///
 /// Limitation: no contract says which worker takes a job, in which order the jobs of a batch reach their shard, or that the call
 /// returns. That a receipt has its entry is known only from `reconcile`.
 pub fn run_batch<R: Threads + Wait + Sync, G: Gate + Sync>(
     rt: &R,
     alloc: Global,
-    office: &Office,
+    bump: &mut Bump,
+    node: Node,
     jobs: &[Job],
     gate: &G,
     workers: usize,
-) -> Result<Vec<Receipt>, AllocError>
+) -> Result<BatchDone, Swapped>
     requires workers { (1 ≤ workers) × (workers ≤ 16) }
     requires distinct { AreApart (map (λ j. j.number) jobs.now) }
-    ensures one_each { IfOk result (λ rs. IsPermutation (map (λ j. j.number) jobs.now)
-        (map (λ r. r.job) rs.items)) }
-    ensures rising { IfOk result (λ rs. IsStrictlyIncreasing (map (λ r. r.job) rs.items)) }
+    ensures directory { IfOk result (λ done. done.node.directory ≡ node.directory) }
+    // Each shard is as before, or has gone on: if it keeps entries, its journal begins where it did.
+    ensures gone_on { IfOk result (λ done. HaveGoneOn node.shards done.node.shards) }
+    ensures keeps { IfOk result (λ done. NodeKeeps done.node) }
+    ensures one_each { IfOk result (λ done. IfOk done.receipts (λ rs. IsPermutation
+        (map (λ j. j.number) jobs.now) (map (λ r. r.job) rs.items))) }
+    ensures rising { IfOk result (λ done. IfOk done.receipts (λ rs. IsStrictlyIncreasing
+        (map (λ r. r.job) rs.items))) }
+    ensures place { IfErr result (λ swapped. swapped.0 < 16) }
+{
+    let done = in_any_order(rt, alloc, bump, node, jobs, gate, workers)?;
+    Ok(BatchDone {
+        node: done.node,
+        receipts: by_number(done.receipts),
+    })
+}
+
+/// The same with the receipts in any order.
+fn in_any_order<R: Threads + Wait + Sync, G: Gate + Sync>(
+    rt: &R,
+    alloc: Global,
+    bump: &mut Bump,
+    node: Node,
+    jobs: &[Job],
+    gate: &G,
+    workers: usize,
+) -> Result<BatchDone, Swapped>
+    requires workers { (1 ≤ workers) × (workers ≤ 16) }
+    ensures directory { IfOk result (λ done. done.node.directory ≡ node.directory) }
+    ensures gone_on { IfOk result (λ done. HaveGoneOn node.shards done.node.shards) }
+    ensures keeps { IfOk result (λ done. NodeKeeps done.node) }
+    ensures one_each { IfOk result (λ done. IfOk done.receipts (λ rs. IsPermutation
+        (map (λ j. j.number) jobs.now) (map (λ r. r.job) rs.items))) }
+    ensures place { IfErr result (λ swapped. swapped.0 < 16) }
 {
     let workers = crew_size(jobs.len(), workers);
-    let mut receipts = share(rt, alloc, office, jobs, gate, workers)?;
+    if workers == 1 {
+        return Ok(serve_alone(alloc, bump, node, jobs, gate));
+    }
+    behind_locks::<R, G, Brand>(rt, alloc, node, jobs, gate, workers)
+}
+
+/// The same receipts by ascending number.
+fn by_number(receipts: Result<Vec<Receipt>, AllocError>) -> Result<Vec<Receipt>, AllocError>
+    ensures same { IfOk result (λ rs. IsOkAnd receipts (λ all. IsPermutation
+        (map (λ r. r.job) all.items) (map (λ r. r.job) rs.items))) }
+    ensures rising { IfOk result (λ rs. IsOkAnd receipts (λ all. AreApart
+        (map (λ r. r.job) all.items) → IsStrictlyIncreasing (map (λ r. r.job) rs.items))) }
+{
+    let mut receipts = receipts?;
     receipts.sort_by_key(|r| r.job)?;
     Ok(receipts)
 }
 
-/// The receipts of all jobs, in any order.
-fn share<R: Threads + Wait + Sync, G: Gate + Sync>(
+/// Has several workers handle the jobs, with each shard behind a lock. The receipts are in any order.
+fn behind_locks<R: Threads + Wait + Sync, G: Gate + Sync, J: Naming + Send + Sync>(
     rt: &R,
     alloc: Global,
-    office: &Office,
+    node: Node,
+    jobs: &[Job],
+    gate: &G,
+    workers: usize,
+) -> Result<BatchDone, Swapped>
+    requires began { node ≡ J.began }
+    requires workers { (1 ≤ workers) × (workers ≤ 16) }
+    ensures directory { IfOk result (λ done. done.node.directory ≡ node.directory) }
+    ensures gone_on { IfOk result (λ done. HaveGoneOn node.shards done.node.shards) }
+    ensures keeps { IfOk result (λ done. NodeKeeps done.node) }
+    ensures one_each { IfOk result (λ done. IfOk done.receipts (λ rs. IsPermutation
+        (map (λ j. j.number) jobs.now) (map (λ r. r.job) rs.items))) }
+    ensures place { IfErr result (λ swapped. swapped.0 < 16) }
+{
+    let locks = match Locks::<J>::of_node(alloc, node) {
+        Ok(locks) => locks,
+        Err((node, refused)) => {
+            return Ok(BatchDone {
+                node,
+                receipts: Err(refused),
+            });
+        }
+    };
+    let receipts = share(rt, alloc, &locks, jobs, gate, workers);
+    let node = locks.into_node()?;
+    Ok(BatchDone { node, receipts })
+}
+
+/// The receipts of all jobs, in any order.
+fn share<R: Threads + Wait + Sync, G: Gate + Sync, J: Naming + Send + Sync>(
+    rt: &R,
+    alloc: Global,
+    locks: &Locks<J>,
     jobs: &[Job],
     gate: &G,
     workers: usize,
@@ -239,9 +334,6 @@ fn share<R: Threads + Wait + Sync, G: Gate + Sync>(
     ensures one_each { IfOk result (λ rs. IsPermutation (map (λ j. j.number) jobs.now)
         (map (λ r. r.job) rs.items)) }
 {
-    if workers == 1 {
-        return serve_alone(rt, alloc, office, jobs, gate);
-    }
     let (to, from, seat) = bounded_with(alloc, messages(jobs.len(), workers))?;
     let (sender, receiver) = (&to, &from);
     let (mut seat, gathered) = thread::scope(
@@ -264,7 +356,7 @@ fn share<R: Threads + Wait + Sync, G: Gate + Sync>(
                 alloc,
                 sender,
                 receiver,
-                office,
+                locks,
                 gate,
                 jobs,
                 workers,

@@ -1,30 +1,39 @@
-//! The shards of an office whose journals are accounted for by jobs and receipts.
+//! A register whose journals are accounted for by jobs and receipts.
 
-ghost use Rattle.std.specs.Prelude.{◌≡◌, map, vec_len, All, IfOk};
+ghost use Rattle.std.specs.Prelude.{◌≡◌, map, All, IfOk, OnOk};
 ghost use Rattle.shardlog.specs.Log.{LogKeeps, cut_log};
+ghost use Rattle.wholenode.specs.Keeping.{NodeKeeps};
+ghost use Rattle.workers.specs.Going.{bases_of};
 ghost use Rattle.workers.specs.Shared.{AreSettled};
 
-use crate::office::Office;
-use crate::shared_fault::SharedFault;
-use receipts::{Job, Receipt, reconcile};
+use receipts::{Job, Receipt, Unaccounted, reconcile};
 use shardlog::Shard;
+use std::alloc::Global;
 use std::thread::Threads;
+use wholenode::Node;
 
-/// Takes the shards out of their locks, if jobs and receipts account for their journals, which so many threads find out. On error the shards
-/// are dropped.
+/// Whether jobs and receipts account for the journals, which so many threads find out.
 pub(crate) fn settle<R: Threads + Sync>(
     rt: &R,
     threads: usize,
-    office: Office,
+    node: &Node,
     jobs: &[Job],
     receipts: &[Receipt],
-) -> Result<Vec<Shard>, SharedFault>
-    ensures settled { IfOk result (λ shards. AreSettled office jobs.now receipts.now shards.items) }
-    ensures sixteen { IfOk result (λ shards. vec_len shards ≡ 16) }
+) -> Result<(), Unaccounted>
+    ensures settled { OnOk result (AreSettled (bases_of node.now.shards) jobs.now receipts.now
+        node.now.shards) }
 {
-    let shards = office.into_shards()?;
-    reconcile(rt, threads, &shards, jobs, receipts)?;
-    Ok(shards)
+    reconcile(rt, threads, node.shards(), jobs, receipts)
+}
+
+/// The register with each journal cut, and dropped.
+pub(crate) fn cut(alloc: Global, node: Node) -> Node
+    ensures shards { result.shards ≡ map cut_log node.shards }
+    ensures keeps { NodeKeeps result }
+{
+    let (directory, mut shards) = node.into_parts();
+    cut_all(&mut shards);
+    Node::of_parts(alloc, directory, shards)
 }
 
 /// Cuts the journal of a shard, and drops it. The next one has the room of this one.
@@ -36,7 +45,7 @@ fn cut_off(shard: &mut Shard)
 }
 
 /// Cuts the journal of each shard, and drops it.
-pub(crate) fn cut_all(shards: &mut [Shard])
+fn cut_all(shards: &mut [Shard])
     ensures cut { shards.new ≡ map cut_log shards.old }
     ensures keeps { All LogKeeps shards.new }
 {

@@ -3,10 +3,10 @@
 use crate::batch::run_batch;
 use crate::gate::OpenGate;
 use crate::lot::paying_crew;
-use crate::office::Office;
 use crate::part::{first_fault, longest_with, number_jobs};
-use crate::settle::{cut_all, settle};
+use crate::settle::{cut, settle};
 use crate::shared_fault::SharedFault;
+use bumpalo::Bump;
 use hlrcore::RawEvent;
 use machine::numbers::MAX_ENTRIES;
 use receipts::{Job, Receipt};
@@ -16,16 +16,19 @@ use std::alloc::{AllocError, Global};
 use std::marker::Model;
 use std::sync::Wait;
 use std::thread::Threads;
+use wholenode::{Keep, Node};
 
 /// For how many jobs and receipts there is room at first.
 const FIRST_ROOM: usize = 8_192;
 
-/// A register that worker threads share: sixteen locked shards, and the jobs and receipts since their journals were last cut.
-/// Contracts see the bases of the shards, the jobs and the receipts.
+/// A register that worker threads share: its sixteen shards, which are behind locks while a batch is handled, and the jobs and receipts since their
+/// journals were last cut. Contracts see the bases of the shards, the jobs and the receipts.
 #[derive(Drop)]
 pub struct SharedRegister {
     alloc: Global,
-    office: Option<Office>,
+    /// The arena of the caller's thread.
+    bump: Bump,
+    node: Option<Node>,
     jobs: Vec<Job>,
     receipts: Vec<Receipt>,
     /// The number of the next job.
@@ -35,18 +38,23 @@ pub struct SharedRegister {
 }
 
 impl Model for SharedRegister {
+    ghost use Rattle.std.specs.Prelude.{IfSome};
+    ghost use Rattle.workers.specs.Going.{KeepEntries};
     ghost use Rattle.workers.specs.Shared.{SharedState, bases_in, shared_state, shared_state_code};
 
     ghost Value = { SharedState };
 
     ghost coded = { shared_state_code };
 
-    ghost view = { λ s. shared_state (bases_in s.office) s.jobs.items s.receipts.items };
+    ghost view = { λ s. shared_state (bases_in s.node) s.jobs.items s.receipts.items };
+
+    ghost invariant = { λ s. IfSome s.node (λ n. KeepEntries n.shards) };
 }
 
 impl SharedRegister {
     ghost use Rattle.std.specs.Prelude.{◌≡◌, ◌≤◌, ◌-◌, ◌++◌, [], List, drop, length, map, IfOk, OnOk};
-    ghost use Rattle.std.specs.List.Sorted.{IsStrictlyIncreasing};
+    ghost use Rattle.std.specs.List.Sorted.{IsPermutation, IsStrictlyIncreasing};
+    ghost use Rattle.receipts.specs.Numbers.{AreApart};
     ghost use Rattle.frames.specs.Octets as octets;
     ghost use Rattle.hlrcore.specs.Events.{raw_event};
     ghost use Rattle.machine.specs.declared.numbers.TheConstants.{MAX_ENTRIES};
@@ -62,10 +70,11 @@ impl SharedRegister {
             (opening (records_of loaded.records)
             (directory_of loaded.directory) loaded.hlr) [] []) }
     {
-        let office = Office::new(alloc, loaded)?;
+        let node = Node::new(alloc, loaded, Keep::Entries, 0)?;
         Ok(SharedRegister {
             alloc,
-            office: Some(office),
+            bump: Bump::new(alloc),
+            node: Some(node),
             jobs: Vec::with_capacity(alloc, FIRST_ROOM)?,
             receipts: Vec::with_capacity(alloc, FIRST_ROOM)?,
             next: 1,
@@ -108,8 +117,8 @@ impl SharedRegister {
         &self.receipts[from..]
     }
 
-    /// Takes the shards out of their locks, if jobs and receipts since the last cut account for their journals, as so many threads find out.
-    /// The jobs and the receipts are returned too. On error all is dropped.
+    /// The shards, if jobs and receipts since the last cut account for their journals, as so many threads find out. The jobs and the
+    /// receipts are returned too. On error all is dropped.
     pub fn close<R: Threads + Sync>(
         self,
         rt: &R,
@@ -123,17 +132,18 @@ impl SharedRegister {
     {
         let SharedRegister {
             alloc: _,
-            office,
+            bump: _,
+            node,
             jobs,
             receipts,
             next: _,
             longest: _,
         } = self;
-        let Some(office) = office else {
+        let Some(node) = node else {
             return Err(SharedFault::Unaccounted(0));
         };
-        let shards = settle(rt, threads, office, &jobs, &receipts)?;
-        Ok((shards, jobs, receipts))
+        settle(rt, threads, &node, &jobs, &receipts)?;
+        Ok((node.into_shards(), jobs, receipts))
     }
 
     /// Cuts all journals, if one of them has no room for `count` more entries.
@@ -156,12 +166,11 @@ impl SharedRegister {
     fn cut<R: Threads + Sync>(&mut self, rt: &R, threads: usize) -> Result<(), SharedFault>
         ensures { OnOk result (GoesOn self.old [] [] self.new) }
     {
-        let Some(office) = self.office.take() else {
+        let Some(node) = self.node.take() else {
             return Err(SharedFault::Unaccounted(0));
         };
-        let mut shards = settle(rt, threads, office, &self.jobs, &self.receipts)?;
-        cut_all(&mut shards);
-        self.office = Some(Office::from_shards(self.alloc, shards)?);
+        settle(rt, threads, &node, &self.jobs, &self.receipts)?;
+        self.node = Some(cut(self.alloc, node));
         self.jobs.clear();
         self.receipts.clear();
         self.longest = 0;
@@ -185,25 +194,46 @@ impl SharedRegister {
 
     /// Has workers handle the jobs. There is one receipt for each job, in the order of the jobs.
     fn handle<R: Threads + Wait + Sync>(
-        &self,
+        &mut self,
         rt: &R,
         workers: usize,
         jobs: &[Job],
     ) -> Result<Vec<Receipt>, SharedFault>
         requires workers { (1 ≤ workers) × (workers ≤ 16) }
         requires rising { IsStrictlyIncreasing (numbers_of_jobs jobs.now) }
+        ensures same { OnOk result (self.new ≡ self.old) }
         ensures pairs { IfOk result (λ receipts. jobs_of_receipts receipts.items
             ≡ numbers_of_jobs jobs.now) }
     {
-        let Some(office) = &self.office else {
-            return Err(SharedFault::Unaccounted(0));
-        };
-        let workers = paying_crew(jobs.len(), workers);
-        let receipts = run_batch(rt, self.alloc, office, jobs, &OpenGate, workers)?;
+        let receipts = self.run_jobs(rt, paying_crew(jobs.len(), workers), jobs)?;
         match first_fault(&receipts) {
             Some(fault) => Err(fault),
             None => Ok(receipts),
         }
+    }
+
+    /// The receipts of the jobs, which so many workers handle.
+    fn run_jobs<R: Threads + Wait + Sync>(
+        &mut self,
+        rt: &R,
+        workers: usize,
+        jobs: &[Job],
+    ) -> Result<Vec<Receipt>, SharedFault>
+        requires workers { (1 ≤ workers) × (workers ≤ 16) }
+        requires distinct { AreApart (numbers_of_jobs jobs.now) }
+        ensures same { OnOk result (self.new ≡ self.old) }
+        ensures one_each { IfOk result (λ receipts. IsPermutation (numbers_of_jobs jobs.now)
+            (jobs_of_receipts receipts.items)) }
+        ensures rising { IfOk result (λ receipts. IsStrictlyIncreasing
+            (jobs_of_receipts receipts.items)) }
+    {
+        let Some(node) = self.node.take() else {
+            return Err(SharedFault::Unaccounted(0));
+        };
+        let bump = &mut self.bump;
+        let done = run_batch(rt, self.alloc, bump, node, jobs, &OpenGate, workers)?;
+        self.node = Some(done.node);
+        Ok(done.receipts?)
     }
 
     /// Appends the jobs and their receipts to those since the last cut.

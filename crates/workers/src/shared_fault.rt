@@ -1,6 +1,6 @@
 //! Why a register that workers share cannot go on.
 
-use crate::office::PlaceFault;
+use crate::swapped::Swapped;
 use receipts::Unaccounted;
 use std::alloc::{AllocError, AllocFailed};
 use thiserror::Error;
@@ -14,7 +14,7 @@ pub enum SharedFault {
     /// An operator's change would open a dialogue, and the shard is full: 4,096 dialogues are open.
     #[error("the shard is full: 4,096 dialogues are open")]
     NoRoom,
-    /// The job with this number is unaccounted for; 0 if an entry is left over, a shard has another base, or the shards are gone
+    /// The job with this number is unaccounted for; 0 if an entry is left over, a lock held another shard, or the shards are gone
     /// after an earlier fault.
     #[error("job {0} is unaccounted for")]
     Unaccounted(u64),
@@ -42,17 +42,14 @@ impl<T: Drop> From<AllocFailed<T>> for SharedFault {
     }
 }
 
-impl From<PlaceFault> for SharedFault {
+impl From<Swapped> for SharedFault {
     ghost use Rattle.std.specs.Prelude.{◌≡◌};
-    ghost use Rattle.workers.specs.SharedFaults.{misplaced};
+    ghost use Rattle.workers.specs.declared.shared_fault.SharedFault.TheVariants.{Unaccounted};
 
-    ghost from_gives = { λ place fault. fault ≡ misplaced place };
+    ghost from_gives = { λ _ fault. fault ≡ Unaccounted 0 };
 
-    fn from(place: PlaceFault) -> SharedFault {
-        match place {
-            PlaceFault::Memory => SharedFault::Memory,
-            PlaceFault::Swapped(_) => SharedFault::Unaccounted(0),
-        }
+    fn from(_swapped: Swapped) -> SharedFault {
+        SharedFault::Unaccounted(0)
     }
 }
 

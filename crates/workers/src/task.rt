@@ -1,33 +1,34 @@
 //! A job that a worker has taken, as far as it is handled.
 
-use crate::apply::{apply, read};
+use crate::apply::read;
 use crate::gate::Gate;
+use crate::locked::{Locked, Naming};
 use bumpalo::Bump;
-use hlrcore::{Event, ShardNumber, route};
+use hlrcore::{Addressee, Event, addressee_of};
 use receipts::{Job, JobNumber, Placed, Receipt, Refusal};
 use records::Directory;
-use shardlog::Shard;
 use std::alloc::Global;
-use std::marker::Model;
+use std::marker::{Model, PhantomData};
 use std::mem;
 
 /// How far a job is handled.
 #[derive(Drop)]
 pub(crate) enum Stage {
-    /// Its event is read, and is for this shard.
-    Read(ShardNumber, Event),
+    /// Its event is read, and is for this shard, and of a Begin for this subscriber.
+    Read(Addressee, Event),
     /// It has its answer.
     Answered(Result<Placed, Refusal>),
 }
 
-/// A job that a worker has taken. Contracts see the job.
+/// A job that a worker has taken, of a batch for the register that `J` names. Contracts see the job.
 #[derive(Drop)]
-pub(crate) struct Task<'a> {
+pub(crate) struct Task<'a, J: Naming> {
     job: &'a Job,
     stage: Stage,
+    of: PhantomData<J>,
 }
 
-impl<'a> Model for Task<'a> {
+impl<'a, J: Naming> Model for Task<'a, J> {
     ghost use Rattle.frames.specs.Account as account;
     ghost use Rattle.receipts.specs.Jobs.{job_code};
     ghost use Rattle.workers.specs.Tasks.{IsOf};
@@ -38,52 +39,63 @@ impl<'a> Model for Task<'a> {
 
     ghost view = { λ t. t.job.now };
 
-    ghost invariant = { λ t. IsOf t.job.now.event t.stage };
+    ghost invariant = { λ t. IsOf J.began.directory t.job.now.event t.stage };
 }
 
-impl<'a> Task<'a> {
-    ghost use Rattle.std.specs.Prelude.{◌≡◌, IfSome};
+impl<'a, J: Naming> Task<'a, J> {
+    ghost use Rattle.std.specs.Prelude.{◌≡◌, ◌<◌, IfSome};
     ghost use Rattle.workers.specs.Answered.{IsAnswered};
     ghost use Rattle.receipts.specs.Receipts.{place_of};
     ghost use Rattle.workers.specs.Tasks.{IsOf};
 
-    /// Reads the event of a job in a worker's arena, and finds its shard. If it cannot be read, that is the answer.
+    /// Reads the event of a job in a worker's arena, and finds whom it is for. If it cannot be read, that is the answer.
     pub(crate) fn new(
         alloc: Global,
         bump: &mut Bump,
         directory: &Directory,
         job: &'a Job,
-    ) -> Task<'a>
+    ) -> Task<'a, J>
+        requires { directory.now ≡ J.began.directory }
         ensures { result ≡ job.now }
     {
         let stage = match read(alloc, bump, &job.event) {
             Ok(event) => {
-                let place = route(directory, &event);
-                Stage::Read(ShardNumber::new(place).unwrap(), event)
+                let found = addressee_of(directory, &event);
+                Stage::Read(found, event)
             }
             Err(refusal) => Stage::Answered(Err(refusal)),
         };
-        Task { job, stage }
+        Task {
+            job,
+            stage,
+            of: PhantomData,
+        }
     }
 
     /// Handles the event in a locked shard, if it is read and is for this shard.
-    pub(crate) fn handle_in<G: Gate>(&mut self, shard: &mut Shard, number: ShardNumber, gate: &G)
+    pub(crate) fn handle_in<G: Gate>(&mut self, shard: &mut Locked<J>, number: u8, gate: &G)
         ensures { self.new ≡ self.old }
     {
         let job = self.number();
-        if let Stage::Read(own, event) = &mut self.stage {
-            if *own == number {
+        if let Stage::Read(whom, event) = &mut self.stage {
+            if whom.shard == number {
                 gate.inside(job.get());
-                let answer = apply(shard, number, event);
+                let found = Addressee {
+                    shard: number,
+                    subject: whom.subject,
+                };
+                let answer = shard.apply(event, found);
                 self.stage = Stage::Answered(answer);
             }
         }
     }
 
     /// The shard that the event is for, if it is read and not handled yet.
-    pub(crate) fn waits_for(&self) -> Option<ShardNumber> {
+    pub(crate) fn waits_for(&self) -> Option<u8>
+        ensures { IfSome result (λ number. number < 16) }
+    {
         match &self.stage {
-            Stage::Read(number, _) => Some(*number),
+            Stage::Read(found, _) => Some(found.shard),
             Stage::Answered(_) => None,
         }
     }
@@ -99,7 +111,7 @@ impl<'a> Task<'a> {
     /// Takes out how far the job is handled. What is left has a refusal, and is not looked at again.
     pub(crate) fn take_stage(&mut self) -> Stage
         ensures same { self.new ≡ self.old }
-        ensures of { IsOf self.old.event result }
+        ensures of { IsOf J.began.directory self.old.event result }
     {
         mem::replace(&mut self.stage, Stage::Answered(Err(Refusal::NotMine)))
     }

@@ -7,8 +7,8 @@ ghost use Rattle.workers.specs.Hands.{hand};
 ghost use Rattle.workers.specs.Batch.{HasTaken};
 
 use crate::gate::Gate;
-use crate::lot::{Lot, MAX_LOT};
-use crate::office::Office;
+use crate::locked::Naming;
+use crate::locks::Locks;
 use crate::rule::{Receiver, Seat, Takes, Work};
 use bumpalo::Bump;
 use receipts::{Job, Receipt};
@@ -30,12 +30,12 @@ pub struct Served {
 ///
 /// Limitation: no contract says what a lock held, so none says that a receipt has its entry; `reconcile` finds out. Progress is
 /// not claimed: a call that waits for a message or a lock may wait forever.
-pub fn serve<R: Wait, G: Gate>(
+pub fn serve<R: Wait, G: Gate, J: Naming>(
     rt: &R,
     alloc: Global,
     channel: &Receiver,
     mut seat: Seat,
-    office: &Office,
+    locks: &Locks<J>,
     jobs: &[Job],
     gate: &G,
 ) -> Served
@@ -64,41 +64,19 @@ pub fn serve<R: Wait, G: Gate>(
         };
         if !refused {
             let jobs = lot.of(jobs);
-            refused = answer_lot(rt, alloc, office, &mut bump, jobs, gate, &mut receipts).is_err();
+            refused = answer_lot(rt, alloc, locks, &mut bump, jobs, gate, &mut receipts).is_err();
         }
     }
     unreachable!()
 }
 
-/// A worker that shares the jobs with nobody: takes them in lots, in their order. The receipts are in that order too.
-pub(crate) fn serve_alone<R: Wait, G: Gate>(
-    rt: &R,
-    alloc: Global,
-    office: &Office,
-    jobs: &[Job],
-    gate: &G,
-) -> Result<Vec<Receipt>, AllocError>
-    ensures all { IfOk result (λ rs. map (λ r. r.job) rs.items ≡ map (λ j. j.number) jobs.now) }
-{
-    let mut bump = Bump::new(alloc);
-    let mut receipts = Vec::new(alloc);
-    let mut from = 0;
-    while from < jobs.len() {
-        let count = MAX_LOT.min(jobs.len() - from);
-        let lot = Lot { from, count }.of(jobs);
-        answer_lot(rt, alloc, office, &mut bump, lot, gate, &mut receipts)?;
-        from += count;
-    }
-    Ok(receipts)
-}
-
 /// Handles the jobs of a lot, and appends their receipts, in the order of the jobs. All events are read first, while the code that reads
 /// them is near; then each shard that some are for is locked once, a free one before one that another worker holds. If there is no memory for
 /// the receipts, no job is handled.
-fn answer_lot<R: Wait, G: Gate>(
+fn answer_lot<R: Wait, G: Gate, J: Naming>(
     rt: &R,
     alloc: Global,
-    office: &Office,
+    locks: &Locks<J>,
     bump: &mut Bump,
     jobs: &[Job],
     gate: &G,
@@ -109,10 +87,10 @@ fn answer_lot<R: Wait, G: Gate>(
     ensures err { OnErr result (receipts.new.items ≡ receipts.old.items) }
 {
     receipts.reserve(jobs.len())?;
-    let mut tasks = office.read_tasks(alloc, bump, jobs)?;
-    office.handle_free(&mut tasks, gate);
+    let mut tasks = locks.read_tasks(alloc, bump, jobs)?;
+    locks.handle_free(&mut tasks, gate);
     for place in 0..jobs.len() {
-        let receipt = office.answer(rt, &mut tasks, place, gate);
+        let receipt = locks.answer(rt, &mut tasks, place, gate);
         let job = receipt.job;
         receipts.push_reserved(receipt);
         gate.done(job.get());

@@ -1,17 +1,12 @@
-use Rattle.std.proofs.Common.{rules}
-use Rattle.std.specs.List.Sorted.{IsNonDecreasingBy}
-use Rattle.std.proofs.lemmas.List.Sorted.{IsPermutation-map, IsPermutation-trans, IsNonDecreasingBy-from_sort_by_key}
-use Rattle.frames.specs.Account.{Receipt}
-use Rattle.receipts.proofs.Rising.{rising, rising_keys, apart_moved}
+use Rattle.std.proofs.Common.{map}
+use Rattle.workers.proofs.GoingLemmas.{moved_on, rises_on}
 use Rattle.workers.proofs.batch.run_batch.Goals as goal
 
 pub returns-clause-one_each : goal.returns-clause-one_each
 returns-clause-one_each g c =
-    IsPermutation-trans _ _ _ c.in_ok-receipts.ensures.one_each (IsPermutation-map (λ r. r.job) _ _ c.sort_by_key.ensures.permutation)
+    moved_on _ (λ v. map (λ r. r.job) v.items) c.in_ok-done.done.receipts c.by_number.result c.in_ok-done.ensures.one_each c.by_number.ensures.same
 
 pub returns-clause-rising : goal.returns-clause-rising
 returns-clause-rising g c =
-    let moved = IsPermutation-trans _ _ _ c.in_ok-receipts.ensures.one_each (IsPermutation-map (λ r. r.job) _ _ c.sort_by_key.ensures.permutation) in
-    let sorted : IsNonDecreasingBy (λ (r : Receipt). r.job) c.sort_by_key.new.self.items =
-    IsNonDecreasingBy-from_sort_by_key (λ r. r.job) _ c.in_ok-sort_by_key.ensures.sorted (λ a r q k. search rules) in
-    rising _ (rising_keys (λ r. r.job) _ sorted) (apart_moved _ _ moved c.requires.distinct)
+    rises_on _ (λ v. map (λ r. r.job) v.items) c.in_ok-done.done.receipts c.by_number.result c.requires.distinct c.in_ok-done.ensures.one_each
+    c.by_number.ensures.rising

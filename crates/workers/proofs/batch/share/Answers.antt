@@ -1,12 +1,8 @@
 use Rattle.std.proofs.Common.{arith, ap}
 use Rattle.std.proofs.lemmas.Result.{MatchResult-at_ok}
-use Rattle.workers.proofs.Alone.{moved_alone}
 use Rattle.workers.proofs.Moves.{begins, learns}
 use Rattle.workers.proofs.Settling.{settles}
 use Rattle.workers.proofs.batch.share.Goals as goal
-
-pub returns-then-workers-eq1 : goal.returns-then-workers-eq1
-returns-then-workers-eq1 g c = record { one_each = moved_alone _ _ _ c.serve_alone.ensures.all }
 
 pub bounded_with-requires-clause-rule : goal.bounded_with-requires-clause-rule
 bounded_with-requires-clause-rule g c = begins

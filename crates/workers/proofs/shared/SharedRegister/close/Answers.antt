@@ -1,13 +1,16 @@
-use Rattle.std.proofs.Common.{◌≡◌, rules}
-use Rattle.workers.specs.Shared.{shared_state}
+use Rattle.std.proofs.Common.{◌≡◌, List, rules, sym, subst}
+use Rattle.shardlog.specs.Log.{Log}
+use Rattle.workers.specs.Going.{bases_of}
+use Rattle.workers.specs.Shared.{AreSettled, shared_state}
 use Rattle.workers.proofs.Standing.{closes}
 use Rattle.workers.proofs.shared.SharedRegister.close.Goals as goal
 
 pub returns : goal.returns
 returns g c =
-    let was : c.args.self ≡ shared_state c.in-Some.office c.deref.result.now c.deref-2.result.now = search rules in
+    let node = c.in-Some.node in
+    let was : c.args.self ≡ shared_state (bases_of node.shards) c.deref.result.now c.deref-2.result.now = search rules in
     record {
-      hands_out = closes c.args.self c.in-Some.office c.deref.result.now c.deref-2.result.now c.in_ok-shards.shards.items was
-          c.in_ok-shards.ensures.settled;
+      hands_out = closes c.args.self (bases_of node.shards) c.deref.result.now c.deref-2.result.now c.into_shards.result.items was
+          (subst (AreSettled (bases_of node.shards) c.deref.result.now c.deref-2.result.now) (sym c.into_shards.ensures.shards) c.in_ok-settle.ensures.settled);
       account = search rules;
     }

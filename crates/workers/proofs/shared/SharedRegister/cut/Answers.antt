@@ -1,20 +1,22 @@
-use Rattle.std.proofs.Common.{◌≡◌, [], length, map, rules, sym, ap, ◌∙◌}
-use Rattle.std.proofs.lemmas.List.{length-map, with_items_is}
-use Rattle.shardlog.specs.Log.{cut_log}
-use Rattle.workers.specs.Offices.{bases_of}
+use Rattle.std.proofs.Common.{◌≡◌, [], Some, refl, rules, subst}
+use Rattle.std.specs.Prelude.{IfSome}
+use Rattle.workers.specs.Going.{KeepEntries, bases_of}
 use Rattle.workers.specs.Shared.{shared_state}
+use Rattle.workers.proofs.GoingLemmas.{all_keep, keep_cut}
 use Rattle.workers.proofs.Standing.{cut_goes}
 use Rattle.workers.proofs.shared.SharedRegister.cut.Goals as goal
 
 pub returns : goal.returns
 returns g c =
-    let shards = c.in_ok-shards.shards in let now = c.cut_all.new.shards in
-    let was : c.args.self.now ≡ shared_state c.in-Some.office c.deref.result.now c.deref-2.result.now = search rules in
-    let cut : now ≡ map cut_log shards.items = search rules in
-    let count : length now ≡ length shards.items = ap length cut ∙ length-map shards.items cut_log in
-    let bases : c.in_ok-from_shards.field-0 ≡ bases_of now =
-    c.in_ok-from_shards.ensures.bases ∙ ap bases_of (with_items_is shards now (count ∙ sym shards.ok.0)) in
+    let node = c.in-Some.node in let now = c.cut.result in
+    let was : c.args.self.now ≡ shared_state (bases_of node.shards) c.deref.result.now c.deref-2.result.now = search rules in
     let no_jobs : c.clear.new.self.items ≡ [] = search rules in
     let no_receipts : c.clear-2.new.self.items ≡ [] = search rules in
-    cut_goes c.args.self.now c.in-Some.office c.in_ok-from_shards.field-0 c.deref.result.now c.clear.new.self.items c.deref-2.result.now
-    c.clear-2.new.self.items shards.items now was c.in_ok-shards.ensures.settled cut c.cut_all.ensures.keeps bases no_jobs no_receipts
+    cut_goes c.args.self.now (bases_of node.shards) (bases_of now.shards) c.deref.result.now c.clear.new.self.items c.deref-2.result.now
+    c.clear-2.new.self.items node.shards now.shards was c.in_ok-settle.ensures.settled c.cut.ensures.shards
+    (all_keep now.directory now.shards c.cut.ensures.keeps.shards) refl no_jobs no_receipts
+
+pub invariant_of-self-2 : goal.invariant_of-self-2
+invariant_of-self-2 g c =
+    let was : c.self.inside.node ≡ Some c.in-Some.node = search rules in
+    keep_cut c.in-Some.node.shards c.cut.result.shards c.cut.ensures.shards (subst (λ o. IfSome o (λ n. KeepEntries n.shards)) was c.self.invariant)

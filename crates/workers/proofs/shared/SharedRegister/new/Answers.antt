@@ -2,9 +2,14 @@ use Rattle.std.proofs.Common.{◌≡◌, List, [], rules, sym, subst}
 use Rattle.frames.specs.Account.{Job, Receipt}
 use Rattle.machine.specs.Opening.{opening}
 use Rattle.hlrcore.specs.Shards.{directory_of, records_of}
+use Rattle.workers.specs.Going.{bases_of}
 use Rattle.workers.specs.Shared.{StandsBehind, shared_state}
+use Rattle.workers.proofs.GoingLemmas.{keep_opening}
 use Rattle.workers.proofs.Standing.{stands_at_first}
 use Rattle.workers.proofs.shared.SharedRegister.new.Goals as goal
+
+pub invariant_of-result : goal.invariant_of-result
+invariant_of-result c = keep_opening c.args.loaded 0 16 c.in_ok-node.node.shards c.in_ok-node.ensures.begins.shards_are
 
 pub returns : goal.returns
 returns c =
@@ -13,7 +18,7 @@ returns c =
     record {
       begins = subst (λ (p : List Job × List Receipt). StandsBehind
           (opening (records_of c.args.loaded.records) (directory_of c.args.loaded.directory) c.args.loaded.hlr) [] []
-          (shared_state c.in_ok-office.office p.0 p.1))
+          (shared_state (bases_of c.in_ok-node.node.shards) p.0 p.1))
           (λ i. ((sym no_jobs) i, (sym no_receipts) i))
-          (stands_at_first c.args.loaded c.in_ok-office.office c.in_ok-office.ensures.begins c.in_ok-office.ensures.one_register);
+          (stands_at_first c.args.loaded c.in_ok-node.node c.in_ok-node.ensures.begins c.in_ok-node.ensures.keeps);
     }

@@ -1,5 +1,0 @@
-use Rattle.std.proofs.Common.{◌≡◌}
-use Rattle.workers.proofs.office.Office.handle_free.Given as goal
-
-abbrev pub invariant-tasks : goal.invariant-tasks
-invariant-tasks g l = l.tasks ≡ l.fn.tasks

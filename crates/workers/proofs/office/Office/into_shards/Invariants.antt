@@ -1,6 +1,0 @@
-use Rattle.std.proofs.Common.{◌≡◌, ◌+◌, vec_len}
-use Rattle.std.specs.Vec.Iter.{into_iter_len}
-use Rattle.workers.proofs.office.Office.into_shards.Given as goal
-
-abbrev pub invariant-loop-lock : goal.invariant-loop-lock
-invariant-loop-lock l = (vec_len l.shards + into_iter_len l.lock-iterator ≡ 16) × (vec_len l.bases ≡ 16)
