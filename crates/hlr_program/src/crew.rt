@@ -110,8 +110,7 @@ impl Crew {
         Ok(())
     }
 
-    /// Handles the events that are gathered, and appends the lines of what they send, event by event in order. The next part has as large
-    /// a buffer.
+    /// Handles the events that are gathered, and appends the lines of what they send, event by event in order.
     pub fn run<R: Threads + Wait + Sync>(
         &mut self,
         rt: &R,
@@ -125,10 +124,8 @@ impl Crew {
         if self.part.is_empty() {
             return Ok(());
         }
-        let next = Vec::with_capacity(self.alloc, self.part.capacity())?;
-        let part = mem::replace(&mut self.part, next);
-        let count = part.len();
-        self.register.run_part(rt, self.workers, part)?;
+        let count = self.part.len();
+        self.register.run_part(rt, self.workers, &mut self.part)?;
         answers.push_receipts(self.register.last_receipts(count))?;
         Ok(())
     }

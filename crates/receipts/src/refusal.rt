@@ -40,13 +40,14 @@ impl From<ShardFault> for Refusal {
     }
 }
 
-impl From<EventFault> for Refusal {
+impl Refusal {
     ghost use Rattle.std.specs.Prelude.{◌≡◌};
     ghost use Rattle.receipts.specs.Refusals.{unread};
 
-    ghost from_gives = { λ fault refusal. refusal ≡ unread fault };
-
-    fn from(fault: EventFault) -> Refusal {
+    /// Why the job has no entry whose event was not read.
+    pub fn of_unread(fault: &EventFault) -> Refusal
+        ensures { result ≡ unread fault.now }
+    {
         match fault {
             EventFault::Memory => Refusal::Memory,
             EventFault::ResetRefused(_) => Refusal::ResetRefused,

@@ -9,3 +9,4 @@ pub mod Orders
 pub mod Standing
 pub mod Stops
 pub mod Alone
+pub mod NumberingLemmas

@@ -132,6 +132,13 @@ pub record AreSettled (bases : List ShardState) (jobs : List Job) (receipts : Li
 abbrev pub CountsFrom : ℕ → List ℕ → Type 0
 CountsFrom first ns = (k : ℕ) → k < length ns → slice_index ns k ≡ first + k
 
+-- Jobs with these events are appended, numbered from the first on.
+pub record AddsJobs (first : ℕ) (events : List RawEvent) (before after : List Job) : Type 0 where
+  pub jobs : List Job
+  pub after_is : after ≡ before ++ jobs
+  pub numbers : CountsFrom first (numbers_of_jobs jobs)
+  pub events_are : events_of_jobs jobs ≡ events
+
 -- the position after an entry, if a journal may have one there; else 0
 abbrev pub end_at : Option Place → ℕ
 end_at None = 0

@@ -1,33 +1,27 @@
 //! A job in its shard, once the event is read.
 
 ghost use Rattle.std.specs.Prelude.{◌≡◌, ◌<◌, IfOk, IfSome, OnErr};
-ghost use Rattle.frames.specs.Octets.{IsEvent};
 ghost use Rattle.hlrcore.specs.Addressees.{IsAddressee};
-ghost use Rattle.hlrcore.specs.Events.{event_of, raw_event, raw_of};
+ghost use Rattle.hlrcore.specs.Events.{event_of, raw_of};
 ghost use Rattle.hlrcore.specs.Shards.{directory_of};
 ghost use Rattle.shardlog.specs.Log.{LogKeeps};
 ghost use Rattle.workers.specs.Answered.{IsAnswered};
 ghost use Rattle.workers.specs.Going.{HasGoneOn};
 ghost use Rattle.receipts.specs.Receipts.{IsPlaced, place_of};
+ghost use Rattle.receipts.specs.Refusals.{unread};
 
 use bumpalo::Bump;
-use hlrcore::{Addressee, Event, RawEvent, ShardNumber};
+use hlrcore::{Addressee, Event, EventFault, ShardNumber};
 use receipts::{Placed, Refusal};
 use shardlog::Shard;
 use std::alloc::Global;
 
-/// Reads an event in a worker's arena. If that fails, or the arena cannot be reset, the worker gets a new arena.
-pub(crate) fn read(alloc: Global, bump: &mut Bump, raw: &RawEvent) -> Result<Event, Refusal>
-    ensures same { IfOk result (λ event. raw_of event ≡ raw_event raw.now) }
-    ensures read { IfOk result (λ event. IsEvent (raw_event raw.now) (event_of event)) }
+/// Why a job has no entry whose event was not read. The arena's contents are unspecified then: the worker gets a new one.
+pub(crate) fn unread(alloc: Global, bump: &mut Bump, fault: &EventFault) -> Refusal
+    ensures { result ≡ unread fault.now }
 {
-    match Event::of(alloc, bump, raw) {
-        Ok(event) => Ok(event),
-        Err(fault) => {
-            *bump = Bump::new(alloc);
-            Err(Refusal::from(fault))
-        }
-    }
+    *bump = Bump::new(alloc);
+    Refusal::of_unread(fault)
 }
 
 /// Handles an event, of which it is known whom it is for, in its shard. Its entry takes its octets, and the receipt says where the entry stands.

@@ -5,12 +5,12 @@ ghost use Rattle.std.specs.List.Sorted.{IsPermutation};
 ghost use Rattle.wholenode.specs.Keeping.{AreShards, NodeKeeps};
 ghost use Rattle.workers.specs.Going.{HaveGoneOn};
 
-use crate::apply::{apply, read};
+use crate::apply::{apply, unread};
 use crate::batch::BatchDone;
 use crate::gate::Gate;
 use bumpalo::Bump;
-use hlrcore::addressee_of;
-use receipts::{Job, Placed, Receipt, Refusal};
+use hlrcore::{Event, addressee_of};
+use receipts::{Job, JobNumber, Placed, Receipt, Refusal};
 use records::Directory;
 use shardlog::Shard;
 use std::alloc::{AllocError, Global};
@@ -78,9 +78,28 @@ fn answer_one<G: Gate>(
     ensures are { AreShards directory.now shards.new }
     ensures gone_on { HaveGoneOn shards.old shards.new }
 {
-    let mut event = read(alloc, bump, &job.event)?;
-    let found = addressee_of(directory, &event);
+    // What is read stays where it is made, since it is as large as whatever a frame may hold.
+    let mut read = Event::of(alloc, bump, &job.event);
+    match &mut read {
+        Ok(event) => handle_one(directory, shards, job.number, event, gate),
+        Err(fault) => Err(unread(alloc, bump, fault)),
+    }
+}
+
+/// Handles an event in its shard.
+fn handle_one<G: Gate>(
+    directory: &Directory,
+    shards: &mut [Shard],
+    job: JobNumber,
+    event: &mut Event,
+    gate: &G,
+) -> Result<Placed, Refusal>
+    requires { AreShards directory.now shards.old }
+    ensures are { AreShards directory.now shards.new }
+    ensures gone_on { HaveGoneOn shards.old shards.new }
+{
+    let found = addressee_of(directory, event);
     let shard = &mut shards[usize::from(found.shard)];
-    gate.inside(job.number.get());
-    apply(shard, &mut event, found)
+    gate.inside(job.get());
+    apply(shard, event, found)
 }

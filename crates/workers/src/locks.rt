@@ -3,14 +3,12 @@
 ghost use Rattle.std.specs.Prelude.{◌≡◌, ◌≤◌, [], vec_capacity, IfErr, IfOk};
 ghost use Rattle.wholenode.specs.Nodes.{NodeState};
 
-use crate::apply::apply;
 use crate::gate::Gate;
 use crate::locked::{Locked, Naming};
 use crate::swapped::Swapped;
-use crate::task::{Stage, Task};
+use crate::task::Task;
 use bumpalo::Bump;
-use hlrcore::{Addressee, Event};
-use receipts::{Job, JobNumber, Placed, Receipt, Refusal};
+use receipts::{Job, Receipt};
 use records::Directory;
 use shardlog::Shard;
 use std::alloc::{AllocError, Global};
@@ -58,13 +56,9 @@ fn buffers<J: Naming>(alloc: Global) -> Result<(Vec<Mutex<Locked<J>>>, Vec<Shard
 impl<J: Naming> Locks<J> {
     ghost use Rattle.std.specs.Prelude.{◌≡◌, ◌<◌, length, slice_index_or, IfOk, IfErr, IfSome, Err};
     ghost use Rattle.frames.specs.Account.{Job};
-    ghost use Rattle.hlrcore.specs.Addressees.{IsAddressee};
-    ghost use Rattle.hlrcore.specs.Events.{event_of, raw_of};
-    ghost use Rattle.hlrcore.specs.Shards.{directory_of};
     ghost use Rattle.wholenode.specs.Keeping.{NodeKeeps};
     ghost use Rattle.workers.specs.Answered.{IsAnswered};
     ghost use Rattle.workers.specs.Going.{HaveGoneOn};
-    ghost use Rattle.receipts.specs.Receipts.{place_of};
 
     /// Puts the shards of a register behind locks. On error the register is returned.
     pub(crate) fn of_node(alloc: Global, node: Node) -> Result<Locks<J>, (Node, AllocError)>
@@ -152,8 +146,8 @@ impl<J: Naming> Locks<J> {
         }
     }
 
-    /// Makes the receipt of the task at this place of a lot. If it has no answer yet, its event is handled in its shard, and with it the
-    /// later tasks that are for this shard.
+    /// Makes the receipt of the task at this place of a lot. If it has no answer yet, it is handled in its shard first, and with it the later
+    /// tasks that are for this shard, under one lock.
     pub(crate) fn answer<R: Wait, G: Gate>(
         &self,
         rt: &R,
@@ -168,39 +162,11 @@ impl<J: Naming> Locks<J> {
         ensures place { (d : Job) → IfSome result.place
             (IsAnswered (slice_index_or tasks.old place d).event) }
     {
-        let job = tasks[place].number();
-        let answer = match tasks[place].take_stage() {
-            Stage::Answered(answer) => answer,
-            Stage::Read(found, event) => {
-                self.enter(rt, job, found, event, tasks, place + 1, gate)
-            }
-        };
-        tasks[place].receipt(answer)
-    }
-
-    /// Handles an event in its shard, and after it the tasks from a place on that are for this shard, under one lock.
-    fn enter<R: Wait, G: Gate>(
-        &self,
-        rt: &R,
-        job: JobNumber,
-        found: Addressee,
-        event: Event,
-        tasks: &mut [Task<J>],
-        from: usize,
-        gate: &G,
-    ) -> Result<Placed, Refusal>
-        requires small { found.shard < 16 }
-        requires found { IsAddressee (directory_of J.began.directory) (event_of event) found }
-        ensures place { IfSome (place_of result) (IsAnswered (raw_of event)) }
-        ensures same { tasks.new ≡ tasks.old }
-    {
-        let mut event = event;
-        let number = found.shard;
-        let mut guard = self.locks[usize::from(number)].lock(rt);
-        gate.inside(job.get());
-        let answer = guard.apply(&mut event, found);
-        handle_from(&mut guard, number, tasks, from, gate);
-        answer
+        if let Some(number) = tasks[place].waits_for() {
+            let mut guard = self.locks[usize::from(number)].lock(rt);
+            handle_from(&mut guard, number, tasks, place, gate);
+        }
+        tasks[place].take_receipt()
     }
 }
 

@@ -1,34 +1,34 @@
 //! A part of a batch: its events under numbers, and what is sent for them.
 
-ghost use Rattle.std.specs.Prelude.{◌≡◌, map, max, fold, Contains, IfOk, IfSome, None};
+ghost use Rattle.std.specs.Prelude.{◌≡◌, [], map, max, fold, Contains, IfSome, None, OnOk};
 ghost use Rattle.frames.specs.Account.{Receipt};
 ghost use Rattle.hlrcore.specs.Events.{raw_event};
-ghost use Rattle.workers.specs.Shared.{CountsFrom, end_at, events_of_jobs, numbers_of_jobs};
+ghost use Rattle.workers.specs.Shared.{AddsJobs, end_at};
 ghost use Rattle.workers.specs.SharedFaults.{fault_in};
 
 use crate::shared_fault::SharedFault;
 use hlrcore::RawEvent;
 use machine::numbers::MAX_ENTRIES;
 use receipts::{Job, JobNumber, Placed, Receipt, Refusal};
-use std::alloc::Global;
 
-/// The events as jobs, numbered from `first` on.
+/// Appends the events as jobs, numbered from `first` on.
+#[tactic(auto, using(crate::proofs::NumberingLemmas::adds_none))]
 pub(crate) fn number_jobs(
-    alloc: Global,
     first: u64,
-    events: Vec<RawEvent>,
-) -> Result<Vec<Job>, SharedFault>
-    ensures numbers { IfOk result (λ jobs. CountsFrom first (numbers_of_jobs jobs.items)) }
-    ensures events { IfOk result (λ jobs. events_of_jobs jobs.items ≡ map raw_event events.items) }
+    events: &mut Vec<RawEvent>,
+    jobs: &mut Vec<Job>,
+) -> Result<(), SharedFault>
+    ensures adds { OnOk result (AddsJobs first (map raw_event events.old.items) jobs.old.items
+        jobs.new.items) }
+    ensures emptied { events.new.items ≡ [] }
 {
-    let mut jobs = Vec::with_capacity(alloc, events.len())?;
     let mut next = first;
-    for event in events {
+    for event in events.drain(..) {
         let number = JobNumber::new(next).ok_or(SharedFault::Memory)?;
         jobs.push(Job { number, event })?;
         next = next.checked_add(1).ok_or(SharedFault::Memory)?;
     }
-    Ok(jobs)
+    Ok(())
 }
 
 /// The fault that stops a part, if this is the answer to one of its jobs.

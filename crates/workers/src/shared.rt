@@ -52,7 +52,7 @@ impl Model for SharedRegister {
 }
 
 impl SharedRegister {
-    ghost use Rattle.std.specs.Prelude.{◌≡◌, ◌≤◌, ◌-◌, ◌++◌, [], List, drop, length, map, IfOk, OnOk};
+    ghost use Rattle.std.specs.Prelude.{◌≡◌, ◌≤◌, ◌-◌, ◌++◌, [], ℕ, List, drop, length, map, IfOk, OnOk};
     ghost use Rattle.std.specs.List.Sorted.{IsPermutation, IsStrictlyIncreasing};
     ghost use Rattle.receipts.specs.Numbers.{AreApart};
     ghost use Rattle.frames.specs.Octets as octets;
@@ -62,7 +62,7 @@ impl SharedRegister {
     ghost use Rattle.machine.specs.State.{State};
     ghost use Rattle.hlrcore.specs.Shards.{directory_of, records_of};
     ghost use Rattle.frames.specs.Account as account;
-    ghost use Rattle.workers.specs.Shared.{AreLast, GoesOn, HandsOut, StandsBehind, events_of_jobs, jobs_of_receipts, numbers_of_jobs, sent_for, shared_state};
+    ghost use Rattle.workers.specs.Shared.{AddsJobs, AreLast, GoesOn, HandsOut, StandsBehind, jobs_of_receipts, numbers_of_jobs, sent_for, shared_state};
 
     /// The register of a records file: its records, no open dialogue, and no job. On error the loaded value is dropped.
     pub fn new(alloc: Global, loaded: Loaded) -> Result<SharedRegister, AllocError>
@@ -82,7 +82,7 @@ impl SharedRegister {
         })
     }
 
-    /// Has 1 to 16 workers handle a part of a batch: at most one for each 32 events, since it takes as long to start a thread, and at least one.
+    /// Has 1 to 16 workers handle a part of a batch, whose events are taken out of this list: at most one for each 32 events, since it takes as long to start a thread, and at least one.
     /// `last_receipts` has what it sends.
     ///
     /// If by the receipts some journal has no room for that many more entries, all journals are cut first, once jobs and receipts
@@ -94,18 +94,20 @@ impl SharedRegister {
         &mut self,
         rt: &R,
         workers: usize,
-        part: Vec<RawEvent>,
+        part: &mut Vec<RawEvent>,
     ) -> Result<(), SharedFault>
         requires workers { (1 ≤ workers) × (workers ≤ 16) }
-        requires few { length part.items ≤ MAX_ENTRIES }
+        requires few { length part.old.items ≤ MAX_ENTRIES }
         ensures handles { OnOk result ((receipts : List account.Receipt)
-            × GoesOn self.old (map raw_event part.items) (sent_for receipts) self.new
+            × GoesOn self.old (map raw_event part.old.items) (sent_for receipts) self.new
             × AreLast receipts self.new) }
+        ensures emptied { OnOk result (part.new.items ≡ []) }
     {
         self.make_room(rt, workers, part.len())?;
-        let jobs = self.number(part)?;
-        let receipts = self.handle(rt, workers, &jobs)?;
-        self.keep(jobs, receipts)?;
+        let from = self.jobs.len();
+        self.number(part)?;
+        let receipts = self.handle(rt, workers, from)?;
+        self.keep(receipts)?;
         Ok(())
     }
 
@@ -177,74 +179,76 @@ impl SharedRegister {
         Ok(())
     }
 
-    /// The events as jobs, with the next numbers.
-    fn number(&mut self, part: Vec<RawEvent>) -> Result<Vec<Job>, SharedFault>
-        ensures same { self.new ≡ self.old }
-        ensures rising { IfOk result (λ jobs. IsStrictlyIncreasing (numbers_of_jobs jobs.items)) }
-        ensures events { IfOk result (λ jobs. events_of_jobs jobs.items
-            ≡ map raw_event part.items) }
+    /// Appends the events as jobs, with the next numbers.
+    fn number(&mut self, part: &mut Vec<RawEvent>) -> Result<(), SharedFault>
+        ensures adds { OnOk result ((first : ℕ) × AddsJobs first (map raw_event part.old.items)
+            self.old.jobs self.new.jobs) }
+        ensures same { OnOk result (self.new
+            ≡ shared_state self.old.bases self.new.jobs self.old.receipts) }
+        ensures emptied { OnOk result (part.new.items ≡ []) }
     {
         let first = self.next;
         let Some(next) = first.checked_add(part.len() as u64) else {
             return Err(SharedFault::Memory);
         };
         self.next = next;
-        number_jobs(self.alloc, first, part)
+        number_jobs(first, part, &mut self.jobs)
     }
 
-    /// Has workers handle the jobs. There is one receipt for each job, in the order of the jobs.
+    /// Has workers handle the jobs from a place on. There is one receipt for each, in their order.
     fn handle<R: Threads + Wait + Sync>(
         &mut self,
         rt: &R,
         workers: usize,
-        jobs: &[Job],
+        from: usize,
     ) -> Result<Vec<Receipt>, SharedFault>
         requires workers { (1 ≤ workers) × (workers ≤ 16) }
-        requires rising { IsStrictlyIncreasing (numbers_of_jobs jobs.now) }
+        requires from { from ≤ length self.old.jobs }
+        requires rising { IsStrictlyIncreasing (numbers_of_jobs (drop from self.old.jobs)) }
         ensures same { OnOk result (self.new ≡ self.old) }
         ensures pairs { IfOk result (λ receipts. jobs_of_receipts receipts.items
-            ≡ numbers_of_jobs jobs.now) }
+            ≡ numbers_of_jobs (drop from self.old.jobs)) }
     {
-        let receipts = self.run_jobs(rt, paying_crew(jobs.len(), workers), jobs)?;
+        let crew = paying_crew(self.jobs.len() - from, workers);
+        let receipts = self.run_jobs(rt, crew, from)?;
         match first_fault(&receipts) {
             Some(fault) => Err(fault),
             None => Ok(receipts),
         }
     }
 
-    /// The receipts of the jobs, which so many workers handle.
+    /// The receipts of the jobs from a place on, which so many workers handle.
     fn run_jobs<R: Threads + Wait + Sync>(
         &mut self,
         rt: &R,
         workers: usize,
-        jobs: &[Job],
+        from: usize,
     ) -> Result<Vec<Receipt>, SharedFault>
         requires workers { (1 ≤ workers) × (workers ≤ 16) }
-        requires distinct { AreApart (numbers_of_jobs jobs.now) }
+        requires from { from ≤ length self.old.jobs }
+        requires distinct { AreApart (numbers_of_jobs (drop from self.old.jobs)) }
         ensures same { OnOk result (self.new ≡ self.old) }
-        ensures one_each { IfOk result (λ receipts. IsPermutation (numbers_of_jobs jobs.now)
-            (jobs_of_receipts receipts.items)) }
+        ensures one_each { IfOk result (λ receipts. IsPermutation
+            (numbers_of_jobs (drop from self.old.jobs)) (jobs_of_receipts receipts.items)) }
         ensures rising { IfOk result (λ receipts. IsStrictlyIncreasing
             (jobs_of_receipts receipts.items)) }
     {
         let Some(node) = self.node.take() else {
             return Err(SharedFault::Unaccounted(0));
         };
-        let bump = &mut self.bump;
+        let (bump, jobs) = (&mut self.bump, &self.jobs[from..]);
         let done = run_batch(rt, self.alloc, bump, node, jobs, &OpenGate, workers)?;
         self.node = Some(done.node);
         Ok(done.receipts?)
     }
 
-    /// Appends the jobs and their receipts to those since the last cut.
-    fn keep(&mut self, jobs: Vec<Job>, receipts: Vec<Receipt>) -> Result<(), AllocError>
-        ensures { OnOk result (self.new ≡ shared_state self.old.bases (self.old.jobs ++ jobs.items)
+    /// Appends the receipts to those since the last cut.
+    fn keep(&mut self, receipts: Vec<Receipt>) -> Result<(), AllocError>
+        ensures { OnOk result (self.new ≡ shared_state self.old.bases self.old.jobs
             (self.old.receipts ++ receipts.items)) }
     {
-        let mut jobs = jobs;
         let mut receipts = receipts;
         self.longest = longest_with(self.longest, &receipts);
-        self.jobs.append(&mut jobs)?;
         self.receipts.append(&mut receipts)?;
         Ok(())
     }

@@ -1,6 +1,6 @@
 //! A job that a worker has taken, as far as it is handled.
 
-use crate::apply::read;
+use crate::apply::unread;
 use crate::gate::Gate;
 use crate::locked::{Locked, Naming};
 use bumpalo::Bump;
@@ -58,12 +58,12 @@ impl<'a, J: Naming> Task<'a, J> {
         requires { directory.now ≡ J.began.directory }
         ensures { result ≡ job.now }
     {
-        let stage = match read(alloc, bump, &job.event) {
+        let stage = match Event::of(alloc, bump, &job.event) {
             Ok(event) => {
                 let found = addressee_of(directory, &event);
                 Stage::Read(found, event)
             }
-            Err(refusal) => Stage::Answered(Err(refusal)),
+            Err(fault) => Stage::Answered(Err(unread(alloc, bump, &fault))),
         };
         Task {
             job,
@@ -108,20 +108,17 @@ impl<'a, J: Naming> Task<'a, J> {
         job.number
     }
 
-    /// Takes out how far the job is handled. What is left has a refusal, and is not looked at again.
-    pub(crate) fn take_stage(&mut self) -> Stage
+    /// The receipt of the job, with its answer, which is taken out: `NotMine` if it has none.
+    pub(crate) fn take_receipt(&mut self) -> Receipt
         ensures same { self.new ≡ self.old }
-        ensures of { IsOf J.began.directory self.old.event result }
+        ensures job { result.job ≡ self.old.number }
+        // A receipt with a place is for an event that some shard handled.
+        ensures place { IfSome result.place (IsAnswered self.old.event) }
     {
-        mem::replace(&mut self.stage, Stage::Answered(Err(Refusal::NotMine)))
-    }
-
-    /// The receipt of the job, with this answer.
-    pub(crate) fn receipt(&self, answer: Result<Placed, Refusal>) -> Receipt
-        requires { IfSome (place_of answer) (IsAnswered self.now.event) }
-        ensures job { result.job ≡ self.now.number }
-        ensures place { IfSome result.place (IsAnswered self.now.event) }
-    {
+        let answer = match &mut self.stage {
+            Stage::Answered(answer) => mem::replace(answer, Err(Refusal::NotMine)),
+            Stage::Read(..) => Err(Refusal::NotMine),
+        };
         Receipt {
             job: self.number(),
             answer,

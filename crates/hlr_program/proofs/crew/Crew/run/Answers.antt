@@ -17,13 +17,11 @@ returns-clause-adds g c =
     let register = c.self.inside.register in let after = c.run_part.new.self in
     let raws : List RawEvent = map raw_event c.self.inside.part.items in
     let receipts = c.in_ok-run_part.ensures.handles.0 in
-    let part : c.replace-part.result.items ≡ c.self.inside.part.items = search rules in
-    let ran : GoesOn register raws (sent_for receipts) after =
-    subst (λ (events : List RawEvent). GoesOn register events (sent_for receipts) after) (ap (map raw_event) part) c.in_ok-run_part.ensures.handles.1 in
-    let none : map raw_event c.replace-part.new.dest.items ≡ [] = search rules in
+    let ran : GoesOn register raws (sent_for receipts) after = c.in_ok-run_part.ensures.handles.1 in
+    let none : map raw_event c.run_part.new.part.items ≡ [] = ap (map raw_event) c.in_ok-run_part.ensures.emptied in
     let long : c.len-count.result ≡ length c.self.inside.part.items = search rules in
     let count : c.len-count.result ≡ length raws = long ∙ sym (length-map c.self.inside.part.items raw_event) in
-    part_adds c.args.self.now register after raws (map raw_event c.replace-part.new.dest.items) receipts c.last_receipts.result.now c.args.answers.now
+    part_adds c.args.self.now register after raws (map raw_event c.run_part.new.part.items) receipts c.last_receipts.result.now c.args.answers.now
     c.push_receipts.new.self c.self.view_is ran none
     (last_are after receipts c.len-count.result c.last_receipts.result.now c.in_ok-run_part.ensures.handles.2
     (one_receipt_each register after raws receipts c.len-count.result ran count) c.last_receipts.ensures)

@@ -6,13 +6,13 @@ use Rattle.hlrcore.specs.Events.{event_of}
 use Rattle.hlrcore.specs.Shards.{directory_of}
 use Rattle.wholenode.proofs.WholeLemmas.{replaced}
 use Rattle.workers.proofs.GoingLemmas.{on_at, still}
-use Rattle.workers.proofs.caller.answer_one.Goals as goal
+use Rattle.workers.proofs.caller.handle_one.Goals as goal
 
 pub apply-requires : goal.apply-requires
 apply-requires g c =
     let low : c.from.result < length c.args.shards.now = search rules in
     let at = slice_get-get_or c.args.shards.now c.from.result c.index-shards-from.result low in
-    subst (λ (d : DirectoryMap). IsAddressee (directory_of d) (event_of c.in_ok-event.event) c.addressee_of-found.result)
+    subst (λ (d : DirectoryMap). IsAddressee (directory_of d) (event_of c.args.event.now) c.addressee_of-found.result)
     (sym (c.requires.each c.from.result _ at).state_is.directory_is) c.addressee_of-found.ensures.found
 
 pub returns-clause-are : goal.returns-clause-are
