@@ -12,7 +12,7 @@ use std::sync::Wait;
 use std::thread::Threads;
 use std::time::Instant;
 use wholenode::{Keep, Node};
-use workers::{Job, JobNumber, Office, OpenGate, Receipt, numbers_rise, reconcile, run_batch};
+use workers::{BatchDone, Job, JobNumber, OpenGate, numbers_rise, reconcile, run_batch};
 
 /// A subscriber of each shard, all with one serving register.
 const RECORDS: &[u8] = b"HLR1 447700900100
@@ -109,17 +109,18 @@ fn time_node(rt: &HostRuntime, count: u64) -> Result<()> {
 fn run<R: Threads + Wait + Sync>(
     threads: &R,
     alloc: Global,
-    office: &Office,
+    node: Node,
     jobs: &[Job],
     workers: usize,
-) -> Result<Vec<Receipt>> {
+) -> Result<BatchDone> {
     if workers == 0 || workers > 16 {
         bail!("workers");
     }
     if !numbers_rise(jobs) {
         bail!("numbers");
     }
-    Ok(run_batch(threads, alloc, office, jobs, &OpenGate, workers)?)
+    let bump = &mut Bump::new(alloc);
+    Ok(run_batch(threads, alloc, bump, node, jobs, &OpenGate, workers)?)
 }
 
 fn time_workers<R: Threads + Wait + Sync>(
@@ -129,15 +130,15 @@ fn time_workers<R: Threads + Wait + Sync>(
     workers: usize,
 ) -> Result<()> {
     let alloc = rt.alloc();
-    let office = Office::new(alloc, loaded(alloc)?)?;
+    let node = Node::new(alloc, loaded(alloc)?, Keep::Entries, 0)?;
     let jobs = jobs(alloc, count)?;
     let start = Instant::now(rt)?;
-    let receipts = run(threads, alloc, &office, &jobs, workers)?;
+    let done = run(threads, alloc, node, &jobs, workers)?;
     println!(rt; "{workers} workers")?;
     tell(rt, "batch", &start, count)?;
-    let shards = office.into_shards().ok().context("shards")?;
+    let receipts = done.receipts?;
     let start = Instant::now(rt)?;
-    reconcile(threads, workers, &shards, &jobs, &receipts)
+    reconcile(threads, workers, done.node.shards(), &jobs, &receipts)
         .ok()
         .context("unaccounted")?;
     tell(rt, "reconcile", &start, count)

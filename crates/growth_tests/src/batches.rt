@@ -2,14 +2,15 @@
 
 use crate::given::{frame_from, is_shown, loaded};
 use crate::samples::{GATEWAY, ROUTE};
+use bumpalo::Bump;
 use hlrcore::{RawEvent, ShardNumber};
-use records::Loaded;
 use shardlog::Shard;
 use std::alloc::Global;
 use std::sync::Wait;
 use std::thread::Threads;
+use wholenode::{Keep, Node};
 use workers::{
-    Gate, Job, JobNumber, Office, Receipt, Refusal, Unaccounted, numbers_rise, reconcile, run_batch,
+    Gate, Job, JobNumber, Receipt, Refusal, Unaccounted, numbers_rise, reconcile, run_batch,
 };
 
 fn clock_value(now: u64) -> Option<RawEvent> {
@@ -78,11 +79,18 @@ impl Gate for Open {
     fn done(&self, _job: u64) {}
 }
 
+/// A register that workers share, and the arena of the caller's thread.
+#[derive(Drop)]
+pub(crate) struct Shared {
+    bump: Bump,
+    node: Option<Node>,
+}
+
 /// The receipts of a batch that so many workers share, `None` if it has none.
 pub(crate) fn run<R: Threads + Wait + Sync, G: Gate + Sync>(
     rt: &R,
     alloc: Global,
-    office: &Office,
+    shared: &mut Shared,
     jobs: &[Job],
     gate: &G,
     workers: usize,
@@ -93,7 +101,11 @@ pub(crate) fn run<R: Threads + Wait + Sync, G: Gate + Sync>(
     if !numbers_rise(jobs) {
         return None;
     }
-    run_batch(rt, alloc, office, jobs, gate, workers).ok()
+    let node = shared.node.take()?;
+    let bump = &mut shared.bump;
+    let done = run_batch(rt, alloc, bump, node, jobs, gate, workers).ok()?;
+    shared.node = Some(done.node);
+    done.receipts.ok()
 }
 
 /// Batches: how many, with how many jobs and workers each.
@@ -140,13 +152,13 @@ fn add_without(row: &mut Row, mut jobs: Vec<Job>, first: u64) -> Option<()> {
 fn share<R: Threads + Wait + Sync>(
     rt: &R,
     alloc: Global,
-    office: &Office,
+    shared: &mut Shared,
     row: &mut Row,
     first: u64,
     given: Batches,
 ) -> Option<()> {
     let jobs = jobs_from(alloc, first, given.jobs)?;
-    match run(rt, alloc, office, &jobs, &Open, given.workers) {
+    match run(rt, alloc, shared, &jobs, &Open, given.workers) {
         Some(receipts) => add(row, jobs, receipts),
         None => add_without(row, jobs, first),
     }
@@ -160,29 +172,31 @@ fn least_unaccounted<R: Threads + Sync>(rt: &R, shards: &[Shard], row: &Row) -> 
     }
 }
 
-fn office_of(alloc: Global, loaded: Loaded) -> Option<Office> {
-    Office::new(alloc, loaded).ok()
+/// The register of the records file.
+pub(crate) fn shared(alloc: Global) -> Option<Shared> {
+    let loaded = loaded(alloc)?;
+    let node = Node::new(alloc, loaded, Keep::Entries, 0).ok()?;
+    Some(Shared {
+        bump: Bump::new(alloc),
+        node: Some(node),
+    })
 }
 
-pub(crate) fn office(alloc: Global) -> Option<Office> {
-    office_of(alloc, loaded(alloc)?)
-}
-
-pub(crate) fn shards_of(office: Office) -> Option<Vec<Shard>> {
-    office.into_shards().ok()
+pub(crate) fn shards_of(shared: Shared) -> Option<Vec<Shard>> {
+    Some(shared.node?.into_shards())
 }
 
 /// Has workers share some batches.
 fn share_all<R: Threads + Wait + Sync>(
     rt: &R,
     alloc: Global,
-    office: &Office,
+    shared: &mut Shared,
     row: &mut Row,
     given: Batches,
 ) -> Option<()> {
     for batch in 0..given.count {
         let first = batch.saturating_mul(given.jobs).saturating_add(1);
-        share(rt, alloc, office, row, first, given)?;
+        share(rt, alloc, shared, row, first, given)?;
     }
     Some(())
 }
@@ -199,10 +213,10 @@ fn lose_one_at_most<R: Threads + Wait + Sync>(
     alloc: Global,
     given: Batches,
 ) -> Option<bool> {
-    let office = office(alloc)?;
+    let mut shared = shared(alloc)?;
     let mut row = new_row(alloc);
-    share_all(rt, alloc, &office, &mut row, given)?;
-    Some(is_accounted(rt, &shards_of(office)?, &row))
+    share_all(rt, alloc, &mut shared, &mut row, given)?;
+    Some(is_accounted(rt, &shards_of(shared)?, &row))
 }
 
 /// At most one job, or one batch, has no entry: the batches after it are unaffected. `reconcile` finds it. (A batch has twenty jobs

@@ -1,6 +1,6 @@
 //! An update that two workers share with routes, while memory is refused.
 
-use crate::batches::{Open, job, office, run, shards_of};
+use crate::batches::{Open, Shared, job, run, shards_of, shared};
 use crate::frame_samples::{INSERT, NO_ROUTE, OTHER_ROUTE, RESULT, ROUTED, UPDATED_AND_CANCEL};
 use crate::given::{are_frames, frame, is_shown};
 use crate::samples::{ROUTE, UPDATE};
@@ -8,7 +8,7 @@ use shardlog::Shard;
 use std::alloc::Global;
 use std::sync::Wait;
 use std::thread::Threads;
-use workers::{Job, Office, Receipt};
+use workers::{Job, Receipt};
 
 /// An update beside a route of another shard, the result of its insert, and the route of its subscriber.
 fn asked(number: u64) -> &'static [u8] {
@@ -40,14 +40,14 @@ fn jobs(alloc: Global, first: u64, last: u64) -> Option<Vec<Job>> {
 }
 
 /// The receipts of a batch of these jobs, `None` if it has none.
-fn shared<R: Threads + Wait + Sync>(
+fn receipts_of<R: Threads + Wait + Sync>(
     rt: &R,
     alloc: Global,
-    office: &Office,
+    shared: &mut Shared,
     first: u64,
     last: u64,
 ) -> Option<Vec<Receipt>> {
-    run(rt, alloc, office, &jobs(alloc, first, last)?, &Open, 2)
+    run(rt, alloc, shared, &jobs(alloc, first, last)?, &Open, 2)
 }
 
 /// Whether a job has its entry and sent what it has to, `None` if it was refused.
@@ -62,22 +62,22 @@ fn is_right(receipt: &Receipt) -> Option<bool> {
 fn is_right_alone<R: Threads + Wait + Sync>(
     rt: &R,
     alloc: Global,
-    office: &Office,
+    shared: &mut Shared,
     number: u64,
 ) -> Option<bool> {
-    is_right(shared(rt, alloc, office, number, number)?.first()?)
+    is_right(receipts_of(rt, alloc, shared, number, number)?.first()?)
 }
 
 /// Whether a job sends what it has to, at the second try if it is refused at the first.
 fn is_right_at_last<R: Threads + Wait + Sync>(
     rt: &R,
     alloc: Global,
-    office: &Office,
+    shared: &mut Shared,
     receipt: &Receipt,
 ) -> bool {
     match is_right(receipt) {
         Some(is_right) => is_right,
-        None => is_right_alone(rt, alloc, office, receipt.job.get()) == Some(true),
+        None => is_right_alone(rt, alloc, shared, receipt.job.get()) == Some(true),
     }
 }
 
@@ -85,12 +85,12 @@ fn is_right_at_last<R: Threads + Wait + Sync>(
 fn are_right<R: Threads + Wait + Sync>(
     rt: &R,
     alloc: Global,
-    office: &Office,
+    shared: &mut Shared,
     first: u64,
     last: u64,
 ) -> Option<bool> {
-    for receipt in &shared(rt, alloc, office, first, last)? {
-        if !is_right_at_last(rt, alloc, office, receipt) {
+    for receipt in &receipts_of(rt, alloc, shared, first, last)? {
+        if !is_right_at_last(rt, alloc, shared, receipt) {
             return Some(false);
         }
     }
@@ -108,18 +108,22 @@ fn count(shards: &[Shard]) -> usize {
 
 /// Whether all jobs of three batches send what they have to. `None` if a batch has no receipts: some of its jobs may have been
 /// handled.
-fn three_right<R: Threads + Wait + Sync>(rt: &R, alloc: Global, office: &Office) -> Option<bool> {
-    let update = are_right(rt, alloc, office, 1, 2)?;
-    let result = are_right(rt, alloc, office, 3, 3)?;
-    let route = are_right(rt, alloc, office, 4, 4)?;
+fn three_right<R: Threads + Wait + Sync>(
+    rt: &R,
+    alloc: Global,
+    shared: &mut Shared,
+) -> Option<bool> {
+    let update = are_right(rt, alloc, shared, 1, 2)?;
+    let result = are_right(rt, alloc, shared, 3, 3)?;
+    let route = are_right(rt, alloc, shared, 4, 4)?;
     Some(update && result && route)
 }
 
 /// Whether they do, and have an entry each.
 fn whole_row<R: Threads + Wait + Sync>(rt: &R, alloc: Global) -> Option<bool> {
-    let office = office(alloc)?;
-    let is_right = three_right(rt, alloc, &office)?;
-    Some(is_right && count(&shards_of(office)?) == 4)
+    let mut shared = shared(alloc)?;
+    let is_right = three_right(rt, alloc, &mut shared)?;
+    Some(is_right && count(&shards_of(shared)?) == 4)
 }
 
 #[test]

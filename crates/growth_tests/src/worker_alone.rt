@@ -1,13 +1,13 @@
 //! Batches of two workers, while memory is refused to the one that has a thread of its own, and not to the caller's.
 
-use crate::batches::{job, office, run, shards_of};
+use crate::batches::{Shared, job, run, shards_of, shared};
 use crate::given::is_shown;
 use hlrcore::{RawEvent, ShardNumber};
 use shardlog::Shard;
 use std::alloc::Global;
 use std::sync::Wait;
 use std::thread::{self, Threads};
-use workers::{Gate, Job, Office, Receipt};
+use workers::{Gate, Job, Receipt};
 
 /// How many batches there are.
 const BATCHES: u64 = 3;
@@ -69,11 +69,11 @@ fn count_handled(receipts: &[Receipt]) -> usize {
 fn share<R: Threads + Wait + Sync>(
     rt: &R,
     alloc: Global,
-    office: &Office,
+    shared: &mut Shared,
     first: u64,
 ) -> Option<Counts> {
     let jobs = two_jobs(alloc, first)?;
-    match run(rt, alloc, office, &jobs, &Held, 2) {
+    match run(rt, alloc, shared, &jobs, &Held, 2) {
         Some(receipts) => Some(Counts {
             handled: count_handled(&receipts),
             failed: 0,
@@ -85,14 +85,18 @@ fn share<R: Threads + Wait + Sync>(
     }
 }
 
-fn share_all<R: Threads + Wait + Sync>(rt: &R, alloc: Global, office: &Office) -> Option<Counts> {
+fn share_all<R: Threads + Wait + Sync>(
+    rt: &R,
+    alloc: Global,
+    shared: &mut Shared,
+) -> Option<Counts> {
     let mut counts = Counts {
         handled: 0,
         failed: 0,
     };
     for batch in 0..BATCHES {
         let first = batch.saturating_mul(2).saturating_add(1);
-        counts = and(counts, share(rt, alloc, office, first)?);
+        counts = and(counts, share(rt, alloc, shared, first)?);
     }
     Some(counts)
 }
@@ -111,9 +115,9 @@ fn is_untouched(counts: Counts, entries: usize) -> bool {
 }
 
 fn refused_worker<R: Threads + Wait + Sync>(rt: &R, alloc: Global) -> Option<bool> {
-    let office = office(alloc)?;
-    let counts = share_all(rt, alloc, &office)?;
-    Some(is_untouched(counts, count_entries(&shards_of(office)?)))
+    let mut shared = shared(alloc)?;
+    let counts = share_all(rt, alloc, &mut shared)?;
+    Some(is_untouched(counts, count_entries(&shards_of(shared)?)))
 }
 
 /// A batch has no receipts only because the worker with the thread had no memory for one. Then that worker has touched no shard: of the

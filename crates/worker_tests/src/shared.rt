@@ -29,9 +29,13 @@ fn take<R: Threads + Wait + Sync>(
     if part.len() > 65_536 {
         return Err(Fail::from("part"));
     }
+    let mut part = part;
     let count = part.len();
-    let taken = register.run_part(rt, workers, part);
+    let taken = register.run_part(rt, workers, &mut part);
     if taken.is_ok() {
+        if !part.is_empty() {
+            return Err(Fail::from("events are left"));
+        }
         for receipt in register.last_receipts(count) {
             if let Ok(placed) = &receipt.answer {
                 sent.push(placed.outs.try_share()?)?;
