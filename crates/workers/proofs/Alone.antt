@@ -1,5 +1,5 @@
 -- One worker alone.
-use Rattle.std.proofs.Common.{◌≡◌, ℕ, ◌+◌, ◌<◌, ◌++◌, List, [], ◌∷◌, length, get_or, map, take, drop, take-add, Result, Ok, Err, append_assoc, ap, sym, subst, ◌∙◌}
+use Rattle.std.proofs.Common.{◌≡◌, ℕ, ◌+◌, ◌<◌, ◌++◌, List, [], ◌∷◌, length, get_or, map, take, Result, Ok, Err, append_assoc, ap, sym, subst, ◌∙◌}
 use Rattle.std.specs.Prelude.{IfOk}
 use Rattle.std.specs.List.Sorted.{IsPermutation}
 use Rattle.std.proofs.lemmas.List.{map-append, take_more}
@@ -11,14 +11,6 @@ pub moved_alone : {V E : Type 0} (numbers : List ℕ) (answered : V → List ℕ
     → IfOk found (λ v. IsPermutation numbers (answered v))
 moved_alone numbers answered (Ok v) same = subst (IsPermutation numbers) (sym same) (IsPermutation-refl numbers)
 moved_alone numbers answered (Err e) same = tt
-
--- one lot more
-pub lot_more : (jobs : List Job) (from count : ℕ) (before after : List ℕ) → before ≡ map (λ j. j.number) (take from jobs)
-    → after ≡ before ++ map (λ j. j.number) (take count (drop from jobs)) → after ≡ map (λ j. j.number) (take (from + count) jobs)
-lot_more jobs from count before after so_far more =
-    more ∙ ap (λ (l : List ℕ). l ++ map (λ j. j.number) (take count (drop from jobs))) so_far
-    ∙ sym (map-append (λ (j : Job). j.number) (take from jobs) (take count (drop from jobs)))
-    ∙ ap (map (λ (j : Job). j.number)) (sym (take-add from count jobs))
 
 -- one receipt more
 pub receipt_more : (jobs : List Job) (i : ℕ) (d : Job) (number : ℕ) (first before after : List ℕ) → i < length jobs → number ≡ (get_or jobs i d).number

@@ -1,12 +1,12 @@
 -- Jobs are numbered, and handled.
-use Rattle.std.proofs.Common.{◌≡◌, ◌⊎◌, ℕ, zero, suc, ◌+◌, ◌<◌, ◌≤◌, List, [], ◌∷◌, ◌++◌, length, get_or, map, drop, append-nil, append_assoc, inl, inr, refl, sym, ap, subst, ◌∙◌, arith}
+use Rattle.std.proofs.Common.{◌≡◌, ◌⊎◌, ℕ, zero, suc, ◌+◌, ◌<◌, List, [], ◌∷◌, ◌++◌, length, get_or, drop, append-nil, append_assoc, inl, inr, refl, sym, ap, subst, ◌∙◌, arith}
 use Rattle.std.specs.Prelude.{OnOk, Ok, Err, Result}
 use Rattle.std.specs.List.Sorted.{IsStrictlyIncreasing}
 use Rattle.std.proofs.lemmas.List.{length-map, map-append}
 use Rattle.frames.specs.Account.{Job, Receipt}
 use Rattle.frames.specs.Octets.{RawEvent}
 use Rattle.receipts.specs.Jobs.{job_of}
-use Rattle.workers.specs.Shared.{AddsJobs, AreLast, CountsFrom, GoesOn, SharedState, events_of_jobs, jobs_of_receipts, numbers_of_jobs, sent_for, shared_state}
+use Rattle.workers.specs.Shared.{AddsJobs, AreLast, CountsFrom, GoesOn, SharedState, jobs_of_receipts, numbers_of_jobs, sent_for, shared_state}
 use Rattle.workers.proofs.Standing.{part_handled}
 
 at_snoc : (ns : List ℕ) (n k : ℕ) → k < length (ns ++ n ∷ [])

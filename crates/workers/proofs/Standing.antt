@@ -16,7 +16,7 @@ use Rattle.records.specs.Maps.{DirectoryMap}
 use Rattle.hlrcore.specs.Shards.{ShardState, directory_of, records_of, state_of}
 use Rattle.shardlog.specs.declared.keep.Keep.TheVariants.{Entries}
 use Rattle.shardlog.specs.Log.{Log, LogKeeps, cut_log}
-use Rattle.wholenode.specs.Keeping.{AreShards, AreStates, IsStateAt, NodeKeeps}
+use Rattle.wholenode.specs.Keeping.{AreShards, IsStateAt, NodeKeeps}
 use Rattle.wholenode.specs.Nodes.{NodeState, base_at, bases, state_at, whole, whole_base}
 use Rattle.wholenode.specs.Opening.{BeginsWith}
 use Rattle.workers.specs.Going.{bases_of}

@@ -214,13 +214,13 @@ pub struct BatchDone {
     pub receipts: Result<Vec<Receipt>, AllocError>,
 }
 
-/// Has 1 to 16 workers handle the jobs, but no more than there are jobs. The caller's thread is one of them, and a thread is started for
-/// each other. Meanwhile each shard is behind a lock of its own; one worker alone takes the jobs in their order, in this arena, with no lock. There is one
-/// receipt for each job, by ascending number. If a worker could not be started, or there is no memory for the locks, the channel or the
-/// receipts, there are none; all started workers have stopped then, and some jobs may have been handled. The register is returned either way,
-/// each shard as it has gone on.
+/// Has 1 to 16 workers handle the jobs, but no more than there are jobs. One of them is the caller's thread, and a thread is started for
+/// each other; meanwhile each shard is behind a lock of its own. One worker alone takes the jobs in order, with no lock, and reads them in
+/// this arena. There is one receipt for each job, by ascending number. If a worker could not be started, or there is no memory for the
+/// locks, the channel or the receipts, there are none, after all started workers have stopped: some jobs may then have been handled. The
+/// register is returned in any case, with its shards as they are by then.
 ///
-/// `Swapped` if a lock held another shard at the end than at the beginning; the register is gone then. It can be only with several workers.
+/// `Swapped` if a lock holds another shard at the end than at the beginning, which no contract excludes. The register is dropped then.
 ///
 /// Limitation: no contract says which worker takes a job, in which order the jobs of a batch reach their shard, or that the call
 /// returns. That a receipt has its entry is known only from `reconcile`.

@@ -1,8 +1,11 @@
 //! A batch that the caller's thread handles alone.
 
-ghost use Rattle.std.specs.Prelude.{◌≡◌, map, IfOk};
+ghost use Rattle.std.specs.Prelude.{◌≡◌, map, IfOk, IfSome};
 ghost use Rattle.std.specs.List.Sorted.{IsPermutation};
+ghost use Rattle.hlrcore.specs.Events.{raw_of};
+ghost use Rattle.receipts.specs.Receipts.{place_of};
 ghost use Rattle.wholenode.specs.Keeping.{AreShards, NodeKeeps};
+ghost use Rattle.workers.specs.Answered.{IsAnswered};
 ghost use Rattle.workers.specs.Going.{HaveGoneOn};
 
 use crate::apply::{apply, unread};
@@ -77,6 +80,7 @@ fn answer_one<G: Gate>(
     requires { AreShards directory.now shards.old }
     ensures are { AreShards directory.now shards.new }
     ensures gone_on { HaveGoneOn shards.old shards.new }
+    ensures place { IfSome (place_of result) (IsAnswered job.now.event) }
 {
     // What is read stays where it is made, since it is as large as whatever a frame may hold.
     let mut read = Event::of(alloc, bump, &job.event);
@@ -97,6 +101,7 @@ fn handle_one<G: Gate>(
     requires { AreShards directory.now shards.old }
     ensures are { AreShards directory.now shards.new }
     ensures gone_on { HaveGoneOn shards.old shards.new }
+    ensures place { IfSome (place_of result) (IsAnswered (raw_of event.old)) }
 {
     let found = addressee_of(directory, event);
     let shard = &mut shards[usize::from(found.shard)];

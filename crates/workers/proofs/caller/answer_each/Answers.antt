@@ -1,4 +1,4 @@
-use Rattle.std.proofs.Common.{[], ◌∷◌, ap, arith, length, map, sym, ◌∙◌}
+use Rattle.std.proofs.Common.{[], ap, arith, map, ◌∙◌}
 use Rattle.std.proofs.lemmas.List.{map-append}
 use Rattle.workers.proofs.Alone.{receipt_more}
 use Rattle.workers.proofs.GoingLemmas.{on_further}

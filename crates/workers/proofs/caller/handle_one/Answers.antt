@@ -1,4 +1,4 @@
-use Rattle.std.proofs.Common.{◌<◌, List, length, get_or, refl, rules, sym, subst, arith}
+use Rattle.std.proofs.Common.{◌<◌, length, refl, rules, sym, subst}
 use Rattle.std.proofs.lemmas.Option.{slice_get-get_or}
 use Rattle.records.specs.Maps.{DirectoryMap}
 use Rattle.hlrcore.specs.Addressees.{IsAddressee}

@@ -1,4 +1,4 @@
-use Rattle.std.proofs.Common.{◌≡◌, ◌+◌, ◌++◌, ◌∷◌, [], List, length, map, append-nil, append_assoc, length-append, arith, refl, rules, sym, ap, subst, ◌∙◌}
+use Rattle.std.proofs.Common.{◌≡◌, ◌+◌, ◌++◌, ◌∷◌, [], List, length, map, append-nil, append_assoc, length-append, arith, rules, sym, ap, subst, ◌∙◌}
 use Rattle.std.specs.Vec.Iter.{drain_items}
 use Rattle.std.proofs.lemmas.List.{length-map, map-append}
 use Rattle.frames.specs.Octets.{RawEvent as Raw}

@@ -1,4 +1,4 @@
-use Rattle.std.proofs.Common.{◌≡◌, drop, ap, rules, sym, subst, ◌∙◌}
+use Rattle.std.proofs.Common.{drop, ap, rules, sym, subst, ◌∙◌}
 use Rattle.wholenode.specs.Keeping.{AreShards}
 use Rattle.wholenode.specs.Nodes.{NodeState}
 use Rattle.workers.proofs.GoingLemmas.{first_left, stands_first}

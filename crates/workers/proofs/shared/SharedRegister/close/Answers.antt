@@ -1,5 +1,4 @@
-use Rattle.std.proofs.Common.{◌≡◌, List, rules, sym, subst}
-use Rattle.shardlog.specs.Log.{Log}
+use Rattle.std.proofs.Common.{◌≡◌, rules, sym, subst}
 use Rattle.workers.specs.Going.{bases_of}
 use Rattle.workers.specs.Shared.{AreSettled, shared_state}
 use Rattle.workers.proofs.Standing.{closes}
