@@ -173,7 +173,7 @@ fn least_unaccounted<R: Threads + Sync>(rt: &R, shards: &[Shard], row: &Row) -> 
 }
 
 /// The register of the records file.
-pub(crate) fn shared(alloc: Global) -> Option<Shared> {
+pub(crate) fn new_shared(alloc: Global) -> Option<Shared> {
     let loaded = loaded(alloc)?;
     let node = Node::new(alloc, loaded, Keep::Entries, 0).ok()?;
     Some(Shared {
@@ -213,7 +213,7 @@ fn lose_one_at_most<R: Threads + Wait + Sync>(
     alloc: Global,
     given: Batches,
 ) -> Option<bool> {
-    let mut shared = shared(alloc)?;
+    let mut shared = new_shared(alloc)?;
     let mut row = new_row(alloc);
     share_all(rt, alloc, &mut shared, &mut row, given)?;
     Some(is_accounted(rt, &shards_of(shared)?, &row))

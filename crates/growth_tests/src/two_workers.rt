@@ -1,6 +1,6 @@
 //! An update that two workers share with routes, while memory is refused.
 
-use crate::batches::{Open, Shared, job, run, shards_of, shared};
+use crate::batches::{Open, Shared, job, new_shared, run, shards_of};
 use crate::frame_samples::{INSERT, NO_ROUTE, OTHER_ROUTE, RESULT, ROUTED, UPDATED_AND_CANCEL};
 use crate::given::{are_frames, frame, is_shown};
 use crate::samples::{ROUTE, UPDATE};
@@ -121,7 +121,7 @@ fn three_right<R: Threads + Wait + Sync>(
 
 /// Whether they do, and have an entry each.
 fn whole_row<R: Threads + Wait + Sync>(rt: &R, alloc: Global) -> Option<bool> {
-    let mut shared = shared(alloc)?;
+    let mut shared = new_shared(alloc)?;
     let is_right = three_right(rt, alloc, &mut shared)?;
     Some(is_right && count(&shards_of(shared)?) == 4)
 }

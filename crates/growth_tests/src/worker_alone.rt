@@ -1,6 +1,6 @@
 //! Batches of two workers, while memory is refused to the one that has a thread of its own, and not to the caller's.
 
-use crate::batches::{Shared, job, run, shards_of, shared};
+use crate::batches::{Shared, job, new_shared, run, shards_of};
 use crate::given::is_shown;
 use hlrcore::{RawEvent, ShardNumber};
 use shardlog::Shard;
@@ -115,7 +115,7 @@ fn is_untouched(counts: Counts, entries: usize) -> bool {
 }
 
 fn refused_worker<R: Threads + Wait + Sync>(rt: &R, alloc: Global) -> Option<bool> {
-    let mut shared = shared(alloc)?;
+    let mut shared = new_shared(alloc)?;
     let counts = share_all(rt, alloc, &mut shared)?;
     Some(is_untouched(counts, count_entries(&shards_of(shared)?)))
 }

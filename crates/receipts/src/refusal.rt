@@ -7,7 +7,7 @@ use thiserror::Error;
 /// Why a job has no entry.
 #[derive(Clone, Copy, Debug, PartialEq, Eq, Drop, Error)]
 pub enum Refusal {
-    /// The shard behind the lock has another number, or another directory.
+    /// The shard behind the lock has another number.
     #[error("another shard is behind the lock")]
     NotMine,
     /// The journal of the shard is full: it has 65,536 entries.

@@ -1,7 +1,5 @@
 //! A shard behind a lock, of which something is known whoever had the lock before.
 
-ghost use Rattle.wholenode.specs.Nodes.{NodeState};
-
 use crate::apply::apply;
 use hlrcore::{Addressee, Event};
 use receipts::{Placed, Refusal};

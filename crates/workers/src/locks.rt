@@ -1,7 +1,6 @@
 //! The shards of a register behind locks.
 
-ghost use Rattle.std.specs.Prelude.{◌≡◌, ◌≤◌, [], vec_capacity, IfErr, IfOk};
-ghost use Rattle.wholenode.specs.Nodes.{NodeState};
+ghost use Rattle.std.specs.Prelude.{◌≡◌, ◌≤◌, [], vec_capacity, IfOk};
 
 use crate::gate::Gate;
 use crate::locked::{Locked, Naming};
@@ -54,7 +53,7 @@ fn buffers<J: Naming>(alloc: Global) -> Result<(Vec<Mutex<Locked<J>>>, Vec<Shard
 }
 
 impl<J: Naming> Locks<J> {
-    ghost use Rattle.std.specs.Prelude.{◌≡◌, ◌<◌, length, slice_index_or, IfOk, IfErr, IfSome, Err};
+    ghost use Rattle.std.specs.Prelude.{◌≡◌, ◌<◌, length, slice_index_or, IfOk, IfErr, IfSome};
     ghost use Rattle.frames.specs.Account.{Job};
     ghost use Rattle.wholenode.specs.Keeping.{NodeKeeps};
     ghost use Rattle.workers.specs.Answered.{IsAnswered};

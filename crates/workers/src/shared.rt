@@ -102,6 +102,7 @@ impl SharedRegister {
             × GoesOn self.old (map raw_event part.old.items) (sent_for receipts) self.new
             × AreLast receipts self.new) }
         ensures emptied { OnOk result (part.new.items ≡ []) }
+        ensures less { length part.new.items ≤ length part.old.items }
     {
         self.make_room(rt, workers, part.len())?;
         let from = self.jobs.len();
@@ -186,6 +187,7 @@ impl SharedRegister {
         ensures same { OnOk result (self.new
             ≡ shared_state self.old.bases self.new.jobs self.old.receipts) }
         ensures emptied { OnOk result (part.new.items ≡ []) }
+        ensures less { length part.new.items ≤ length part.old.items }
     {
         let first = self.next;
         let Some(next) = first.checked_add(part.len() as u64) else {
