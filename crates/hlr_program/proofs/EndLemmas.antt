@@ -27,6 +27,7 @@ use Rattle.hlr_program.specs.Printed.{WritesFront}
 use Rattle.hlr_program.specs.Promise.{Ends, EndsAlone, EndsWith, IsInput, RunsAndLists, RunsScript, StopsAtListing, StopsBatches, StopsRecords, StopsRunning, StopsScript, known_with}
 use Rattle.hlr_program.specs.Registers.{HandsOver, IsOf, OpensWith, RunsTo, part_of, state_known}
 use Rattle.hlr_program.specs.Runs.{AreOneRun, BatchRun, IsLoadedFrom, events_in, opening_of, printed_of, sent_in}
+use Rattle.hlr_program.specs.Sharing.{workers_for}
 use Rattle.hlr_program.specs.Stopping.{HandingOutStops}
 use Rattle.hlr_program.proofs.GatherLemmas.{stops_weaker}
 use Rattle.hlr_program.proofs.JournalLemmas.{opening_at_end}
@@ -74,37 +75,40 @@ ends_with listed loaded (suc more) (Shared start) (Alone end) batches shards of 
 ends_with listed loaded zero (Shared start) end batches shards of opens ran hands = absurd of
 ends_with listed loaded (suc more) (Alone start) end batches shards of opens ran hands = absurd of
 
-module _ (options : Options) (loaded : Subscribers) (start : Register) (of : IsOf options.workers start) (opens : OpensWith options.list loaded start)
-    (sound : Sound (opening_of loaded)) where
-  known_is : state_known start ≡ known_with options.workers (opening_of loaded)
-  known_is = known_opening options.list loaded options.workers start of opens
+module _ (options : Options) (loaded : Subscribers) (script : List ℕ) (start : Register) (workers : ℕ) (chosen : workers ≡ workers_for options.workers script)
+    (given : IsOf workers start) (opens : OpensWith options.list loaded start) (sound : Sound (opening_of loaded)) where
+  of : IsOf (workers_for options.workers script) start
+  of = subst (λ (n : ℕ). IsOf n start) chosen given
 
-  pub runs_and_lists : (script : List ℕ) (batches : List BatchRun) (end : Register) (shards : List Log) (closing : List ℕ) → RunsScript script start batches end
+  known_is : state_known start ≡ known_with (workers_for options.workers script) (opening_of loaded)
+  known_is = known_opening options.list loaded (workers_for options.workers script) start of opens
+
+  pub runs_and_lists : (batches : List BatchRun) (end : Register) (shards : List Log) (closing : List ℕ) → RunsScript script start batches end
       → HandsOver end shards
       → Closes options.list options.save shards closing → RunsAndLists options loaded script (printed_of batches ++ closing)
-  runs_and_lists script batches end shards closing ran hands closes = record {
+  runs_and_lists batches end shards closing ran hands closes = record {
     batches = batches;
     are_batches = ran.are_batches;
     begins_sound = sound;
     shards = shards;
-    ends = ends_with options.list loaded options.workers start end batches shards of opens ran.ran hands;
+    ends = ends_with options.list loaded (workers_for options.workers script) start end batches shards of opens ran.ran hands;
     closing = closing;
     closes = closes;
     printed_is = refl;
   }
 
-  pub script_stopped : (script : List ℕ) (fault : Fault) (old new : Option (List ℕ))
+  pub script_stopped : (fault : Fault) (old new : Option (List ℕ))
       → (printed : List ℕ) × StopsBatches script (state_known start) fault printed × Appends old new printed
       → (printed : List ℕ) × StopsRunning options loaded script fault printed × Appends old new printed
-  script_stopped script fault old new (printed, stops, appends) =
+  script_stopped fault old new (printed, stops, appends) =
       (printed, inr (inl (subst (λ (known : Option State). StopsBatches script known fault printed) known_is stops)), appends)
 
   -- the shards are not returned, or memory runs out for the listings
-  pub listing_stopped : (script : List ℕ) (fault : Fault) (old new : Option (List ℕ)) (batches : List BatchRun) (end : Register)
+  pub listing_stopped : (fault : Fault) (old new : Option (List ℕ)) (batches : List BatchRun) (end : Register)
       → HandingOutStops (state_known end) fault
       → RunsScript script start batches end → Appends old new (printed_of batches) → (printed : List ℕ) × StopsRunning options loaded script fault printed
       × Appends old new printed
-  listing_stopped script fault old new batches end cause ran appends = (
+  listing_stopped fault old new batches end cause ran appends = (
     printed_of batches,
     inr (inr (inl (subst (λ (known : Option State). StopsAtListing script known fault (printed_of batches)) known_is (record {
       cause = stops_weaker fault (λ none. none) (unknown_before start end (events_in batches) (sent_in batches) ran.ran) cause;
@@ -117,28 +121,28 @@ module _ (options : Options) (loaded : Subscribers) (start : Register) (of : IsO
     appends,
   )
 
-  pub listing_printed : (script : List ℕ) (old out new : Option (List ℕ)) (batches : List BatchRun) (end : Register) (shards : List Log)
+  pub listing_printed : (old out new : Option (List ℕ)) (batches : List BatchRun) (end : Register) (shards : List Log)
       (closing written : List ℕ)
       → RunsScript script start batches end → Appends old out (printed_of batches) → HandsOver end shards → Closes options.list options.save shards closing
       → written ≡ closing
       → Appends out new written → (printed : List ℕ) × RunsAndLists options loaded script printed × Appends old new printed
-  listing_printed script old out new batches end shards closing written ran appends hands closes same more = (
+  listing_printed old out new batches end shards closing written ran appends hands closes same more = (
     printed_of batches ++ closing,
-    runs_and_lists script batches end shards closing ran hands closes,
+    runs_and_lists batches end shards closing ran hands closes,
     Appends-trans old out new (printed_of batches) closing appends (subst (λ (w : List ℕ). Appends out new w) same more),
   )
 
-  pub listing_broken : (script : List ℕ) (fault : Fault) (old out new : Option (List ℕ)) (batches : List BatchRun) (end : Register) (shards : List Log)
+  pub listing_broken : (fault : Fault) (old out new : Option (List ℕ)) (batches : List BatchRun) (end : Register) (shards : List Log)
       (closing written : List ℕ)
       → RunsScript script start batches end → Appends old out (printed_of batches) → HandsOver end shards → Closes options.list options.save shards closing
       → written ≡ closing
       → fault ≡ Output → WritesFront out written new → (printed : List ℕ) × StopsRunning options loaded script fault printed × Appends old new printed
-  listing_broken script fault old out new batches end shards closing written ran appends hands closes same output front = (
+  listing_broken fault old out new batches end shards closing written ran appends hands closes same output front = (
     printed_of batches ++ front.written,
     inr (inr (inr (record {
       output = output;
       all = printed_of batches ++ closing;
-      ran = runs_and_lists script batches end shards closing ran hands closes;
+      ran = runs_and_lists batches end shards closing ran hands closes;
       left = front.left;
       front = ap (λ (l : List ℕ). printed_of batches ++ l) (sym same ∙ front.whole) ∙ sym (append_assoc (printed_of batches) front.written front.left);
     }))),

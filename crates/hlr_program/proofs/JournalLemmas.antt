@@ -25,7 +25,8 @@ use Rattle.wholenode.proofs.Places.{set_elsewhere, set_or_not, set_there}
 use Rattle.wholenode.proofs.RunLemmas.{is_run}
 use Rattle.hlr_program.specs.Journals.{Continues, IsAtEnd, RunsAlone}
 use Rattle.hlr_program.specs.Parts.{AreCut, KeepsAs, MakesRoom}
-use Rattle.hlr_program.proofs.RunLemmas.{no_run, run_join, runs_join}
+use Rattle.workers.proofs.Runs.{run_join}
+use Rattle.hlr_program.proofs.RunLemmas.{no_run, runs_join}
 
 -- ---- one entry more
 

@@ -12,6 +12,7 @@ pub mod PassedLemmas
 pub mod ScriptLemmas
 pub mod ListLemmas
 pub mod LotLemmas
+pub mod SharingLemmas
 pub mod EndLemmas
 pub mod HalfLemmas
 pub mod SoundLemmas

@@ -29,11 +29,12 @@ use Rattle.shardlog.specs.Log.{Keeps, Log}
 use Rattle.shardlog.proofs.LogLemmas.{joined_keep, leaves_unnamed}
 use Rattle.wholenode.specs.Handling.{IsRun}
 use Rattle.workers.specs.Shared.{HandsOut, event_and_frames}
+use Rattle.workers.proofs.Runs.{run_join}
 use Rattle.wholenode.specs.Nodes.{whole, whole_base}
 use Rattle.hlr_input.specs.Script.{Line, Frame as Sent, Clock as Ticks, Expire as Expires, Batch, Codes, Withdraw}
 use Rattle.hlr_program.specs.Operator.{IsKept, IsKeptInSomeOrder, IsKeptWith, LeadUnnamed, OperatorGets}
 use Rattle.hlr_program.specs.Promise.{EndsWith}
-use Rattle.hlr_program.proofs.RunLemmas.{run_join}
+use Rattle.hlr_program.specs.Sharing.{workers_for}
 use Rattle.hlr_program.specs.Runs.{AreBatches, AreEvents, BatchRun, LinesEvents, events_in, frames_of, sent_in}
 use Rattle.hlr_program.specs.Printed.{noted_in}
 
@@ -324,5 +325,5 @@ kept_with (suc more) begin batches shards sound of ends = handed_out_kept begin 
 
 pub operator_gets : OperatorGets
 operator_gets options file script printed served =
-    kept_with options.workers _ served.ran.batches served.ran.shards served.ran.begins_sound
+    kept_with (workers_for options.workers script) _ served.ran.batches served.ran.shards served.ran.begins_sound
     (batches_of_shards [] _ served.ran.batches served.ran.are_batches) served.ran.ends

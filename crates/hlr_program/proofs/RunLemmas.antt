@@ -1,14 +1,11 @@
 -- Runs one after another.
-use Rattle.std.proofs.Common.{◌≡◌, List, [], ◌∷◌, ◌++◌, map, length, refl, sym, ap, subst, ◌∙◌, append_assoc}
+use Rattle.std.proofs.Common.{◌≡◌, List, [], ◌∷◌, ◌++◌, map, length, refl, sym, ap, ◌∙◌, append_assoc}
 use Rattle.std.specs.List.{flat_map}
 use Rattle.std.proofs.lemmas.List.{length-map, map-append}
 use Rattle.machine.specs.State.{State}
-use Rattle.frames.specs.Octets.{RawEvent, RawEntry, RawOut, RunOctets}
+use Rattle.frames.specs.Octets.{RawEvent, RawOut}
 use Rattle.wholenode.specs.Handling.{IsRun}
-
-pub run_join : (S T U : State) (xs ys : List RawEntry) → RunOctets S xs T → RunOctets T ys U → RunOctets S (xs ++ ys) U
-run_join S T U [] ys h k = subst (λ (B : State). RunOctets B ys U) h k
-run_join S T U (x ∷ xs) ys (M, first, rest) k = (M, first, run_join M T U xs ys rest k)
+use Rattle.workers.proofs.Runs.{run_join}
 
 pub runs_join : (S T U : State) (es bs : List RawEvent) (x y : List (List RawOut)) → IsRun S es x T → IsRun T bs y U → IsRun S (es ++ bs) (x ++ y) U
 runs_join S T U es bs x y h k = record {

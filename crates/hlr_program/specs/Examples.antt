@@ -1,5 +1,6 @@
 -- Worked examples of batches, of what is printed and of how a run ends.
-use Rattle.std.specs.Prelude.{◌≡◌, ℕ, ◌-◌, true, List, [], ◌∷◌, ◌++◌, map as each, codes as text}
+use Rattle.std.specs.Prelude.{◌≡◌, ℕ, ◌-◌, true, List, [], ◌∷◌, ◌++◌, map as each, replicate, codes as text}
+use Rattle.std.specs.List.{flat_map}
 use Rattle.shardlog.specs.Log.{Log}
 use Rattle.hlr_program.specs.declared.fault.Fault.{Fault}
 use Rattle.hlr_program.specs.declared.fault.Fault.TheVariants.{CommandLine, UnreadableRecords, BadRecord, TwiceRecord, UnreadableScript, BadLine, NoRoom, Memory, Unaccounted, Output}
@@ -7,12 +8,22 @@ use Rattle.hlr_program.specs.Batches.{batches_of}
 use Rattle.hlr_program.specs.Closing.{Closes, Lists, SavesLines, behind_v}
 use Rattle.hlr_program.specs.Printed.{sent_line}
 use Rattle.hlr_program.specs.Promise.{lines_before}
+use Rattle.hlr_program.specs.Sharing.{workers_for}
 use Rattle.hlr_program.specs.Statuses.{message_of, status_of}
 
 pub record ScriptBatches : Type 0 where
   pub three : batches_of (text "E" ∷ text "W" ∷ text "W" ∷ text "C 5" ∷ []) ≡ (text "E" ∷ []) ∷ [] ∷ (text "C 5" ∷ []) ∷ []
   pub last_w : batches_of (text "E" ∷ text "W" ∷ []) ≡ (text "E" ∷ []) ∷ []
   pub before_third : lines_before ((text "E" ∷ []) ∷ [] ∷ []) ≡ 3
+
+-- As many lines as stand before the `W` in a batch, in two batches.
+abbrev twice : (count : ℕ) → List ℕ
+twice count = let batch = flat_map (λ line. line ++ 10 ∷ []) (replicate count (text "E") ++ text "W" ∷ []) in batch ++ batch
+
+pub record ScriptWorkers : Type 0 where
+  pub long_batch : workers_for 4 (twice 256) ≡ 4
+  pub short_batches : workers_for 4 (twice 255) ≡ 0
+  pub not_asked_for : workers_for 0 (twice 256) ≡ 0
 
 pub record PrintedLines : Type 0 where
   pub frame : sent_line (each (λ character. character - 48) (text "447700900011")) (0x62 ∷ 0x0A ∷ []) ≡ text "S 447700900011 620A" ++ 10 ∷ []

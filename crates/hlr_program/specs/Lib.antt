@@ -10,6 +10,7 @@ pub mod Shards
 pub mod Journals
 pub mod Stopping
 pub mod Registers
+pub mod Sharing
 pub mod Closing
 pub mod Gathering
 pub mod Promise

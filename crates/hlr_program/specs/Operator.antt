@@ -17,6 +17,7 @@ use Rattle.wholenode.specs.Nodes.{whole}
 use Rattle.hlr_input.specs.declared.options.Options.{Options}
 use Rattle.hlr_program.specs.Promise.{Serves}
 use Rattle.hlr_program.specs.Runs.{events_in, opening_of, sent_in}
+use Rattle.hlr_program.specs.Sharing.{workers_for}
 
 -- The entries lead from one state to the other, and each leaves the open dialogues that its event does not name unchanged.
 abbrev pub LeadUnnamed : State → List RawEntry → State → Type 0
@@ -56,4 +57,4 @@ IsKeptWith (suc more) begin events sent end = IsKeptInSomeOrder begin events sen
 abbrev pub OperatorGets : Type 0
 OperatorGets =
     (options : Options) (file script printed : List ℕ) (served : Serves options file script printed)
-    → IsKeptWith options.workers (opening_of served.loaded) (events_in served.ran.batches) (sent_in served.ran.batches) (whole served.ran.shards)
+    → IsKeptWith (workers_for options.workers script) (opening_of served.loaded) (events_in served.ran.batches) (sent_in served.ran.batches) (whole served.ran.shards)

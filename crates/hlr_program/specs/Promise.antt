@@ -24,6 +24,7 @@ use Rattle.hlr_program.specs.Journals.{IsAtEnd}
 use Rattle.hlr_program.specs.Printed.{WritesFront}
 use Rattle.hlr_program.specs.Registers.{RunsTo}
 use Rattle.hlr_program.specs.Runs.{AreBatches, AreOneRun, AreRunFrom, BatchRun, IsLoadedFrom, events_in, noted_behind, opening_of, printed_of, sent_in}
+use Rattle.hlr_program.specs.Sharing.{workers_for}
 use Rattle.hlr_program.specs.Statuses.{message_of, status_of}
 use Rattle.hlr_program.specs.Stopping.{BatchStops, HandingOutStops}
 
@@ -62,7 +63,7 @@ pub record RunsAndLists (options : Options) (loaded : Subscribers) (script print
   pub are_batches : AreBatches [] (batches_of (lines script)) batches
   pub begins_sound : Sound (opening_of loaded)
   pub shards : List Log
-  pub ends : EndsWith options.workers (opening_of loaded) batches shards
+  pub ends : EndsWith (workers_for options.workers script) (opening_of loaded) batches shards
   pub closing : List ℕ
   pub closes : Closes options.list options.save shards closing
   pub printed_is : printed ≡ printed_of batches ++ closing
@@ -181,8 +182,8 @@ StopsBatches script begin fault printed = StopsInBatch script begin fault printe
 abbrev pub StopsRunning : Options → Subscribers → (script : List ℕ) → Fault → (printed : List ℕ) → Type 0
 StopsRunning options loaded script fault printed =
     StopsAtOpening fault printed
-    ⊎ StopsBatches script (known_with options.workers (opening_of loaded)) fault printed
-    ⊎ StopsAtListing script (known_with options.workers (opening_of loaded)) fault printed
+    ⊎ StopsBatches script (known_with (workers_for options.workers script) (opening_of loaded)) fault printed
+    ⊎ StopsAtListing script (known_with (workers_for options.workers script) (opening_of loaded)) fault printed
     ⊎ BreaksOffListing options loaded script fault printed
 
 -- ---- a script that was checked, on what was loaded

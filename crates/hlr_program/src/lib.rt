@@ -17,8 +17,9 @@ mod octet_digits;
 mod printed;
 mod register;
 mod serve;
+mod sharing;
 
-pub use examples::{worked_batches, worked_endings, worked_prints};
+pub use examples::{worked_batches, worked_endings, worked_prints, worked_workers};
 pub use fault::Fault;
 pub use hlr_input::{Options, WordsFault, read_words};
 pub use laws::operator_gets;

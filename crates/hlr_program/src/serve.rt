@@ -17,6 +17,7 @@ use crate::fault::Fault;
 use crate::listing::closing_lines;
 use crate::printed::{print, tell};
 use crate::register::Register;
+use crate::sharing::workers_for;
 use hlr_input::{InputFault, Options, read_all};
 use hlr_types::Tid;
 use records::{Loaded, read_records};
@@ -33,11 +34,12 @@ const MAX_WORKERS: u8 = 16;
 /// Reads the records and the script, runs the script and prints what is sent, batch by batch. A fault is one line on `err`.
 /// Returns the program's exit status: 0 if all was run and printed.
 ///
-/// With 1 to 16 workers that many threads, the caller's among them, check the script, no more than one for 32,768 of its octets; handle each
-/// part of a batch, no more than one for 32 of its events; and at the end compare the journals with jobs and receipts, no more than one
-/// for 1,024 events. Those that are started for one of these are joined after it.
+/// With 1 to 16 workers that many threads, the caller's among them, check the script, no more than one for 32,768 of its octets. If some
+/// batch has 256 lines or more, they share the register: they handle each part of a batch, no more than one for 128 of its events; and at the end
+/// they compare the journals with jobs and receipts, no more than one for 1,024 events. Those that are started for one of these are joined after
+/// it. If no batch is so long, one thread handles all of them, as without workers.
 ///
-/// Limitation: with workers the contract does not say in which order the events of a batch are handled, what was handled before a
+/// Limitation: if workers share the register, the contract does not say in which order the events of a batch are handled, what was handled before a
 /// fault, or that a run ends. Once a script was run to its end, the memory of shards, journals, jobs and receipts is not freed: a run is the
 /// last thing that a process does.
 pub fn serve_script<R: Threads + Wait + Sync, A: Read, B: Read, W: Write, E: Write>(
@@ -182,7 +184,8 @@ fn run_and_list<R: Threads + Wait + Sync, W: Write>(
     ensures stops { IfErr result (HasStopped options.now loaded script.now.text.items
         (W.contents out.old) (W.contents out.new)) }
 {
-    let mut register = Register::new(alloc, loaded, options.workers, options.list)?;
+    let workers = workers_for(options.workers, script);
+    let mut register = Register::new(alloc, loaded, workers, options.list)?;
     run(rt, alloc, &mut register, script, out)?;
     let shards = register.into_shards(rt)?;
     let text = closing_lines(alloc, options, &shards)?;

@@ -1,15 +1,15 @@
 -- How the shards of a register go on while a batch is handled.
-use Rattle.std.proofs.Common.{◌≡◌, ℕ, zero, suc, ◌+◌, ◌<◌, ◌++◌, ◌⊎◌, List, [], ◌∷◌, get_or, length, map, set, drop, inl, inr, Result, Ok, Err, refl, sym, ap, subst, ◌∙◌, add-one, arith, Some}
+use Rattle.std.proofs.Common.{◌≡◌, ℕ, zero, suc, ◌+◌, ◌<◌, ◌++◌, ◌⊎◌, List, [], ◌∷◌, get_or, length, map, set, drop, inl, inr, Result, Ok, Err, refl, sym, ap, subst, ◌∙◌, add-one, append_assoc, arith, Some}
 use Rattle.std.specs.Prelude.{All, IfOk, IsOk, IsOkAnd, OnErr, OnOk, slice_get}
 use Rattle.std.specs.List.Sorted.{IsPermutation, IsStrictlyIncreasing}
-use Rattle.std.proofs.lemmas.List.{length-map, length-set}
+use Rattle.std.proofs.lemmas.List.{append-nil, length-map, length-set}
 use Rattle.std.proofs.lemmas.List.Sorted.{IsPermutation-trans}
 use Rattle.std.proofs.lemmas.Option.{same_Some, slice_get-get_or, slice_get_within}
 use Rattle.frames.specs.Account.{Job, Receipt, Reconciles}
 use Rattle.frames.specs.Octets.{RawEntry, RawEvent}
 use Rattle.records.specs.Loaded.{Subscribers}
 use Rattle.records.specs.Maps.{DirectoryMap}
-use Rattle.hlrcore.specs.Shards.{IsSameShard, ShardState}
+use Rattle.hlrcore.specs.Shards.{IsSameShard, ShardState, state_of}
 use Rattle.shardlog.specs.declared.entry.Handled.{Handled}
 use Rattle.shardlog.specs.declared.keep.Keep.{Keep}
 use Rattle.shardlog.specs.declared.keep.Keep.TheVariants.{Entries, Nothing}
@@ -24,7 +24,8 @@ use Rattle.receipts.specs.Journals.{journal_list}
 use Rattle.receipts.specs.Numbers.{AreApart}
 use Rattle.receipts.proofs.Rising.{apart_moved}
 use Rattle.workers.specs.Shared.{AreSettled}
-use Rattle.workers.specs.Going.{HasGoneOn, HaveGoneOn, KeepEntries, StandsIn, bases_of}
+use Rattle.workers.specs.Going.{Follow, HasGoneOn, HaveGoneOn, KeepEntries, StandsIn, bases_of}
+use Rattle.workers.proofs.Runs.{run_join}
 
 -- ---- one shard
 
@@ -32,7 +33,13 @@ still_same : (s : ShardState) → IsSameShard s s
 still_same s = record { shard = refl; directory = refl; hlr = refl }
 
 still_one : (l : Log) → HasGoneOn l l
-still_one l = record { keep_is = refl; same = still_same l.state; base_is = λ _. refl }
+still_one l = record {
+  keep_is = refl;
+  same = still_same l.state;
+  entries = [];
+  run = refl;
+  kept = λ _. record { base_is = refl; entries_are = sym (append-nil l.entries) };
+}
 
 pub same_one : (l m : Log) → m ≡ l → HasGoneOn l m
 same_one l m is = subst (HasGoneOn l) (sym is) (still_one l)
@@ -45,20 +52,37 @@ on_from k l m first next = record {
     directory = next.same.directory ∙ first.same.directory;
     hlr = next.same.hlr ∙ first.same.hlr;
   };
-  base_is = λ entries. next.base_is (first.keep_is ∙ entries) ∙ first.base_is entries;
+  entries = first.entries ++ next.entries;
+  run = run_join (state_of k.state) (state_of l.state) (state_of m.state) first.entries next.entries first.run next.run;
+  kept = λ entries.
+      let a = first.kept entries in let b = next.kept (first.keep_is ∙ entries) in
+      record {
+        base_is = b.base_is ∙ a.base_is;
+        entries_are = b.entries_are ∙ ap (λ (es : List RawEntry). es ++ next.entries) a.entries_are ∙ append_assoc k.entries first.entries next.entries;
+      };
 }
 
 not_entries : Nothing ≡ Entries → ⊥
 not_entries is = absurd (cc is)
 
-recorded_on : (keep : Keep) (l m : Log) (entry : RawEntry) → l.keep ≡ keep → m ≡ recorded keep l entry m.state → IsSameShard l.state m.state → HasGoneOn l m
-recorded_on Entries l m entry keeps is same =
-    record { keep_is = ap (λ (k : Log). k.keep) is ∙ sym keeps; same = same; base_is = λ _. ap (λ (k : Log). k.base) is }
-recorded_on Nothing l m entry keeps is same =
-    record { keep_is = ap (λ (k : Log). k.keep) is ∙ sym keeps; same = same; base_is = λ entries. absurd (not_entries (sym keeps ∙ entries)) }
+recorded_follow : (keep : Keep) (l m : Log) (entry : RawEntry) → l.keep ≡ keep → m ≡ recorded keep l entry m.state → l.keep ≡ Entries
+    → Follow l (entry ∷ []) m
+recorded_follow Entries l m entry keeps is entries =
+    record { base_is = ap (λ (k : Log). k.base) is; entries_are = ap (λ (k : Log). k.entries) is }
+recorded_follow Nothing l m entry keeps is entries = absurd (not_entries (sym keeps ∙ entries))
+
+recorded_keep : (keep : Keep) (l : Log) (entry : RawEntry) (state : ShardState) → (recorded keep l entry state).keep ≡ keep
+recorded_keep Entries l entry state = refl
+recorded_keep Nothing l entry state = refl
 
 pub handled_on : (l m : Log) (raw : RawEvent) (handled : Handled) → Handles l raw handled m → HasGoneOn l m
-handled_on l m raw handled is = recorded_on l.keep l m is.entry refl is.new_is is.same
+handled_on l m raw handled is = record {
+  keep_is = ap (λ (k : Log). k.keep) is.new_is ∙ recorded_keep l.keep l is.entry m.state;
+  same = is.same;
+  entries = is.entry ∷ [];
+  run = (state_of m.state, is.step, refl);
+  kept = recorded_follow l.keep l m is.entry refl is.new_is;
+}
 
 pub answered_on : {F : Type 0} (l m : Log) (raw : RawEvent) (answer : Result Handled F) → IfOk answer (λ handled. Handles l raw handled m)
     → OnErr answer (m ≡ l)
@@ -151,9 +175,6 @@ in_place_more began shards more l are here stands is = subst (AreInPlace began) 
   | inr h ↦ are n m h
 ])
 
-pub none_in_place : (began : NodeState) (shards : List Log) → shards ≡ [] → AreInPlace began shards
-none_in_place began shards is = subst (AreInPlace began) (sym is) (λ n l there. absurd (cc there))
-
 pub all_in_place : (began : NodeState) (shards : List Log) → AreShards began.directory began.shards → length shards ≡ 16 → AreInPlace began shards
     → AreShards began.directory shards
 all_in_place began shards are sixteen placed = record {
@@ -204,7 +225,7 @@ pub same_bases : (before now : List Log) → HaveGoneOn before now → KeepEntri
 same_bases before now on keep =
     same_list (bases_of now) (bases_of before) (length-map now log_base ∙ on.count ∙ sym (length-map before log_base)) (λ n x y is was.
     let m = base_there now n x is in let l = base_there before n y was in
-    sym m.2 ∙ (on.each n l.0 m.0 l.1 m.1).base_is (keep n l.0 l.1) ∙ l.2)
+    sym m.2 ∙ ((on.each n l.0 m.0 l.1 m.1).kept (keep n l.0 l.1)).base_is ∙ l.2)
 
 pub keep_on : (before now : List Log) → HaveGoneOn before now → KeepEntries before → KeepEntries now
 keep_on before now on keep n m there =

@@ -1,3 +1,4 @@
+pub mod Runs
 pub mod Moves
 pub mod Batches
 pub mod Serving

@@ -8,7 +8,7 @@ use Rattle.std.proofs.lemmas.List.Sorted.{IsPermutation-append, IsPermutation-ma
 use Rattle.machine.specs.Keys.{put_at}
 use Rattle.machine.specs.State.{State}
 use Rattle.frames.specs.Account.{Account, Job, Receipt, Reconciles, numbers}
-use Rattle.frames.specs.Octets.{RawClock, RawEntry, RawEvent, RawOut, RunOctets}
+use Rattle.frames.specs.Octets.{RawClock, RawEntry, RawEvent, RawOut}
 use Rattle.frames.specs.OctetJournals.{MergesOctets}
 use Rattle.frames_laws.specs.MergedJobs.{AreEntriesOf, AreJobs}
 use Rattle.frames_laws.proofs.Amongs.{Among, all_among, among_map, in_filter}
@@ -19,6 +19,7 @@ use Rattle.wholenode.specs.Nodes.{journals, whole, whole_base}
 use Rattle.receipts.specs.Journals.{journal_list}
 use Rattle.workers.specs.Shared.{IsRunInSomeOrder, event_and_frames, events_of_jobs, jobs_of_receipts, numbers_of_jobs, sent_at, sent_for}
 use Rattle.workers.proofs.MergedRuns.{merges_are_runs_of_jobs}
+use Rattle.workers.proofs.Runs.{run_join}
 
 -- ---- one run after the other
 
@@ -27,10 +28,6 @@ zip-append [] us [] vs same = refl
 zip-append [] us (y ∷ ys) vs same = absurd (omega arith)
 zip-append (x ∷ xs) us [] vs same = absurd (omega arith)
 zip-append (x ∷ xs) us (y ∷ ys) vs same = ap (λ l. (x, y) ∷ l) (zip-append xs us ys vs (omega arith))
-
-run_join : (S T U : State) (xs ys : List RawEntry) → RunOctets S xs T → RunOctets T ys U → RunOctets S (xs ++ ys) U
-run_join S T U [] ys h k = subst (λ (B : State). RunOctets B ys U) h k
-run_join S T U (x ∷ xs) ys (M, first, rest) k = (M, first, run_join M T U xs ys rest k)
 
 pub joined : (S M T : State) (es us : List RawEvent) (xs ys : List (List RawOut)) → IsRunInSomeOrder S es xs M → IsRunInSomeOrder M us ys T
     → IsRunInSomeOrder S (es ++ us) (xs ++ ys) T

@@ -195,18 +195,18 @@ goes_on_after a b c events sent first next = (
 
 -- ---- as the code has them
 
-pub cut_goes : (before : SharedState) (office now : List ShardState) (jobs no_jobs : List Job) (receipts no_receipts : List Receipt) (shards cut : List Log)
-    → before ≡ shared_state office jobs receipts → AreSettled office jobs receipts shards → cut ≡ map cut_log shards → All LogKeeps cut → now ≡ bases_of cut
+pub cut_goes : (before : SharedState) (bases_then now : List ShardState) (jobs no_jobs : List Job) (receipts no_receipts : List Receipt) (shards cut : List Log)
+    → before ≡ shared_state bases_then jobs receipts → AreSettled bases_then jobs receipts shards → cut ≡ map cut_log shards → All LogKeeps cut → now ≡ bases_of cut
     → no_jobs ≡ [] → no_receipts ≡ [] → GoesOn before [] [] (shared_state now no_jobs no_receipts)
-cut_goes before office now jobs no_jobs receipts no_receipts shards cut was settled is keeps bases none nothing =
+cut_goes before bases_then now jobs no_jobs receipts no_receipts shards cut was settled is keeps bases none nothing =
     cut_stands before (shared_state now no_jobs no_receipts) shards cut
     (subst (λ (s : SharedState). AreSettled s.bases s.jobs s.receipts shards) (sym was) settled) is keeps
     (λ i. shared_state (bases i) (none i) (nothing i))
 
-pub closes : (s : SharedState) (office : List ShardState) (jobs : List Job) (receipts : List Receipt) (shards : List Log)
-    → s ≡ shared_state office jobs receipts → AreSettled office jobs receipts shards
+pub closes : (s : SharedState) (bases_then : List ShardState) (jobs : List Job) (receipts : List Receipt) (shards : List Log)
+    → s ≡ shared_state bases_then jobs receipts → AreSettled bases_then jobs receipts shards
     → (begin : State) (events : List RawEvent) (sent : List (List RawOut)) → StandsBehind begin events sent s → HandsOut begin events sent shards
-closes s office jobs receipts shards was settled = hands_out s shards
+closes s bases_then jobs receipts shards was settled = hands_out s shards
     (subst (λ (t : SharedState). AreSettled t.bases t.jobs t.receipts shards) (sym was) settled)
 
 -- What a part does, once there is room.

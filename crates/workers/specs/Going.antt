@@ -1,15 +1,24 @@
 -- How the shards of a register go on while a batch is handled.
-use Rattle.std.specs.Prelude.{◌≡◌, ℕ, List, length, map, Some, slice_get}
-use Rattle.hlrcore.specs.Shards.{IsSameShard, ShardState}
+use Rattle.std.specs.Prelude.{◌≡◌, ℕ, List, ◌++◌, length, map, Some, slice_get}
+use Rattle.frames.specs.Octets.{RawEntry, RunOctets}
+use Rattle.hlrcore.specs.Shards.{IsSameShard, ShardState, state_of}
 use Rattle.shardlog.specs.declared.keep.Keep.TheVariants.{Entries}
 use Rattle.shardlog.specs.Log.{Log, LogKeeps}
 use Rattle.wholenode.specs.Nodes.{NodeState}
 
--- A shard has gone on, by events or none: it is the same shard, and where it keeps entries its journal begins where it did.
+-- These entries follow those of the journal, which begins where it did.
+pub record Follow (before : Log) (entries : List RawEntry) (after : Log) : Type 0 where
+  pub base_is : after.base ≡ before.base
+  pub entries_are : after.entries ≡ before.entries ++ entries
+
+-- A shard has gone on, by events or none: it is the same shard, a run of the machine with these entries leads from its state to the later one,
+-- and where it keeps entries they are in its journal.
 pub record HasGoneOn (before after : Log) : Type 0 where
   pub keep_is : after.keep ≡ before.keep
   pub same : IsSameShard before.state after.state
-  pub base_is : before.keep ≡ Entries → after.base ≡ before.base
+  pub entries : List RawEntry
+  pub run : RunOctets (state_of before.state) entries (state_of after.state)
+  pub kept : before.keep ≡ Entries → Follow before entries after
 
 -- So has each of these shards, place by place.
 pub record HaveGoneOn (before after : List Log) : Type 0 where

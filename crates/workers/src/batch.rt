@@ -236,7 +236,7 @@ pub fn run_batch<R: Threads + Wait + Sync, G: Gate + Sync>(
     requires workers { (1 ≤ workers) × (workers ≤ 16) }
     requires distinct { AreApart (map (λ j. j.number) jobs.now) }
     ensures directory { IfOk result (λ done. done.node.directory ≡ node.directory) }
-    // Each shard is as before, or has gone on: if it keeps entries, its journal begins where it did.
+    // Each shard is as before, or has gone on by a run of the machine; if it keeps entries, they follow those that it had.
     ensures gone_on { IfOk result (λ done. HaveGoneOn node.shards done.node.shards) }
     ensures keeps { IfOk result (λ done. NodeKeeps done.node) }
     ensures one_each { IfOk result (λ done. IfOk done.receipts (λ rs. IsPermutation

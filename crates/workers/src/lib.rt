@@ -26,7 +26,7 @@ pub use gate::{Gate, OpenGate};
 pub use laws::merges_are_runs_of_jobs;
 pub use locked::Naming;
 pub use locks::Locks;
-pub use lot::Lot;
+pub use lot::{JOBS_OF_A_START, Lot};
 pub use receipts::{
     Job, JobNumber, Placed, Receipt, Refusal, Unaccounted, numbers_rise, reconcile,
 };

@@ -1,6 +1,7 @@
 //! Jobs that are handed over together.
 
 ghost use Rattle.std.specs.Prelude.{◌≡◌, ◌+◌, ◌*◌, ◌/◌, ◌<◌, ◌≤◌, max, min};
+ghost use Rattle.workers.specs.declared.lot.TheConstants.{JOBS_OF_A_START};
 ghost use Rattle.workers.specs.Lots.{lot_size};
 
 use receipts::Job;
@@ -11,8 +12,8 @@ pub(crate) const MAX_LOT: usize = 64;
 /// How many lots each worker has at least, if there are jobs enough: so none waits long for another that has the last one.
 const LOTS_EACH: usize = 16;
 
-/// How many jobs each worker has at least, if there is more than one: they take as long as to start a thread.
-const JOBS_OF_A_START: usize = 32;
+/// How many jobs each worker has at least, if there is more than one: they take as long as to start a thread, and to wait for it at the end.
+pub const JOBS_OF_A_START: usize = 128;
 
 /// Which jobs of a batch one worker handles, one after another: `count` jobs, the first of them at the place `from`. The jobs stay
 /// in the batch, and nothing of them is copied.
@@ -47,7 +48,7 @@ pub(crate) fn crew_size(jobs: usize, workers: usize) -> usize
 /// How many of these workers are worth their threads, but at least one.
 pub(crate) fn paying_crew(jobs: usize, workers: usize) -> usize
     requires { 1 ≤ workers }
-    ensures size { result ≡ max (min workers (jobs / 32)) 1 }
+    ensures size { result ≡ max (min workers (jobs / JOBS_OF_A_START)) 1 }
     ensures few { (1 ≤ result) × (result ≤ workers) }
 {
     crew_size(jobs / JOBS_OF_A_START, workers)

@@ -82,7 +82,7 @@ impl SharedRegister {
         })
     }
 
-    /// Has 1 to 16 workers handle a part of a batch, whose events are taken out of this list: at most one for each 32 events, since it takes
+    /// Has 1 to 16 workers handle a part of a batch, whose events are taken out of this list: at most one for each 128 events, since it takes
     /// as long to start a thread, and at least one. `last_receipts` has what it sends.
     ///
     /// If by the receipts some journal has no room for that many more entries, all journals are cut first, once jobs and receipts

@@ -1,4 +1,4 @@
-use Rattle.std.proofs.Common.{◌≡◌, ◌∙◌, List, [], ap, length, map, rules, subst, sym}
+use Rattle.std.proofs.Common.{◌≡◌, ◌∙◌, List, [], ap, length, map, rules, sym}
 use Rattle.std.proofs.lemmas.List.{length-map}
 use Rattle.frames.specs.Octets.{RawEvent}
 use Rattle.hlrcore.specs.Events.{raw_event}
