@@ -120,20 +120,30 @@ fn a_hundred_batches(rt: HostRuntime) -> Result<(), Fail> {
     Ok(())
 }
 
+/// A register of which each shard has had so many clock values, in one batch.
+fn ticked<R: Threads + Wait + Sync>(
+    rt: &R,
+    alloc: Global,
+    workers: usize,
+    values: u64,
+) -> Result<Register, Fail> {
+    let mut register = Register::new(alloc)?;
+    let mut events = Vec::new(alloc);
+    for now in 0..values {
+        for shard in 0..16 {
+            events.push(clock(shard, now)?)?;
+        }
+    }
+    register.take(rt, &Open, workers, events)?;
+    Ok(register)
+}
+
 /// More than 65,536 jobs. The thread that sends them takes none before it has sent the last, so the channel has to hold all. Each
 /// job has its receipt, with one worker, who has no channel, too.
 #[test]
 fn all_lots_are_held(rt: HostRuntime) -> Result<(), Fail> {
-    let alloc = rt.alloc();
     for workers in [1, 2] {
-        let mut register = Register::new(alloc)?;
-        let mut events = Vec::new(alloc);
-        for now in 0..4_200 {
-            for shard in 0..16 {
-                events.push(clock(shard, now)?)?;
-            }
-        }
-        register.take(&rt, &Open, workers, events)?;
+        let register = ticked(&rt, rt.alloc(), workers, 4_200)?;
         assert_eq!(rt;
             (register.receipts.len(), register.account(&rt)),
             (67_200, Ok(()))
@@ -143,23 +153,15 @@ fn all_lots_are_held(rt: HostRuntime) -> Result<(), Fail> {
 }
 
 /// Jobs and receipts that several threads compare: all are found to account for the journals, and one job alone not to, in whichever half
-/// it is.
+/// it is. (To name that one takes time as the product of jobs and receipts.)
 #[test]
 fn halves_of_jobs(rt: HostRuntime) -> Result<(), Fail> {
-    let alloc = rt.alloc();
-    for wrong in [0, 2_047, 2_048, 4_095] {
-        let mut register = Register::new(alloc)?;
-        let mut events = Vec::new(alloc);
-        for now in 0..256 {
-            for shard in 0..16 {
-                events.push(clock(shard, now)?)?;
-            }
-        }
-        register.take(&rt, &Open, 4, events)?;
-        let (shards, mut jobs, receipts) = register.close()?;
-        for threads in [1, 2, 5, 16] {
-            assert_eq!(rt; reconcile(&rt, threads, &shards, &jobs, &receipts), Ok(()));
-        }
+    let (shards, jobs, receipts) = ticked(&rt, rt.alloc(), 4, 256)?.close()?;
+    for threads in [1, 2, 5, 16] {
+        assert_eq!(rt; reconcile(&rt, threads, &shards, &jobs, &receipts), Ok(()));
+    }
+    for wrong in [0, 1_023, 1_024, 2_047] {
+        let (shards, mut jobs, receipts) = ticked(&rt, rt.alloc(), 4, 128)?.close()?;
         let Some(job) = jobs.get_mut(wrong) else {
             return Err(Fail::from("jobs"));
         };
