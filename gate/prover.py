@@ -27,7 +27,7 @@ rt = module_of(os.path.realpath(shutil.which("rt") or sys.exit("there is no rt")
 rtlib = rt.rtlib
 # (its first call sets a signal's handler, which only the main thread may)
 rtlib.guarded()
-held, locks, stamps, summing, plain_stamp = [], [], {}, threading.RLock(), rtlib.Crate.stamp
+held, stamps, summing, plain_stamp = [], {}, threading.RLock(), rtlib.Crate.stamp
 
 
 def stamp(crate):
@@ -47,11 +47,11 @@ def listed():
 
 
 def crates():
-    """The same, and no other `rt` works in them until this run ends, or leaves them."""
+    """The same, and no other `rt` works in them until this run ends."""
     found = listed()
     for it in found.values():
         rtlib.stop_on_links(it.folder)
-    locks.extend(rtlib.lock(found.values()))
+    held.extend(rtlib.lock(found.values()))
     return found
 
 
@@ -131,12 +131,6 @@ def are_kept_by_ci(crates):
     """Whether `rt ci` kept all these libraries, lowest first, which are then used from there."""
     held.append(Kept(crates))
     return held[-1].take_libraries(crates)
-
-
-def leave(below):
-    """Lets another `rt` work in the crates, where of these libraries, which have been made ready, none is used from there."""
-    if not any(it.rlib.startswith(f"{it.folder}/") for it in below):
-        locks.clear()
 
 
 def lacking_libraries(above):
